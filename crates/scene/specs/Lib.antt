@@ -1,0 +1,24 @@
+-- The definitions that the contracts of this crate cite, in the order in which a reader needs them.
+pub mod Parts
+pub mod Rulebook
+pub mod Scenes
+pub mod Commands
+pub mod Drafts
+pub mod Documents
+pub mod Texts
+pub mod Frames
+pub mod Plan
+pub mod Runs
+pub mod Lent
+pub mod Laws
+pub mod DraftViews
+pub mod Engine
+pub mod Turns
+pub mod TextSteps
+pub mod Outcomes
+pub use Rattle.scene_devices.specs.Faults
+pub use Rattle.scene_devices.specs.Reading
+pub use Rattle.scene_devices.specs.Counted
+pub mod ShapeWords
+pub mod Columns
+pub mod Refusals

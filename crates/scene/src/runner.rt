@@ -1,0 +1,158 @@
+//! A whole run, from the bytes of a document to the bytes of the scene that it reaches.
+ghost use Rattle.std.specs.Prelude.{◌≡◌, ◌<◌, ◌≤◌, ◌⊎◌, ℕ, List, length, take, false, Err, IfOk, IfErr, OnOk, IfSome, MatchResult};
+ghost use Rattle.std.specs.Io.KnownBytes.{Appends};
+ghost use Rattle.scene_devices.specs.Faults.{HasFailed};
+ghost use Rattle.scene_devices.specs.Reading.{GivesAtLeast};
+ghost use Rattle.scene.specs.declared.refusals.DocRefusal.{DocRefusal};
+ghost use Rattle.scene.specs.declared.refusals.Report.{Report};
+ghost use Rattle.scene.specs.Documents.{document_of};
+ghost use Rattle.scene.specs.Turns.{shown_of, rules_of, IsReady, RunsOut, nothing_yet};
+ghost use Rattle.scene.specs.Outcomes.{IsRunOf, IsNoDocument, RunsDocument, AreLimits};
+
+use crate::frame::Scene;
+use crate::loaded::{Limits, LoadError};
+use crate::refusals::{DocRefusal, Report};
+use crate::rules::Rules;
+use crate::text::{JsonError, read_json};
+use scene_devices::{CountedRead, CountedWrite, ReadError, read_document, write_text};
+
+/// Why a run gave no report.
+#[derive(Clone, Copy, Debug, PartialEq, Eq)]
+pub enum RunError {
+    /// The document is no scene, and this is the least refusal that stands. Nothing was written.
+    Document(DocRefusal),
+    /// The document asks for what is not built yet: commands, or more than one entry of systems. Nothing was written.
+    NotYet,
+    /// The reader failed, or gave bytes 4,294,967,295 times without its end. Nothing was written.
+    Read,
+    /// The writer failed, or took nothing, after so many bytes of the text had gone out.
+    Write(u64),
+    /// Memory was wanting. Nothing was written.
+    Memory,
+}
+
+/// The report and the text of the run of the document in these bytes.
+///
+/// Errors: `Document`, with the least refusal that stands; `NotYet`, before all of these but `Unreadable`; `Memory`.
+fn play<R: Rules + Drop, H: AllocGlobal>(
+    rt: &H,
+    rules: R,
+    limits: Limits,
+    bytes: &[u8],
+) -> Result<(Report, Vec<u8>), LoadError>
+    ensures { MatchResult result
+        (λ played. IsRunOf (R.book rules) limits.indices bytes.now played.0 played.1.items)
+        (IsNoDocument (R.book rules) limits.indices bytes.now) }
+{
+    let value = match read_json(rt.alloc(), bytes) {
+        Ok(value) => value,
+        Err(JsonError::Unreadable) => return Err(LoadError::Document(DocRefusal::Unreadable)),
+        Err(JsonError::Memory) => return Err(LoadError::Memory),
+    };
+    let mut scene = match Scene::load(rt.alloc(), rules, limits, &value) {
+        Ok(scene) => scene,
+        Err(error) => return Err(error),
+    };
+    run_to_end(rt, &mut scene);
+    let text = match scene.snapshot(rt.alloc()) {
+        Ok(text) => text,
+        Err(_) => return Err(LoadError::Memory),
+    };
+    Ok((scene.into_report(), text))
+}
+
+/// Runs the frames of a scene to their end: all that were asked for, or up to the first that is refused.
+fn run_to_end<R: Rules + Drop, H: AllocGlobal>(rt: &H, scene: &mut Scene<R>)
+    requires ready { IsReady R.part_of R.global_of R.kind_of R.config_of R.book scene.old }
+    requires start { (shown_of R.part_of R.global_of R.kind_of R.config_of R.book scene.old).report ≡ nothing_yet }
+    ensures rules { rules_of scene.new ≡ rules_of scene.old }
+    ensures end { RunsOut (R.book (rules_of scene.old))
+        (shown_of R.part_of R.global_of R.kind_of R.config_of R.book scene.old)
+        (shown_of R.part_of R.global_of R.kind_of R.config_of R.book scene.new) }
+{
+    while scene.left() > 0 {
+        match scene.run_frame(rt) {
+            Ok(()) => {}
+            Err(_) => return,
+        }
+    }
+}
+
+/// Runs the document that a reader gives, and writes the text of the scene that it reaches.
+///
+/// The reader is read to its end. Where its bytes are no scene, the run is refused by name and nothing is written. Else
+/// all frames asked for are run, or those up to the first that is refused; the text of the scene there is written, by as
+/// many writes as that takes, and flushed; and the report tells the accepted frames, the skipped commands and the refusal.
+///
+/// Errors: `Document`, with the least refusal that stands; `NotYet`, before all of these but `Unreadable`, where the
+/// document has commands or more than one entry of systems; `Read`; `Memory`; with each of these nothing was written.
+/// `Write`, with the number of bytes of the text that went out, just its first ones.
+///
+/// The limits are at most the greatest ones, and `generation` is at least 1.
+pub fn run_with<R: Rules + Drop, H: AllocGlobal, I: CountedRead, O: CountedWrite>(
+    rt: &H,
+    rules: R,
+    limits: Limits,
+    reader: &mut I,
+    writer: &mut O,
+) -> Result<Report, RunError>
+    requires { AreLimits limits }
+    ensures { RunsDocument (R.book rules) limits.indices result
+        (record {
+          left_before = I.remaining reader.old;
+          left_after = I.remaining reader.new;
+          failures_before = I.fault_count reader.old;
+          failures_after = I.fault_count reader.new;
+        })
+        (record {
+          held_before = O.contents writer.old;
+          held_after = O.contents writer.new;
+          failures_before = O.fault_count writer.old;
+          failures_after = O.fault_count writer.new;
+          untouched = writer.new ≡ writer.old;
+          flushed = O.flushed writer.new;
+        }) }
+{
+    let bytes = match read_document(rt.alloc(), reader) {
+        Ok(bytes) => bytes,
+        Err(ReadError::Read) => return Err(RunError::Read),
+        Err(ReadError::Memory) => return Err(RunError::Memory),
+    };
+    let (report, text) = match play(rt, rules, limits, bytes.as_slice()) {
+        Ok(played) => played,
+        Err(LoadError::Document(refusal)) => return Err(RunError::Document(refusal)),
+        Err(LoadError::NotYet) => return Err(RunError::NotYet),
+        Err(LoadError::Memory) => return Err(RunError::Memory),
+    };
+    match write_text(writer, text.as_slice()) {
+        Ok(()) => Ok(report),
+        Err(error) => Err(RunError::Write(error.sent)),
+    }
+}
+
+/// Runs the document that a reader gives under the greatest limits, and writes the text of the scene that it reaches, as
+/// `run_with` does.
+pub fn run<R: Rules + Drop, H: AllocGlobal, I: CountedRead, O: CountedWrite>(
+    rt: &H,
+    rules: R,
+    reader: &mut I,
+    writer: &mut O,
+) -> Result<Report, RunError>
+    ensures { RunsDocument (R.book rules) 16777216 result
+        (record {
+          left_before = I.remaining reader.old;
+          left_after = I.remaining reader.new;
+          failures_before = I.fault_count reader.old;
+          failures_after = I.fault_count reader.new;
+        })
+        (record {
+          held_before = O.contents writer.old;
+          held_after = O.contents writer.new;
+          failures_before = O.fault_count writer.old;
+          failures_after = O.fault_count writer.new;
+          untouched = writer.new ≡ writer.old;
+          flushed = O.flushed writer.new;
+        }) }
+{
+    run_with(rt, rules, Limits::FULL, reader, writer)
+}
