@@ -1,0 +1,9 @@
+pub mod WalkLemmas
+pub mod StepLemmas
+pub mod LoadLemmas
+pub mod TakeLemmas
+pub mod CountLemmas
+pub mod IterLemmas
+pub mod LayoutLemmas
+pub mod ExtendLemmas
+pub mod AssignLemmas

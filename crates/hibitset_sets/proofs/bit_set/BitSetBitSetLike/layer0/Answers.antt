@@ -1,0 +1,8 @@
+use Rattle.std.proofs.Common.{ap, ◌∙◌}
+use Rattle.hibitset_sets.specs.BitSet.{has_member}
+use Rattle.hibitset_sets.specs.Words.{word_of}
+use Rattle.hibitset_sets.proofs.LayoutLemmas.{words0}
+use Rattle.hibitset_sets.proofs.bit_set.BitSetBitSetLike.layer0.Goals as goal
+
+pub returns : goal.returns
+returns c = c.word_or_zero.ensures ∙ words0 c.self.invariant c.args.i ∙ ap (λ s. word_of (has_member s) 0 c.args.i) c.self.view_is

@@ -1,0 +1,160 @@
+//! Walks: the members of a set below `MAX_EID`, in ascending order.
+ghost use Rattle.std.specs.Prelude.{◌≡◌, ◌≢◌, ℕ, ◌+◌, ◌-◌, ◌<◌, ◌≤◌, ◌∷◌, false, IsTrue, ◌↔◌, IfSome, IfNone, slice_index};
+ghost use Rattle.std.specs.Iterator.{YieldsFirst, item_count};
+ghost use Rattle.hibitset_sets.specs.Walk.{IsPlaced};
+ghost use Rattle.hibitset_sets.specs.Steps.{TakesLowest};
+
+use crate::bit_set_like::BitSetLike;
+use crate::count::{Counter, Uncounted};
+use crate::util::{BITS, Index, LAYERS};
+
+/// A walk over the members of a set below `MAX_EID`, in ascending order.
+///
+/// Each mask is the rest of a word whose bits are still to be gone through, and each prefix the
+/// number of that word's first bit in its layer.
+#[derive(Drop)]
+pub struct BitIter<T> {
+    pub(crate) set: T,
+    pub(crate) masks: [u64; LAYERS],
+    pub(crate) prefix: [u32; 3],
+    ghost placed: { IsPlaced masks prefix },
+}
+
+/// Takes the lowest bit out of the mask of a layer, and answers its place.
+fn take_lowest(masks: &mut [u64; LAYERS], layer: usize) -> u32
+    requires layer { layer < 4 }
+    requires some { slice_index masks.old layer ≢ 0 }
+    ensures { TakesLowest masks.old masks.new layer result }
+{
+    let word = masks[layer];
+    let place = word.trailing_zeros();
+    masks[layer] = word & !(1 << place);
+    place
+}
+
+impl<T: BitSetLike> BitIter<T> {
+    ghost use Rattle.hibitset_sets.specs.Walk.{walk, is_pending, words_left};
+    ghost use Rattle.hibitset_sets.specs.Iter.{left_of, unread};
+
+    /// A walk that goes on from these masks and prefixes.
+    ///
+    /// From each mask that isn't empty on upwards the prefixes have to be aligned and to agree, and
+    /// the bits left above have to come later. The bits of `masks[0]` come first, as they stand.
+    pub fn new(set: T, masks: [u64; LAYERS], prefix: [u32; 3]) -> Self
+        requires { IsPlaced masks prefix }
+        ensures items { left_of T.members result ≡ walk (is_pending (T.members set) masks prefix) }
+        ensures set { result.set ≡ set }
+        ensures masks { result.masks ≡ masks }
+        ensures prefix { result.prefix ≡ prefix }
+    {
+        BitIter { set, masks, prefix }
+    }
+
+    /// Whether `i` is a member of the set that is walked.
+    pub fn contains(&self, i: Index) -> bool
+        ensures { result ≡ T.members self.now.set i }
+    {
+        self.set.contains(i)
+    }
+
+    /// The number of the first bit of the word at which `layer` stands.
+    fn first_of(&self, layer: usize) -> u32
+        requires { layer < 4 }
+        ensures { result ≡ slice_index self.now.prefix layer }
+    {
+        if layer < 3 { self.prefix[layer] } else { 0 }
+    }
+
+    /// The lowest layer above 0 with a bit left, or `LAYERS` where there is none.
+    fn lowest(&self) -> usize
+        ensures range { 0 < result }
+        ensures last { result ≤ 4 }
+        ensures empty { (k : ℕ) → 0 < k → k < result → slice_index self.now.masks k ≡ 0 }
+        ensures some { result < 4 → slice_index self.now.masks result ≢ 0 }
+    {
+        if self.masks[1] != 0 {
+            1
+        } else if self.masks[2] != 0 {
+            2
+        } else if self.masks[3] != 0 {
+            3
+        } else {
+            LAYERS
+        }
+    }
+
+    /// Takes the lowest index out of layer 0.
+    fn take(&mut self) -> Index
+        requires { slice_index self.old.masks 0 ≢ 0 }
+        ensures set { self.new.set ≡ self.old.set }
+        ensures items { left_of T.members self.old ≡ result ∷ left_of T.members self.new }
+        ensures range { result < 16777216 }
+        ensures gone { is_pending (T.members self.old.set) self.new.masks self.new.prefix result ≡ false }
+        ensures unread { unread T.reads T.words self.new ≡ unread T.reads T.words self.old }
+    {
+        let place = take_lowest(&mut self.masks, 0);
+        self.prefix[0] + place
+    }
+
+    /// Reads the word under the lowest bit of `layer` into the layer below.
+    fn load<C: Counter>(&mut self, layer: usize, count: &mut C)
+        requires above { 0 < layer }
+        requires layer { layer < 4 }
+        requires empty { (k : ℕ) → k < layer → slice_index self.old.masks k ≡ 0 }
+        requires some { slice_index self.old.masks layer ≢ 0 }
+        ensures set { self.new.set ≡ self.old.set }
+        ensures items { left_of T.members self.new ≡ left_of T.members self.old }
+        ensures words { (reads : ℕ → ℕ) → words_left reads (T.words self.old.set) self.old.masks self.old.prefix
+            ≡ reads (layer - 1) + words_left reads (T.words self.old.set) self.new.masks self.new.prefix }
+        ensures counted { C.ticked count.old (T.reads self.old.set (layer - 1)) count.new }
+    {
+        let below = layer - 1;
+        let first = self.first_of(layer);
+        let place = take_lowest(&mut self.masks, layer);
+        let number = first + place;
+        self.masks[below] = self.set.read(count, below, number as usize);
+        self.prefix[below] = number << BITS;
+    }
+
+    /// The next item, telling of each word that is read.
+    pub fn next_counted<C: Counter>(&mut self, count: &mut C) -> Option<Index>
+        ensures item { YieldsFirst (left_of T.members) self.old result self.new }
+        ensures range { IfSome result (λ i. i < 16777216) }
+        ensures gone { IfSome result (λ i. is_pending (T.members self.old.set) self.new.masks self.new.prefix i ≡ false) }
+        ensures set { self.new.set ≡ self.old.set }
+        ensures fewer { unread T.reads T.words self.new ≤ unread T.reads T.words self.old }
+        ensures ended { IfNone result (unread T.reads T.words self.new ≡ 0) }
+        ensures counted { C.ticked count.old (unread T.reads T.words self.old - unread T.reads T.words self.new) count.new }
+    {
+        while self.masks[0] == 0 {
+            let layer = self.lowest();
+            if layer == LAYERS {
+                return None;
+            }
+            self.load(layer, count);
+        }
+        Some(self.take())
+    }
+}
+
+impl<T: BitSetLike + Drop> Iterator for BitIter<T> {
+    type Item = Index;
+
+    ghost use Rattle.std.specs.Iterator.{YieldsFirst, item_count};
+    ghost use Rattle.hibitset_sets.specs.Iter.{left_of};
+
+    ghost next_gives = { YieldsFirst (left_of T.members) };
+
+    ghost remaining = { item_count (left_of T.members) };
+
+    fn next(&mut self) -> Option<Index> {
+        self.next_counted(&mut Uncounted)
+    }
+}
+
+/// Whether a set has no member below `MAX_EID`, by looking for the first.
+pub(crate) fn walks_nothing<T: BitSetLike>(set: &T) -> bool
+    ensures { IsTrue result ↔ ((i : ℕ) → i < 16777216 → T.members set.now i ≡ false) }
+{
+    set.iter().next().is_none()
+}

@@ -1,0 +1,39 @@
+-- The names of the parts, of the global and of the systems, by their bytes.
+use Rattle.std.specs.Prelude.{codes, List, [], ◌∷◌}
+use Rattle.scene.specs.Parts.{Name}
+
+abbrev pub hp_kind : Name
+hp_kind = codes "hp"
+
+abbrev pub owner_kind : Name
+owner_kind = codes "owner"
+
+abbrev pub pos_kind : Name
+pos_kind = codes "pos"
+
+abbrev pub vel_kind : Name
+vel_kind = codes "vel"
+
+abbrev pub g_name : Name
+g_name = codes "g"
+
+abbrev pub drift_kind : Name
+drift_kind = codes "drift"
+
+abbrev pub pull_kind : Name
+pull_kind = codes "pull"
+
+abbrev pub decay_kind : Name
+decay_kind = codes "decay"
+
+-- the kinds of parts, ascending
+abbrev pub part_kinds : List Name
+part_kinds = hp_kind ∷ owner_kind ∷ pos_kind ∷ vel_kind ∷ []
+
+-- the kinds whose parts are numbers
+abbrev pub number_kinds : List Name
+number_kinds = hp_kind ∷ pos_kind ∷ vel_kind ∷ []
+
+-- the text of each refusal
+abbrev pub overflow : Name
+overflow = codes "overflow"
