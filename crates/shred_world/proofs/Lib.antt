@@ -1,0 +1,6 @@
+pub mod BundleLemmas
+pub mod CallerLemmas
+pub mod IdLemmas
+pub mod LeastLemmas
+pub mod MetaLemmas
+pub mod WorldLemmas

@@ -1,0 +1,178 @@
+-- Facts on the slots of a world: what the entries of its hashed map make.
+use Rattle.std.proofs.Common.{◌≡◌, Bool, true, false, cond, ◌&&◌, Option, None, Some, List, [], ◌∷◌, OnSome, IfSome, IfNone, IsSome, MutBor, MatchOption, is_some, unwrap_or, refl, sym, ap, subst, ◌∙◌}
+use Rattle.std.proofs.lemmas.Bool.{false≢true}
+use Rattle.std.specs.Prelude.{◌==◌}
+use Rattle.std.specs.Map.{lookup}
+use Rattle.std.specs.Option.{option_copied_mut, option_flatten, option_and_then}
+use Rattle.shred_world.specs.Worlds.{Slots, value_at, resource_at, HasKind}
+use Rattle.std.specs.Ordering.{eq_by_cmp}
+use Rattle.std.specs.FinMap as map
+use Rattle.std.specs.FinMap.{FinMap, from_entries, get, insert, find, get-from_entries, get-insert, get-remove, same_map}
+use Rattle.shred_world.specs.declared.resource_id.ResourceId.{ResourceId}
+use Rattle.shred_world.specs.ResourceIds.{id_cmp, same_id}
+use Rattle.shred_world.specs.Bundles.{DefaultsTo}
+use Rattle.shred_world.proofs.IdLemmas.{exact_ids, ids_total, same_id_equiv, same_id-fields, same_id-is, same_id-itself}
+
+-- how the hashed map compares its keys
+abbrev pub key_eq : ResourceId → ResourceId → Bool
+key_eq a b = (a.kind == b.kind) && (a.dynamic == b.dynamic)
+
+turned : (a b : ResourceId) → key_eq a b ≡ same_id b a
+turned a b = sym (same_id-fields a b) ∙ same_id_equiv.symm a b
+
+module _ {X : Type 0} where
+  find_at : (es : List (ResourceId × X)) (q : ResourceId) → find id_cmp q es ≡ lookup (key_eq q) es
+  find_at [] q = refl
+  find_at (e ∷ es) q = (λ i. cond (same_id-fields q e.0 i) (Some e.1) (find_at es q i))
+
+  -- what the map that the entries make has at an id
+  pub get_made : (es : List (ResourceId × X)) (q : ResourceId) → get (from_entries {R = id_cmp} es) q ≡ lookup (key_eq q) es
+  get_made es q = get-from_entries ids_total es q ∙ find_at es q
+
+  -- entries that differ at one id make maps that differ there
+  pub one_put : (es fs : List (ResourceId × X)) (id : ResourceId) (x : X) → ((q : ResourceId) → lookup (key_eq q) fs ≡ cond (key_eq id q) (Some x) (lookup (key_eq q) es))
+      → from_entries {R = id_cmp} fs ≡ insert (from_entries es) id x
+  one_put es fs id x h = same_map ids_total exact_ids _ _ (λ q.
+      get_made fs q ∙ h q ∙ ap (λ b. cond b (Some x) (lookup (key_eq q) es)) (turned id q)
+      ∙ sym (get-insert ids_total (from_entries es) id x q ∙ ap (cond (eq_by_cmp id_cmp q id) (Some x)) (get_made es q)))
+
+  -- and so where one id is taken out
+  pub one_removed : (es fs : List (ResourceId × X)) (id : ResourceId) → ((q : ResourceId) → lookup (key_eq q) fs ≡ cond (key_eq id q) None (lookup (key_eq q) es))
+      → from_entries {R = id_cmp} fs ≡ map.remove (from_entries es) id
+  one_removed es fs id h = same_map ids_total exact_ids _ _ (λ q.
+      get_made fs q ∙ h q ∙ ap (λ b. cond b None (lookup (key_eq q) es)) (turned id q)
+      ∙ sym (get-remove ids_total (from_entries es) id q ∙ ap (cond (eq_by_cmp id_cmp q id) None) (get_made es q)))
+
+  -- entries with equal look-ups make one map
+  pub same_made : (es fs : List (ResourceId × X)) → ((q : ResourceId) → lookup (key_eq q) fs ≡ lookup (key_eq q) es) → from_entries {R = id_cmp} fs ≡ from_entries es
+  same_made es fs h = same_map ids_total exact_ids _ _ (λ q. get_made fs q ∙ h q ∙ sym (get_made es q))
+
+  -- what a world has at an id, by the entries that make it
+  pub slot_at : (es : List (ResourceId × X)) (w : FinMap id_cmp X) (id : ResourceId) → from_entries es ≡ w → get w id ≡ lookup (key_eq id) es
+  slot_at es w id e = ap (λ m. get m id) (sym e) ∙ get_made es id
+
+-- what holds under `Some` holds of a value that is there
+pub on_some : {A : Type 0} (o : Option A) (x : A) (P : Type 0) → o ≡ Some x → OnSome o P → P
+on_some None x P e h = cc
+on_some (Some y) x P e h = h
+
+module _ {X : Type 0} where
+  -- what a loan of a slot that is there leaves
+  pub put_on_some : (o : Option (MutBor X)) (es fs : List (ResourceId × X)) (w : FinMap id_cmp X) (id : ResourceId) (x : X) → from_entries es ≡ w
+      → option_copied_mut o ≡ lookup (key_eq id) es
+      → (IsSome (lookup (key_eq id) es) → (q : ResourceId) → lookup (key_eq q) fs ≡ cond (key_eq id q) (Some x) (lookup (key_eq q) es))
+      → OnSome o (from_entries {R = id_cmp} fs ≡ insert w id x)
+  put_on_some None es fs w id x e value h = tt
+  put_on_some (Some r) es fs w id x e value h = one_put es fs id x (h (subst IsSome value refl)) ∙ ap (λ m. insert m id x) e
+
+  -- to put what is there changes nothing
+  pub insert_same : (w : FinMap id_cmp X) (id : ResourceId) (x : X) → get w id ≡ Some x → insert w id x ≡ w
+  insert_same w id x e = same_map ids_total exact_ids _ _ (λ q. get-insert ids_total w id x q ∙ at q (same_id q id) refl)
+    where
+      at : (q : ResourceId) (b : Bool) → same_id q id ≡ b → cond b (Some x) (get w q) ≡ get w q
+      at q true t = sym e ∙ ap (get w) (sym (same_id-is q id t))
+      at q false t = refl
+
+-- what holds at all holds under `Some`, and so under `None` where the value is absent
+pub if_some : {A : Type 0} (o : Option A) {P : Type 0} → P → OnSome o P
+if_some None p = tt
+if_some (Some y) p = p
+
+pub if_some_value : {A : Type 0} (o : Option A) {P : Type 0} → P → IfSome o (λ _. P)
+if_some_value None p = tt
+if_some_value (Some y) p = p
+
+pub if_none : {A : Type 0} (o : Option A) {P : Type 0} → (o ≡ None → P) → IfNone o P
+if_none None p = p refl
+if_none (Some y) p = tt
+
+flattened : {V : Type 0} (o : Option (Option V)) (v : V) → option_flatten o ≡ Some v → o ≡ Some (Some v)
+flattened None v e = cc
+flattened (Some x) v e = ap Some e
+
+-- to put the value that is there changes nothing
+pub insert_value_same : {V : Type 0} (w : Slots V) (id : ResourceId) (v : V) → value_at w id ≡ Some v → insert w id (Some v) ≡ w
+insert_value_same w id v e = insert_same w id (Some v) (flattened (get w id) v e)
+
+there : {R : Type 0} (o : Option R) (r : R) → is_some o ≡ true → o ≡ Some (unwrap_or o r)
+there None r e = absurd (false≢true e)
+there (Some x) r e = refl
+
+hidden : {A : Type 0} (b : Bool) (x y z : A) → cond b x (cond b y z) ≡ cond b x z
+hidden true x y z = refl
+hidden false x y z = refl
+
+-- what was put is there
+pub get-insert_here : {X : Type 0} (w : FinMap id_cmp X) (id : ResourceId) (x : X) → get (insert w id x) id ≡ Some x
+get-insert_here w id x = get-insert ids_total w id x id ∙ ap (λ b. cond b (Some x) (get w id)) (same_id-itself id)
+
+-- of two values put at one id the later counts
+pub insert-insert : {X : Type 0} (w : FinMap id_cmp X) (id : ResourceId) (x y : X) → insert (insert w id x) id y ≡ insert w id y
+insert-insert w id x y = same_map ids_total exact_ids _ _ (λ q.
+    get-insert ids_total (insert w id x) id y q ∙ ap (cond (same_id q id) (Some y)) (get-insert ids_total w id x q) ∙ hidden (same_id q id) (Some y) (Some x) (get w q)
+    ∙ sym (get-insert ids_total w id y q))
+
+-- what a loan leaves of a resource that was put unless one stood
+pub ensured_put : {V R : Type 0} (wrapped : R → V) (w n : Slots V) (id : ResourceId) (r left : R) → MatchOption (value_at w id) (n ≡ insert w id (Some (wrapped r))) (λ _. n ≡ w)
+    → insert n id (Some (wrapped left)) ≡ insert w id (Some (wrapped left))
+ensured_put {V = V} wrapped w n id r left e = at (value_at w id) e
+  where
+    at : (o : Option V) → MatchOption o (n ≡ insert w id (Some (wrapped r))) (λ _. n ≡ w) → insert n id (Some (wrapped left)) ≡ insert w id (Some (wrapped left))
+    at None e = ap (λ m. insert m id (Some (wrapped left))) e ∙ insert-insert w id (Some (wrapped r)) (Some (wrapped left))
+    at (Some v) e = ap (λ m. insert m id (Some (wrapped left))) e
+
+module _ {V R : Type 0} (part : V → Option R) (wrapped : R → V) (seen : (r : R) → part (wrapped r) ≡ Some r) where
+  -- what stands at the id once a resource was put there unless one stood
+  pub ensured_seen : (w n : Slots V) (id : ResourceId) (r : R) → HasKind part w id
+      → MatchOption (value_at w id) (n ≡ insert w id (Some (wrapped r))) (λ _. n ≡ w)
+      → resource_at part n id ≡ Some (unwrap_or (resource_at part w id) r)
+  ensured_seen w n id r kind e = at (value_at w id) refl kind e
+    where
+      at : (o : Option V) → value_at w id ≡ o → is_some o ≡ is_some (resource_at part w id) → MatchOption o (n ≡ insert w id (Some (wrapped r))) (λ _. n ≡ w)
+          → resource_at part n id ≡ Some (unwrap_or (resource_at part w id) r)
+      at None was kind e =
+          ap (λ m. resource_at part m id) e ∙ ap (λ o. option_and_then part (option_flatten o)) (get-insert_here w id (Some (wrapped r)))
+          ∙ seen r ∙ ap (λ o. Some (unwrap_or (option_and_then part o) r)) (sym was)
+      at (Some v) was kind e = ap (λ m. resource_at part m id) e ∙ there (resource_at part w id) r (sym kind)
+
+-- equal values under `Some`
+pub some_is : {A : Type 0} (x y : A) → Some x ≡ Some y → x ≡ y
+some_is x y e = ap (λ o. unwrap_or o x) e
+
+-- what a loan leaves of a resource that was made unless one stood
+pub made_put : {V R : Type 0} (wrapped : R → V) (w n : Slots V) (id : ResourceId) (Made : R → Type 0) (left : R) → DefaultsTo Made wrapped id w n
+    → insert n id (Some (wrapped left)) ≡ insert w id (Some (wrapped left))
+made_put {V = V} {R = R} wrapped w n id Made left e = at (value_at w id) e
+  where
+    at : (o : Option V) → MatchOption o ((r : R) × Made r × (n ≡ insert w id (Some (wrapped r)))) (λ _. n ≡ w) → insert n id (Some (wrapped left)) ≡ insert w id (Some (wrapped left))
+    at None e = ap (λ m. insert m id (Some (wrapped left))) e.2 ∙ insert-insert w id (Some (wrapped e.0)) (Some (wrapped left))
+    at (Some v) e = ap (λ m. insert m id (Some (wrapped left))) e
+
+module _ {V R : Type 0} (part : V → Option R) (wrapped : R → V) (seen : (r : R) → part (wrapped r) ≡ Some r) where
+  -- what stands at the id once a resource was made unless one stood
+  made_at : (w n : Slots V) (id : ResourceId) (Made : R → Type 0) → HasKind part w id → DefaultsTo Made wrapped id w n
+      → (r : R) × (resource_at part n id ≡ Some r) × MatchOption (resource_at part w id) (Made r) (λ there. r ≡ there)
+  made_at w n id Made kind e = at (value_at w id) refl kind e
+    where
+      stood : (o : Option R) → is_some o ≡ true → resource_at part n id ≡ o → (r : R) × (resource_at part n id ≡ Some r) × MatchOption o (Made r) (λ there. r ≡ there)
+      stood None e is = absurd (false≢true e)
+      stood (Some x) e is = (x, is, refl)
+
+      at : (o : Option V) → value_at w id ≡ o → is_some o ≡ is_some (resource_at part w id) → MatchOption o ((r : R) × Made r × (n ≡ insert w id (Some (wrapped r)))) (λ _. n ≡ w)
+          → (r : R) × (resource_at part n id ≡ Some r) × MatchOption (resource_at part w id) (Made r) (λ there. r ≡ there)
+      at None was kind e = (
+        e.0,
+        ap (λ m. resource_at part m id) e.2 ∙ ap (λ o. option_and_then part (option_flatten o)) (get-insert_here w id (Some (wrapped e.0))) ∙ seen e.0,
+        subst (λ o. MatchOption (option_and_then part o) (Made e.0) (λ there. e.0 ≡ there)) (sym was) e.1,
+      )
+      at (Some v) was kind e = stood (resource_at part w id) (sym kind) (ap (λ m. resource_at part m id) e)
+
+  pub made_seen : (w n : Slots V) (id : ResourceId) (Made : R → Type 0) → HasKind part w id → DefaultsTo Made wrapped id w n → IsSome (resource_at part n id)
+  made_seen w n id Made kind e = ap is_some (made_at w n id Made kind e).1
+
+  pub made_value : (w n : Slots V) (id : ResourceId) (Made : R → Type 0) → HasKind part w id → DefaultsTo Made wrapped id w n → (x : R) → Some x ≡ resource_at part n id
+      → MatchOption (resource_at part w id) (Made x) (λ there. x ≡ there)
+  made_value w n id Made kind e x is =
+      let made = made_at w n id Made kind e in
+      let same : made.0 ≡ x = some_is _ _ (sym made.1 ∙ sym is) in
+      subst (λ r. MatchOption (resource_at part w id) (Made r) (λ there. r ≡ there)) same made.2

@@ -1,0 +1,7 @@
+use Rattle.std.specs.Result.{is_ok}
+use Rattle.shred_world.proofs.BundleLemmas.{in_turn}
+use Rattle.shred_world.proofs.data.tuples.Tuple2SystemData.setup.Goals as goal
+
+pub returns : goal.returns
+returns g c =
+    in_turn g.A.SystemData.sets_up g.B.SystemData.sets_up (is_ok c.setup-2.result) c.args.world.now c.setup.new.world c.setup-2.new.world c.in_ok-setup.ensures c.setup-2.ensures

@@ -1,0 +1,9 @@
+use Rattle.std.proofs.Common.{ap, ◌∙◌}
+use Rattle.std.specs.FinMap as map
+use Rattle.shred_world.proofs.WorldLemmas.{on_some}
+use Rattle.shred_world.proofs.world.World.put_back.Goals as goal
+
+pub returns : goal.returns
+returns g c =
+    on_some c.slot_mut.result c.in-Some.slot _ c.in-Some.is (c.slot_mut.follows.holds c.replace.new.self)
+    ∙ ap (map.insert c.args.self.now c.args.id) c.replace.ensures.after

@@ -1,0 +1,5 @@
+pub mod Bundles
+pub mod Execs
+pub mod Lending
+pub mod ResourceIds
+pub mod Worlds

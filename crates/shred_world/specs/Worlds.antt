@@ -1,0 +1,45 @@
+-- A world: a finite map from resource ids to slots. A slot holds a value, or its value is out and comes back.
+use Rattle.std.specs.Prelude.{◌≡◌, ◌==◌, ◌≤◌, ◌<◌, ℕ, Option, None, List, [], ◌∷◌, ◌++◌, IsSome, is_some, if◌then◌else◌}
+use Rattle.std.specs.Option.{option_flatten, option_and_then, option_map_or, MatchOption}
+use Rattle.std.specs.List.{list_any}
+use Rattle.std.specs.FinMap as map
+use Rattle.std.specs.FinMap.{FinMap}
+use Rattle.shred_world.specs.declared.resource_id.ResourceId.{ResourceId}
+use Rattle.shred_world.specs.ResourceIds.{id_cmp, id_of}
+
+-- what a world is seen as
+abbrev pub Slots : Type 0 → Type 0
+Slots V = FinMap id_cmp (Option V)
+
+-- the value that the world holds at the id
+abbrev pub value_at : {V : Type 0} → Slots V → ResourceId → Option V
+value_at w id = option_flatten (map.get w id)
+
+-- the resource that the world holds at the id, by what is seen in a value
+abbrev pub resource_at : {V R : Type 0} → (V → Option R) → Slots V → ResourceId → Option R
+resource_at part w id = option_and_then part (value_at w id)
+
+-- the least number from `from` on whose id the world holds a value at
+abbrev pub IsLeastFrom : {V : Type 0} → Slots V → (kind from : ℕ) → Option ℕ → Type 0
+IsLeastFrom w kind from found =
+    MatchOption found
+    ((d : ℕ) → from ≤ d → value_at w (id_of kind d) ≡ None)
+    (λ least. (from ≤ least) × IsSome (value_at w (id_of kind least)) × ((d : ℕ) → from ≤ d → d < least → value_at w (id_of kind d) ≡ None))
+
+-- the values of these kinds that the world holds under the dynamic number 0, in order
+abbrev pub values_of_kinds : {V : Type 0} → Slots V → List ℕ → List V
+values_of_kinds w [] = []
+values_of_kinds w (kind ∷ kinds) = option_map_or (λ v. v ∷ values_of_kinds w kinds) (value_at w (id_of kind 0)) (values_of_kinds w kinds)
+
+-- the kinds from the first one on whose value the world holds under the dynamic number 0
+abbrev pub from_first_held : {V : Type 0} → Slots V → List ℕ → List ℕ
+from_first_held w [] = []
+from_first_held w (kind ∷ kinds) = if is_some (value_at w (id_of kind 0)) then kind ∷ kinds else from_first_held w kinds
+
+-- the list with the kind at its end, where it isn't in it
+abbrev pub with_kind : List ℕ → ℕ → List ℕ
+with_kind kinds kind = if list_any (λ k. k == kind) kinds then kinds else kinds ++ kind ∷ []
+
+-- a value at the id, where there is one, is of the resource's kind
+abbrev pub HasKind : {V R : Type 0} → (V → Option R) → Slots V → ResourceId → Type 0
+HasKind part w id = is_some (value_at w id) ≡ is_some (resource_at part w id)
