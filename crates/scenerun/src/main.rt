@@ -2,6 +2,7 @@
 #![tactic(auto)]
 
 mod data;
+mod laws;
 mod lines;
 mod program;
 mod rules;

@@ -154,7 +154,9 @@ impl Rules for Basics {
         }
     }
 
-    fn running_time(&self, _system: &BasicSystem) -> RunningTime {
+    fn running_time(&self, _system: &BasicSystem) -> RunningTime
+        ensures { result ≡ RunningTime.Average }
+    {
         RunningTime::Average
     }
 

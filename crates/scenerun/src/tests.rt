@@ -68,6 +68,10 @@ fn documents_give_their_scenes(rt: HostRuntime) -> Result<(), Fail> {
             "{\"entities\":[{\"id\":2,\"parts\":{}},{\"id\":9,\"parts\":{\"owner\":2}}],\"globals\":{},\"next\":10}",
         ),
         (
+            "{\"next\":0,\"next\":1,\"entities\":[]}",
+            "{\"entities\":[],\"globals\":{},\"next\":1}",
+        ),
+        (
             "{\"next\":0,\"entities\":[],\"systems\":[{\"barrier\":true}],\"frames\":1}",
             "{\"entities\":[],\"globals\":{},\"next\":0}",
         ),
