@@ -1,5 +1,5 @@
 //! What every set of indices answers, whether it is kept or virtual.
-ghost use Rattle.std.specs.Prelude.{◌≡◌, ℕ, ◌+◌, ◌/◌, ◌%◌, ◌^◌, ◌<◌, ◌==◌, ◌↔◌, Bool, true, false, IsTrue, if◌then◌else◌};
+ghost use Rattle.std.specs.Prelude.{◌≡◌, ℕ, ◌+◌, ◌/◌, ◌%◌, ◌^◌, ◌<◌, ◌==◌, ◌↔◌, [], ◌∷◌, Bool, true, false, IsTrue, if◌then◌else◌};
 ghost use Rattle.hibitset_sets.specs.Iter.{left_of, unread};
 ghost use Rattle.hibitset_sets.specs.Walk.{walk, words_walked};
 ghost use Rattle.hibitset_sets.specs.Words.{is_marked, StandsOver};
@@ -67,6 +67,7 @@ pub trait BitSetLike {
         Self: Sized,
         ensures set { result.set ≡ self }
         ensures items { left_of members result ≡ walk (members self) }
+        ensures masks { result.masks ≡ 0 ∷ 0 ∷ 0 ∷ words self 3 0 ∷ [] }
     {
         self.iter_counted(&mut Uncounted)
     }
@@ -77,6 +78,7 @@ pub trait BitSetLike {
         Self: Sized,
         ensures set { result.set ≡ self }
         ensures items { left_of members result ≡ walk (members self) }
+        ensures masks { result.masks ≡ 0 ∷ 0 ∷ 0 ∷ words self 3 0 ∷ [] }
         ensures unread { reads self 3 + unread reads words result ≡ words_walked (reads self) (words self) }
         ensures counted { C.ticked count.old (reads self 3) count.new }
     {

@@ -50,6 +50,18 @@ impl<T: BitSetLike> BitIter<T> {
         BitIter { set, masks, prefix }
     }
 
+    /// The set that is walked, the masks with the bits that are left, and their prefixes.
+    ///
+    /// `BitIter::new` of them is the same walk.
+    pub fn into_parts(self) -> (T, [u64; LAYERS], [u32; 3])
+        ensures set { result.0 ≡ self.set }
+        ensures masks { result.1 ≡ self.masks }
+        ensures prefix { result.2 ≡ self.prefix }
+        ensures placed { IsPlaced result.1 result.2 }
+    {
+        (self.set, self.masks, self.prefix)
+    }
+
     /// Whether `i` is a member of the set that is walked.
     pub fn contains(&self, i: Index) -> bool
         ensures { result ≡ T.members self.now.set i }

@@ -1,13 +1,3 @@
-pub mod NameLemmas
-pub mod ColumnsLemmas
-pub mod FragmentLemmas
-pub mod TextLemmas
+pub mod EngineLemmas
 pub mod TurnLemmas
 pub mod OutcomeLemmas
-pub mod ShapeLemmas
-pub mod BuildLemmas
-pub mod PlaceLemmas
-pub mod IdLemmas
-pub mod LoadedLemmas
-pub mod RefusalLemmas
-pub mod PlanRows

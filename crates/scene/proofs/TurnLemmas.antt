@@ -1,107 +1,55 @@
--- Lemmas on a frame of one system at most.
-use Rattle.std.proofs.Common.{◌≡◌, ◌<◌, ◌≤◌, append-nil, MatchOption, ℕ, suc, ◌==◌, Bool, true, false, ◌||◌, List, [], ◌∷◌, Option, Some, None, Result, Ok, Err, MatchResult, refl, sym, ◌∙◌, ap, subst, inl, arith}
-use Rattle.std.specs.List.{All, list_any, find}
-use Rattle.std.proofs.lemmas.Bool.{eq-eqb}
-use Rattle.std.proofs.Math.Bool.{or-true}
-use Rattle.scene.specs.declared.refusals.FrameRefusal.{FrameRefusal}
-use Rattle.scene.specs.declared.refusals.FrameRefusal.TheVariants.{System, GoneReference, IdsSpent, IndicesSpent, GenerationsSpent, TooManyCommands, Memory, Threads}
-use Rattle.scene.specs.Parts.{Name, Part, Ref, living, gone}
-use Rattle.scene.specs.Rulebook.{Book}
-use Rattle.scene.specs.Scenes.{PlainScene, PlainSystem, Steps, lives, RefLives, RefsLive}
-use Rattle.scene.specs.Frames.{Accepts, Refuses, first_gone, holds_gone, is_gone}
-use Rattle.scene.specs.Frames.{Reaches, Ended}
-use Rattle.scene.specs.Turns.{Shown, opening, nothing_yet, frames_left, next_frame, Advances, IsRefused, Stays, Going, RunsOut}
-use Rattle.std.proofs.lemmas.Option.{MatchOption-at_none}
-use Rattle.scene.specs.declared.refusals.Report.{Report}
-use Rattle.scene.specs.declared.refusals.Skip.{Skip}
-use Rattle.scene.specs.Drafts.{Draft}
-use Rattle.scene.specs.Runs.{first_scene, in_list_order}
-use Rattle.scene.specs.Engine.{StepIsRefused}
+-- Lemmas on the frames of a scene, one after another.
+use Rattle.std.proofs.lemmas.Bool.{true≢false}
+use Rattle.std.proofs.Common.{◌≡◌, ◌<◌, ◌++◌, MatchOption, ℕ, suc, List, [], Option, Some, None, is_some, false, refl, sym, ◌∙◌, ap, subst, arith}
+use Rattle.std.proofs.lemmas.Option.{MatchOption-at_none, none-some}
+use Rattle.scene_rules.specs.declared.refusals.FrameRefusal.{FrameRefusal}
+use Rattle.scene_rules.specs.declared.refusals.Report.{Report}
+use Rattle.scene_rules.specs.declared.refusals.Skip.{Skip}
+use Rattle.scene_rules.specs.Rulebook.{Book}
+use Rattle.scene_rules.specs.Commands.{skips_of}
+use Rattle.scene_document.specs.Drafts.{Draft}
+use Rattle.scene_document.specs.Openings.{first_scene, frames_of}
+use Rattle.scene.specs.Frames.{Accepts, Refuses, Reaches, Ended}
+use Rattle.scene.specs.Turns.{Shown, opening, nothing_yet, frames_left, next_frame, SameCourse, Advances, IsRefused, Stays, Going, RunsOut}
 
--- references that live are not gone
-pub none_gone : (ids : List ℕ) (refs : List Ref) → All (RefLives ids) refs → list_any is_gone refs ≡ false
-none_gone ids [] all = refl
-none_gone ids (living id ∷ refs) all = none_gone ids refs (λ k d below. all (suc k) d (omega arith))
-none_gone ids (gone ∷ refs) all = absurd (all 0 gone (omega arith))
-
--- a part whose references live holds none that is gone
-pub part_holds_none : (ids : List ℕ) (held : Option Part) → ((part : Part) → held ≡ Some part → All (RefLives ids) part.refs) → holds_gone held ≡ false
-part_holds_none ids None live = refl
-part_holds_none ids (Some part) live = none_gone ids part.refs (live part refl)
-
--- no kind of an id holds a reference that is gone
-pub id_holds_none : (part : Name → Option Part) (names : List Name) → ((kind : Name) → holds_gone (part kind) ≡ false) → list_any (λ kind. holds_gone (part kind)) names ≡ false
-id_holds_none part [] none = refl
-id_holds_none part (name ∷ names) none = rw (none name) (id_holds_none part names none)
-
--- no id of a list holds one
-pub none_found : (test : ℕ → Bool) (ids : List ℕ) → ((id : ℕ) → lives id ids ≡ true → test id ≡ false) → find test ids ≡ None
-none_found test [] none = refl
-none_found test (id ∷ ids) none = rw (none id (ap (λ b. b || lives id ids) (eq-eqb id id refl))) (none_found test ids (λ other alive. none other (later other alive)))
-  where
-    later : (other : ℕ) → lives other ids ≡ true → lives other (id ∷ ids) ≡ true
-    later other alive = rw alive (or-true (id == other))
-
--- in a scene whose references live none is gone
-pub no_gone : (book : Book) (scene : PlainScene) → RefsLive scene.ids scene.part → first_gone book scene ≡ None
-no_gone book scene live = none_found (λ id. list_any (λ kind. holds_gone (scene.part id kind)) book.part_names) scene.ids (λ id alive. id_holds_none (scene.part id) book.part_names (λ kind. part_holds_none scene.ids (scene.part id kind) (λ part held. live id kind part alive held)))
-
--- a frame without systems accepts the scene as it is
-pub accepts_none : (book : Book) (scene : PlainScene) → RefsLive scene.ids scene.part → Accepts book (record { order = []; commands = [] }) scene scene []
-accepts_none book scene live = (scene, [], (refl, refl), refl, no_gone book scene live)
-
--- a frame of one system accepts what the system's turn leads to
-pub accepts_one : (book : Book) (system : PlainSystem) (scene after : PlainScene) → Steps book system scene after [] → RefsLive after.ids after.part → Accepts book (record { order = system ∷ []; commands = [] }) scene after []
-accepts_one book system scene after steps live = (after, (system.position, []) ∷ [], (after, [], [], steps, (refl, refl), refl), refl, no_gone book after live)
-
--- a frame of one system is refused where the system's turn is
-pub refuses_one : (book : Book) (system : PlainSystem) (scene : PlainScene) (cause : FrameRefusal) → StepIsRefused book system scene cause → Refuses book (record { order = system ∷ []; commands = [] }) scene cause
-refuses_one book system scene (System position text) refused = inl (sym refused.0, refused.1)
-refuses_one book system scene Memory refused = tt
-refuses_one book system scene (GoneReference id) refused = absurd refused
-refuses_one book system scene IdsSpent refused = absurd refused
-refuses_one book system scene IndicesSpent refused = absurd refused
-refuses_one book system scene GenerationsSpent refused = absurd refused
-refuses_one book system scene TooManyCommands refused = absurd refused
-refuses_one book system scene Threads refused = absurd refused
-
--- a frame of one system goes as the system's turn goes
-pub frame_of_turn : {X : Type 0} (book : Book) (system : PlainSystem) (order : List PlainSystem) (scene after : ℕ → PlainScene) (next : ℕ) (result : Result X FrameRefusal) → order ≡ system ∷ [] → MatchResult result (λ _. (n : ℕ) → Steps book system (scene n) (after n) []) (λ cause. (n : ℕ) → StepIsRefused book system (scene n) cause) → RefsLive (after next).ids (after next).part → MatchResult result (λ _. Accepts book (record { order = order; commands = [] }) (scene next) (after next) []) (Refuses book (record { order = order; commands = [] }) (scene next))
-frame_of_turn book system order scene after next (Ok x) one turn live = subst (λ some. Accepts book (record { order = some; commands = [] }) (scene next) (after next) []) (sym one) (accepts_one book system (scene next) (after next) (turn next) live)
-frame_of_turn book system order scene after next (Err cause) one turn live = subst (λ some. Refuses book (record { order = some; commands = [] }) (scene next) cause) (sym one) (refuses_one book system (scene next) cause (turn next))
-
--- before any frame, nothing was refused and no frame counts
+-- a scene before any of its frames
 pub going_start : (book : Book) (start : Shown) → start.report ≡ nothing_yet → Going book start start
 going_start book start same = record {
   going = ap (λ report. report.refused) same;
-  reached = subst (λ report. Reaches book (λ _. next_frame start) report.frames start.scene start.scene report.skips) (sym same) (refl, refl);
-  order = refl;
-  asked = refl;
-  within = subst (λ report. report.frames ≤ start.asked) (sym same) (omega arith);
+  reached = subst (λ report. Reaches book start.limit start.frames report.frames start.scene start.scene report.skips) (sym same) (refl, refl);
+  course = record { frames = refl; limit = refl; asked = refl };
+  within = let none : start.report.frames ≡ 0 = ap (λ report. report.frames) same in omega (arith, none);
 }
 
--- the next frame of a scene is that of its start, where the order is
-pub same_frame : (one other : Shown) → one.order ≡ other.order → next_frame one ≡ next_frame other
-same_frame one other same = ap (λ order. record { order = order; commands = [] }) same
+-- the course stays over two steps
+then_course : {one two three : Shown} → SameCourse one two → SameCourse two three → SameCourse one three
+then_course early late = record { frames = late.frames ∙ early.frames; limit = late.limit ∙ early.limit; asked = late.asked ∙ early.asked }
 
--- one more accepted frame
+-- the next frame of a scene, by the course of its start
+next_by_start : (start now : Shown) → SameCourse start now → next_frame now ≡ start.frames (suc now.report.frames)
+next_by_start start now course = ap (λ frames. frames (suc now.report.frames)) course.frames
+
+-- one more frame was accepted
 pub going_on : (book : Book) (start now after : Shown) → Going book start now → 0 < frames_left now → Advances book now after → Going book start after
 going_on book start now after going left advances =
-    let accepted : Accepts book (next_frame start) now.scene after.scene [] = subst (λ frame. Accepts book frame now.scene after.scene []) (same_frame now start going.order) advances.accepted in
-    let reached : Reaches book (λ _. next_frame start) (suc now.report.frames) start.scene after.scene now.report.skips = (now.scene, now.report.skips, [], going.reached, accepted, sym (append-nil now.report.skips)) in
+    let places : List ℕ = advances.accepted.0 in
+    let report : after.report ≡ record { frames = suc now.report.frames; skips = now.report.skips ++ skips_of (suc now.report.frames) places; refused = None } = advances.accepted.2 in
+    let accepted : Accepts book start.limit (start.frames (suc now.report.frames)) now.scene after.scene places =
+    subst (λ limit. Accepts book limit (start.frames (suc now.report.frames)) now.scene after.scene places) going.course.limit
+    (subst (λ frame. Accepts book now.limit frame now.scene after.scene places) (next_by_start start now going.course) advances.accepted.1) in
+    let reached : Reaches book start.limit start.frames (suc now.report.frames) start.scene after.scene (now.report.skips ++ skips_of (suc now.report.frames) places) = (now.scene, now.report.skips, places, going.reached, accepted, refl) in
     record {
-      going = ap (λ report. report.refused) advances.report;
-      reached = subst (λ report. Reaches book (λ _. next_frame start) report.frames start.scene after.scene report.skips) (sym advances.report) reached;
-      order = advances.order ∙ going.order;
-      asked = advances.asked ∙ going.asked;
-      within = let frames : after.report.frames ≡ suc now.report.frames = ap (λ report. report.frames) advances.report in omega (arith, frames, advances.asked, left, going.within);
+      going = ap (λ some. some.refused) report;
+      reached = subst (λ some. Reaches book start.limit start.frames some.frames start.scene after.scene some.skips) (sym report) reached;
+      course = then_course going.course advances.course;
+      within = let frames : after.report.frames ≡ suc now.report.frames = ap (λ some. some.frames) report in omega (arith, frames, advances.course.asked, left, going.within);
     }
 
 -- the end, where no frame is left
 pub ended_all : (book : Book) (start now : Shown) → Going book start now → frames_left now ≡ 0 → RunsOut book start now
 ended_all book start now going none = record {
   reached = going.reached;
-  ended = subst (λ refused. MatchOption refused (now.report.frames ≡ start.asked) (λ some. (now.report.frames < start.asked) × (some.0 ≡ suc now.report.frames) × Refuses book (next_frame start) now.scene some.1)) (sym going.going) (omega (arith, going.asked, going.within, none));
+  ended = subst (λ refused. MatchOption refused (now.report.frames ≡ start.asked) (λ some. (now.report.frames < start.asked) × (some.0 ≡ suc now.report.frames) × Refuses book start.limit (start.frames (suc now.report.frames)) now.scene some.1)) (sym going.going) (omega (arith, going.course.asked, going.within, none));
 }
 
 -- the end, where the next frame is refused
@@ -109,15 +57,17 @@ pub ended_refused : (book : Book) (start now after : Shown) → Going book start
 ended_refused book start now after going left stays =
     let told : (cause : FrameRefusal) × IsRefused book now after cause = MatchOption-at_none ((cause : FrameRefusal) × IsRefused book now after cause) (λ _. after.report ≡ now.report) going.going stays.told in
     let report : after.report ≡ record { frames = now.report.frames; skips = now.report.skips; refused = Some (suc now.report.frames, told.0) } = told.1.report in
-    let refuses : Refuses book (next_frame start) now.scene told.0 = subst (λ frame. Refuses book frame now.scene told.0) (same_frame now start going.order) told.1.refused in
-    let before : now.report.frames < start.asked = omega (arith, left, going.asked) in
-    let ended : Ended book (λ _. next_frame start) start.asked (record { frames = now.report.frames; skips = now.report.skips; refused = Some (suc now.report.frames, told.0) }) now.scene = (before, refl, refuses) in
-    subst (λ scene. RunsOut book start (record { scene = scene; order = after.order; asked = after.asked; report = after.report })) (sym stays.scene)
-    (subst (λ some. RunsOut book start (record { scene = now.scene; order = after.order; asked = after.asked; report = some })) (sym report) (record { reached = going.reached; ended = ended }))
+    let refuses : Refuses book start.limit (start.frames (suc now.report.frames)) now.scene told.0 =
+    subst (λ limit. Refuses book limit (start.frames (suc now.report.frames)) now.scene told.0) going.course.limit
+    (subst (λ frame. Refuses book now.limit frame now.scene told.0) (next_by_start start now going.course) told.1.refused) in
+    let before : now.report.frames < start.asked = omega (arith, left, going.course.asked) in
+    let ended : Ended book start.limit start.frames start.asked (record { frames = now.report.frames; skips = now.report.skips; refused = Some (suc now.report.frames, told.0) }) now.scene = (before, refl, refuses) in
+    subst (λ scene. RunsOut book start (record { scene = scene; frames = after.frames; limit = after.limit; asked = after.asked; report = after.report })) (sym stays.scene)
+    (subst (λ some. RunsOut book start (record { scene = now.scene; frames = after.frames; limit = after.limit; asked = after.asked; report = some })) (sym report) (record { reached = going.reached; ended = ended }))
 
--- what shows a document's scene, systems and frames before any frame is its opening
-pub is_opening : (draft : Draft) (shown : Shown) → shown.scene ≡ first_scene draft → shown.order ≡ in_list_order 1 draft.entries → shown.asked ≡ draft.frames → shown.report ≡ nothing_yet → shown ≡ opening draft
-is_opening draft shown scene order asked report = λ i. record { scene = scene i; order = order i; asked = asked i; report = report i }
+-- what shows a document's scene and frames before any frame is its opening
+pub is_opening : (limit : ℕ) (draft : Draft) (shown : Shown) → shown.scene ≡ first_scene draft → shown.frames ≡ frames_of draft → shown.limit ≡ limit → shown.asked ≡ draft.frames → shown.report ≡ nothing_yet → shown ≡ opening limit draft
+is_opening limit draft shown scene frames same_limit asked report = λ i. record { scene = scene i; frames = frames i; limit = same_limit i; asked = asked i; report = report i }
 
 -- a report with no frame and no refusal
 abbrev pub record_of : List Skip → Report
@@ -126,3 +76,13 @@ record_of skips = record { frames = 0; skips = skips; refused = None }
 -- a report with no frame, no skip and no refusal is that before any frame
 pub is_nothing_yet : (skips : List Skip) → skips ≡ [] → record_of skips ≡ nothing_yet
 is_nothing_yet skips none = ap record_of none
+
+-- what is not there is nothing
+pub none_there : {X : Type 0} (o : Option X) → is_some o ≡ false → o ≡ None
+none_there None gone = refl
+none_there (Some x) gone = absurd (true≢false gone)
+
+-- where nothing is there, what is asked of that case is enough
+pub told_first : {X A : Type 0} (B : X → Type 0) (o : Option X) → o ≡ None → A → MatchOption o A B
+told_first B None gone a = a
+told_first B (Some x) gone a = absurd (none-some x (sym gone))

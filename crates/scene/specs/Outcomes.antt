@@ -1,62 +1,62 @@
 -- What a whole run may answer, in terms of the bytes that were read.
-use Rattle.std.specs.Prelude.{◌≡◌, ◌≤◌, ℕ, pos, ◌≤ℤ◌, Bool, true, false, List, length, Option, Some, None, IfSome, IfOk, IfErr, OnOk, Result, Ok, Err, ◌⊎◌, take}
+use Rattle.std.specs.Prelude.{◌≡◌, ◌≤◌, ℕ, List, length, Option, IfSome, IfOk, IfErr, OnOk, Result, Ok, Err, ◌⊎◌, take}
 use Rattle.std.specs.Io.KnownBytes.{Appends}
 use Rattle.scene_devices.specs.Faults.{HasFailed}
 use Rattle.scene_devices.specs.Reading.{GivesAtLeast}
-use Rattle.scene.specs.declared.refusals.DocRefusal.{DocRefusal}
-use Rattle.scene.specs.declared.refusals.Report.{Report}
-use Rattle.scene.specs.declared.loaded.LoadError.{LoadError}
-use Rattle.scene.specs.declared.loaded.LoadError.TheVariants.{Document, NotYet, Memory}
-use Rattle.scene.specs.declared.loaded.Limits.{Limits}
+use Rattle.scene_rules.specs.declared.refusals.DocRefusal.{DocRefusal}
+use Rattle.scene_rules.specs.declared.refusals.Report.{Report}
+use Rattle.scene_document.specs.declared.loaded.LoadError.{LoadError}
+use Rattle.scene_document.specs.declared.loaded.LoadError.TheVariants.{Document, Memory}
+use Rattle.scene_document.specs.declared.loaded.Limits.{Limits}
 use Rattle.scene.specs.declared.runner.RunError.{RunError}
 use Rattle.scene.specs.declared.runner.RunError.TheVariants as run
-use Rattle.scene.specs.Parts.{Json}
-use Rattle.scene.specs.Rulebook.{Book}
-use Rattle.scene.specs.Scenes.{PlainScene}
-use Rattle.scene.specs.Drafts.{Draft}
-use Rattle.scene.specs.Documents.{json_of, document_of, is_not_yet}
-use Rattle.scene.specs.Texts.{text_of}
+use Rattle.scene_rules.specs.Rulebook.{Book}
+use Rattle.scene_rules.specs.Scenes.{PlainScene}
+use Rattle.scene_document.specs.Drafts.{Draft}
+use Rattle.scene_document.specs.Documents.{document_of}
+use Rattle.scene_document.specs.Texts.{text_of}
 use Rattle.scene.specs.Runs.{Ran}
 
--- whether bytes read as a JSON that asks for what is not built yet
-abbrev pub reads_not_yet : Option Json → Bool
-reads_not_yet None = false
-reads_not_yet (Some json) = is_not_yet json
+-- the limits that a run is under: how many entities a document may list, and how many commands a frame may have
+pub record Bounds : Type 0 where
+  pub indices : ℕ
+  pub commands : ℕ
 
-abbrev pub is_not_yet_bytes : List ℕ → Bool
-is_not_yet_bytes input = reads_not_yet (json_of input)
+-- those of limits of the code, and the greatest ones
+abbrev pub bounds_of : Limits → Bounds
+bounds_of limits = record { indices = limits.indices; commands = limits.commands }
+
+abbrev pub full_bounds : Bounds
+full_bounds = record { indices = 16777216; commands = 1048576 }
 
 -- a text is that of a scene which the frames of the document in these bytes reach, with this report
-pub record IsRunOf (book : Book) (indices : ℕ) (input : List ℕ) (report : Report) (text : List ℕ) : Type 0 where
+pub record IsRunOf (book : Book) (bounds : Bounds) (input : List ℕ) (report : Report) (text : List ℕ) : Type 0 where
   pub draft : Draft
   pub scene : PlainScene
-  pub document : document_of book indices input ≡ Ok draft
-  pub ran : Ran book draft report scene
+  pub document : document_of book bounds.indices input ≡ Ok draft
+  pub ran : Ran book bounds.commands draft report scene
   pub written : text ≡ text_of book scene
 
--- bytes are no document, and this is why: they ask for what is not built yet, or a refusal stands; want of memory says nothing
-abbrev pub IsNoDocument : Book → ℕ → List ℕ → LoadError → Type 0
-IsNoDocument book indices input NotYet = is_not_yet_bytes input ≡ true
-IsNoDocument book indices input (Document refusal) = (is_not_yet_bytes input ≡ false) × (document_of book indices input ≡ Err refusal)
-IsNoDocument book indices input Memory = Unit {0}
+-- bytes are no document, and this is why: a refusal stands; want of memory says nothing
+abbrev pub IsNoDocument : Book → Bounds → List ℕ → LoadError → Type 0
+IsNoDocument book bounds input (Document refusal) = document_of book bounds.indices input ≡ Err refusal
+IsNoDocument book bounds input Memory = Unit {0}
 
 -- something holds of the bytes that a reader had left: of these, where the reader tells them, else of some
 abbrev pub OfInput : Option (List ℕ) → (List ℕ → Type 0) → Type 0
 OfInput known holds = (input : List ℕ) × IfSome known (λ bytes. input ≡ bytes) × holds input
 
--- what is told of a document: the refusal that stands, or that it asks for what is not built yet
-abbrev pub TellsDocument : Book → ℕ → Option (List ℕ) → RunError → Type 0
-TellsDocument book indices known (run.Document refusal) = OfInput known (λ input. (is_not_yet_bytes input ≡ false) × (document_of book indices input ≡ Err refusal))
-TellsDocument book indices known run.NotYet = OfInput known (λ input. is_not_yet_bytes input ≡ true)
-TellsDocument book indices known run.Read = Unit {0}
-TellsDocument book indices known (run.Write sent) = Unit {0}
-TellsDocument book indices known run.Memory = Unit {0}
+-- what is told of a document: the refusal that stands
+abbrev pub TellsDocument : Book → Bounds → Option (List ℕ) → RunError → Type 0
+TellsDocument book bounds known (run.Document refusal) = OfInput known (λ input. document_of book bounds.indices input ≡ Err refusal)
+TellsDocument book bounds known run.Read = Unit {0}
+TellsDocument book bounds known (run.Write sent) = Unit {0}
+TellsDocument book bounds known run.Memory = Unit {0}
 
 -- where this refusal stands, it is the one that is told, but for a failed read and want of memory
 abbrev pub TellsOnly : {A : Type 0} → DocRefusal → Result A RunError → Type 0
 TellsOnly refusal (Ok report) = ⊥
 TellsOnly refusal (Err (run.Document told)) = told ≡ refusal
-TellsOnly refusal (Err run.NotYet) = ⊥
 TellsOnly refusal (Err run.Read) = Unit {0}
 TellsOnly refusal (Err (run.Write sent)) = ⊥
 TellsOnly refusal (Err run.Memory) = Unit {0}
@@ -64,7 +64,6 @@ TellsOnly refusal (Err run.Memory) = Unit {0}
 -- this holds where a failed read is told
 abbrev pub OnRead : Type 0 → RunError → Type 0
 OnRead fact (run.Document refusal) = Unit {0}
-OnRead fact run.NotYet = Unit {0}
 OnRead fact run.Read = fact
 OnRead fact (run.Write sent) = Unit {0}
 OnRead fact run.Memory = Unit {0}
@@ -72,7 +71,6 @@ OnRead fact run.Memory = Unit {0}
 -- this holds of the bytes that went out where a failed write is told
 abbrev pub OnWrite : (ℕ → Type 0) → RunError → Type 0
 OnWrite fact (run.Document refusal) = Unit {0}
-OnWrite fact run.NotYet = Unit {0}
 OnWrite fact run.Read = Unit {0}
 OnWrite fact (run.Write sent) = fact sent
 OnWrite fact run.Memory = Unit {0}
@@ -80,7 +78,6 @@ OnWrite fact run.Memory = Unit {0}
 -- this holds where what is told came before any byte was written
 abbrev pub BeforeWriting : Type 0 → RunError → Type 0
 BeforeWriting fact (run.Document refusal) = fact
-BeforeWriting fact run.NotYet = fact
 BeforeWriting fact run.Read = fact
 BeforeWriting fact (run.Write sent) = Unit {0}
 BeforeWriting fact run.Memory = fact
@@ -102,23 +99,17 @@ pub record Writing : Type 1 where
   pub flushed : Type 0
 
 -- a run of the document that a reader gives, to a writer
-pub record RunsDocument (book : Book) (indices : ℕ) (result : Result Report RunError) (reading : Reading) (writing : Writing) : Type 0 where
+pub record RunsDocument (book : Book) (bounds : Bounds) (result : Result Report RunError) (reading : Reading) (writing : Writing) : Type 0 where
   -- The bytes written are the text of a scene that the frames of the document reach, and no others; the report is of those frames.
-  pub scene : IfOk result (λ report. OfInput reading.left_before (λ input. (text : List ℕ) × IsRunOf book indices input report text × Appends writing.held_before writing.held_after text))
+  pub scene : IfOk result (λ report. OfInput reading.left_before (λ input. (text : List ℕ) × IsRunOf book bounds input report text × Appends writing.held_before writing.held_after text))
   pub flushed : OnOk result writing.flushed
   -- A document that is no scene is refused by the name of the least refusal that stands, and only then.
-  pub document : IfErr result (TellsDocument book indices reading.left_before)
-  pub only_that : IfSome reading.left_before (λ input. (refusal : DocRefusal) → is_not_yet_bytes input ≡ false → document_of book indices input ≡ Err refusal → TellsOnly refusal result)
+  pub document : IfErr result (TellsDocument book bounds reading.left_before)
+  pub only_that : IfSome reading.left_before (λ input. (refusal : DocRefusal) → document_of book bounds.indices input ≡ Err refusal → TellsOnly refusal result)
   -- Nothing is written but where the text goes out.
   pub before : IfErr result (BeforeWriting writing.untouched)
   -- A failed read is told where the reader failed in the call, or gave bytes without end.
   pub read : IfErr result (OnRead (HasFailed reading.failures_before reading.failures_after ⊎ GivesAtLeast 4294967295 reading.left_before reading.left_after))
   -- A failed write is told where the writer failed in the call, and just the first bytes of such a text went out.
   pub write : IfErr result (OnWrite (λ sent. HasFailed writing.failures_before writing.failures_after))
-  pub sent : IfErr result (OnWrite (λ sent. OfInput reading.left_before (λ input. (report : Report) × (text : List ℕ) × IsRunOf book indices input report text × (sent ≤ length text) × Appends writing.held_before writing.held_after (take sent text))))
-
--- limits that are none above the greatest ones
-pub record AreLimits (limits : Limits) : Type 0 where
-  pub indices : limits.indices ≤ 16777216
-  pub generation : pos 1 ≤ℤ limits.generation
-  pub commands : limits.commands ≤ 1048576
+  pub sent : IfErr result (OnWrite (λ sent. OfInput reading.left_before (λ input. (report : Report) × (text : List ℕ) × IsRunOf book bounds input report text × (sent ≤ length text) × Appends writing.held_before writing.held_after (take sent text))))

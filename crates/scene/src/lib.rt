@@ -6,27 +6,15 @@
 //! mean to a document.
 #![tactic(auto)]
 
-mod access;
-mod columns;
-mod draft;
 mod frame;
-mod load;
-mod loaded;
-mod plain;
-mod refusal;
-mod refusals;
-mod rules;
 mod runner;
-mod shape;
-mod text;
-mod view;
+mod turns;
 
-pub use access::Accessor;
 pub use frame::{Refused, Scene};
-pub use loaded::{Limits, LoadError};
-pub use plain::{Skips, Text};
-pub use refusals::{DocRefusal, FrameRefusal, Report, Skip};
-pub use rules::{ReadError, Rules, RunningTime, Stop};
 pub use runner::{RunError, run, run_with};
 pub use scene_devices::{Counted, CountedRead, CountedWrite, Faults};
-pub use view::PlainView;
+pub use scene_document::{Limits, LoadError};
+pub use scene_rules::{
+    Accessor, Command, DocRefusal, FrameRefusal, NotQueued, PlainView, Queue, ReadError, Report,
+    Rules, RunningTime, Skip, Skips, Stop, Text,
+};

@@ -3,26 +3,23 @@ ghost use Rattle.std.specs.Prelude.{◌≡◌, ◌<◌, ◌≤◌, ◌⊎◌, �
 ghost use Rattle.std.specs.Io.KnownBytes.{Appends};
 ghost use Rattle.scene_devices.specs.Faults.{HasFailed};
 ghost use Rattle.scene_devices.specs.Reading.{GivesAtLeast};
-ghost use Rattle.scene.specs.declared.refusals.DocRefusal.{DocRefusal};
-ghost use Rattle.scene.specs.declared.refusals.Report.{Report};
-ghost use Rattle.scene.specs.Documents.{document_of};
+ghost use Rattle.scene_rules.specs.declared.refusals.DocRefusal.{DocRefusal};
+ghost use Rattle.scene_rules.specs.declared.refusals.Report.{Report};
+ghost use Rattle.scene_document.specs.Documents.{document_of};
 ghost use Rattle.scene.specs.Turns.{shown_of, rules_of, IsReady, RunsOut, nothing_yet};
-ghost use Rattle.scene.specs.Outcomes.{IsRunOf, IsNoDocument, RunsDocument, AreLimits};
+ghost use Rattle.scene.specs.Limits.{AreLimits};
+ghost use Rattle.scene.specs.Outcomes.{IsRunOf, IsNoDocument, RunsDocument, bounds_of, full_bounds};
 
 use crate::frame::Scene;
-use crate::loaded::{Limits, LoadError};
-use crate::refusals::{DocRefusal, Report};
-use crate::rules::Rules;
-use crate::text::{JsonError, read_json};
 use scene_devices::{CountedRead, CountedWrite, ReadError, read_document, write_text};
+use scene_document::{JsonError, Limits, LoadError, read_json};
+use scene_rules::{DocRefusal, Report, Rules};
 
 /// Why a run gave no report.
 #[derive(Clone, Copy, Debug, PartialEq, Eq)]
 pub enum RunError {
     /// The document is no scene, and this is the least refusal that stands. Nothing was written.
     Document(DocRefusal),
-    /// The document asks for what is not built yet: commands, or more than one entry of systems. Nothing was written.
-    NotYet,
     /// The reader failed, or gave bytes 4,294,967,295 times without its end. Nothing was written.
     Read,
     /// The writer failed, or took nothing, after so many bytes of the text had gone out.
@@ -33,16 +30,17 @@ pub enum RunError {
 
 /// The report and the text of the run of the document in these bytes.
 ///
-/// Errors: `Document`, with the least refusal that stands; `NotYet`, before all of these but `Unreadable`; `Memory`.
+/// Errors: `Document`, with the least refusal that stands; `Memory`.
 fn play<R: Rules + Drop, H: AllocGlobal>(
     rt: &H,
     rules: R,
     limits: Limits,
     bytes: &[u8],
 ) -> Result<(Report, Vec<u8>), LoadError>
+    requires { AreLimits limits }
     ensures { MatchResult result
-        (λ played. IsRunOf (R.book rules) limits.indices bytes.now played.0 played.1.items)
-        (IsNoDocument (R.book rules) limits.indices bytes.now) }
+        (λ played. IsRunOf (R.book rules) (bounds_of limits) bytes.now played.0 played.1.items)
+        (IsNoDocument (R.book rules) (bounds_of limits) bytes.now) }
 {
     let value = match read_json(rt.alloc(), bytes) {
         Ok(value) => value,
@@ -84,9 +82,7 @@ fn run_to_end<R: Rules + Drop, H: AllocGlobal>(rt: &H, scene: &mut Scene<R>)
 /// all frames asked for are run, or those up to the first that is refused; the text of the scene there is written, by as
 /// many writes as that takes, and flushed; and the report tells the accepted frames, the skipped commands and the refusal.
 ///
-/// Errors: `Document`, with the least refusal that stands; `NotYet`, before all of these but `Unreadable`, where the
-/// document has commands or more than one entry of systems; `Read`; `Memory`; with each of these nothing was written.
-/// `Write`, with the number of bytes of the text that went out, just its first ones.
+/// Errors: `Document`, with the least refusal that stands; `Read`; `Memory`; with each of these nothing was written. `Write`, with the number of bytes of the text that went out, just its first ones.
 ///
 /// The limits are at most the greatest ones, and `generation` is at least 1.
 pub fn run_with<R: Rules + Drop, H: AllocGlobal, I: CountedRead, O: CountedWrite>(
@@ -97,7 +93,7 @@ pub fn run_with<R: Rules + Drop, H: AllocGlobal, I: CountedRead, O: CountedWrite
     writer: &mut O,
 ) -> Result<Report, RunError>
     requires { AreLimits limits }
-    ensures { RunsDocument (R.book rules) limits.indices result
+    ensures { RunsDocument (R.book rules) (bounds_of limits) result
         (record {
           left_before = I.remaining reader.old;
           left_after = I.remaining reader.new;
@@ -121,7 +117,6 @@ pub fn run_with<R: Rules + Drop, H: AllocGlobal, I: CountedRead, O: CountedWrite
     let (report, text) = match play(rt, rules, limits, bytes.as_slice()) {
         Ok(played) => played,
         Err(LoadError::Document(refusal)) => return Err(RunError::Document(refusal)),
-        Err(LoadError::NotYet) => return Err(RunError::NotYet),
         Err(LoadError::Memory) => return Err(RunError::Memory),
     };
     match write_text(writer, text.as_slice()) {
@@ -138,7 +133,7 @@ pub fn run<R: Rules + Drop, H: AllocGlobal, I: CountedRead, O: CountedWrite>(
     reader: &mut I,
     writer: &mut O,
 ) -> Result<Report, RunError>
-    ensures { RunsDocument (R.book rules) 16777216 result
+    ensures { RunsDocument (R.book rules) full_bounds result
         (record {
           left_before = I.remaining reader.old;
           left_after = I.remaining reader.new;

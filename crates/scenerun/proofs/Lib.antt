@@ -1,3 +1,4 @@
 pub mod TurnLemmas
 pub mod GainLemmas
 pub mod LineLemmas
+pub mod AskLemmas

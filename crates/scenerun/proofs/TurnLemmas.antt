@@ -1,21 +1,19 @@
 -- Lemmas on the walk of a system over the ids.
-use Rattle.std.proofs.Common.{◌≡◌, ◌<◌, ℕ, zero, suc, ◌+◌, ℤ, Bool, true, false, ◌||◌, ◌&&◌, cond, eqb, length, List, [], ◌∷◌, ◌++◌, map, take, get_or, Option, Some, None, option_map, refl, sym, ◌∙◌, ap, subst, arith, rules, FitsSigned}
+use Rattle.std.proofs.Common.{◌≡◌, ◌<◌, ℕ, zero, suc, ◌+◌, ℤ, Bool, true, false, ◌||◌, ◌&&◌, cond, eqb, length, List, [], ◌∷◌, map, take, get_or, Option, Some, None, option_map, refl, sym, ◌∙◌, ap, arith, FitsSigned}
 use Rattle.std.specs.Int.{w64}
 use Rattle.std.specs.Str.{bytes_eq}
-use Rattle.std.specs.List.{list_any}
 use Rattle.std.proofs.lemmas.List.Folds.{list_any_more, list_any_at}
 use Rattle.std.proofs.lemmas.Bool.{false≢true}
 use Rattle.std.proofs.lemmas.Slice.Eq.{bytes_eq-Decides}
-use Rattle.std.proofs.lemmas.Bool.Decides.{Decides-eqb, nat_tests}
-use Rattle.scene.specs.Scenes.{lives}
-use Rattle.scene.specs.declared.view.PlainView.{PlainView}
-use Rattle.scene.specs.Lent.{shown, held, held_global, SameLoan}
+use Rattle.std.proofs.lemmas.Bool.Decides.{Decides-eqb}
+use Rattle.scene_rules.specs.Scenes.{lives}
+use Rattle.scene_rules.specs.declared.view.PlainView.{PlainView}
+use Rattle.scene_rules.specs.Lent.{shown, held, held_global, SameLoan}
 use Rattle.scenerun.specs.Numbers.{part_of, json_of}
 use Rattle.scenerun.specs.Gains.{Gains, sum_at, fragment_of}
 use Rattle.scenerun.specs.declared.data.Datum.{Datum}
-use Rattle.scenerun.specs.declared.data.Datum.TheVariants.{Whole}
-use Rattle.scene.specs.declared.rules.Stop.{Stop}
-use Rattle.scene.specs.declared.rules.Stop.TheVariants.{Refused, Memory}
+use Rattle.scene_rules.specs.declared.rules.Stop.{Stop}
+use Rattle.scene_rules.specs.declared.rules.Stop.TheVariants.{Refused, Memory, Full}
 use Rattle.scenerun.specs.Turns.{Fit, put_in, IsOverflowOf, IsOverflowAmong}
 
 -- each id of a list lives in it
@@ -71,6 +69,7 @@ summed sum ids sums place value all within is = is ∙ ap (λ xs. get_or xs plac
 pub IsOverflowAmong-of : (sum : ℕ → Option ℤ) (ids : List ℕ) (place : ℕ) (stop : Stop) → place < length ids → IsOverflowOf (sum (get_or ids place 0)) stop → IsOverflowAmong sum ids stop
 IsOverflowAmong-of sum ids place (Refused text) within told = (told.0, get_or ids place 0, told.1, lives-at ids place within, told.2, told.3)
 IsOverflowAmong-of sum ids place Memory within told = tt
+IsOverflowAmong-of sum ids place Full within told = absurd told
 
 -- what stands after the turn under the kind, under another, and of a stranger
 pub after-in : (sum : ℕ → Option ℤ) (kind : List ℕ) (ids : List ℕ) (held : ℕ → List ℕ → Option Datum) (id : ℕ) → lives id ids ≡ true → after sum kind ids held id kind ≡ put_in (sum id) (held id kind)

@@ -1,12 +1,12 @@
 -- What the systems do to numbers: each adds something to the number that an id has under one kind.
-use Rattle.std.specs.Prelude.{◌≡◌, ℕ, ℤ, ◌+ℤ◌, true, false, List, [], Option, Some, None, option_and_then, FitsSigned}
+use Rattle.std.specs.Prelude.{◌≡◌, ℕ, ℤ, ◌+ℤ◌, true, false, [], Option, Some, None, option_and_then, FitsSigned}
 use Rattle.std.specs.Int.{w64}
 use Rattle.std.specs.Str.{bytes_eq}
-use Rattle.scene.specs.Parts.{Name, Part}
-use Rattle.scene.specs.Rulebook.{Fragment, Outcome, leaves, refuses}
-use Rattle.scene.specs.Scenes.{lives}
-use Rattle.scene.specs.Lent.{lent}
-use Rattle.scene.specs.declared.view.PlainView.{PlainView}
+use Rattle.scene_rules.specs.Parts.{Name}
+use Rattle.scene_rules.specs.Rulebook.{Fragment, Outcome, leaves, refuses, fills}
+use Rattle.scene_rules.specs.Scenes.{lives}
+use Rattle.scene_rules.specs.Lent.{lent}
+use Rattle.scene_rules.specs.declared.view.PlainView.{PlainView}
 use Rattle.scenerun.specs.declared.data.Datum.{Datum}
 use Rattle.scenerun.specs.declared.data.Gain.{Gain}
 use Rattle.scenerun.specs.declared.data.Gain.TheVariants.{Under, Each}
@@ -53,6 +53,7 @@ Overflows kind gain old = (id : ℕ) × (sum : ℤ) × (lives id old.ids ≡ tru
 abbrev pub Gaining : Name → (ℕ → Option ℤ) → Fragment → Outcome → Type 0
 Gaining kind gain old (leaves new commands) = Gains kind gain old new × (commands ≡ [])
 Gaining kind gain old (refuses text) = (text ≡ overflow) × Overflows kind gain old
+Gaining kind gain old (fills commands) = ⊥
 
 -- what an id gains: the number that it has under a kind, or the same for each
 abbrev pub gain_in : Gain → Fragment → ℕ → Option ℤ

@@ -1,13 +1,13 @@
 -- The status of the program and the line on standard error, by what a run came to.
-use Rattle.std.specs.Prelude.{◌≡◌, ◌≤◌, ℕ, codes, decimal, List, [], ◌∷◌, ◌++◌, length, take, Option, Some, None, Result, Ok, Err, ◌⊎◌}
+use Rattle.std.specs.Prelude.{◌≤◌, ℕ, codes, decimal, List, [], ◌∷◌, length, take, Option, Some, None, Result, Ok, Err, ◌⊎◌}
 use Rattle.std.specs.List.{flat_map}
 use Rattle.std.specs.Io.KnownBytes.{Appends}
 use Rattle.scene_devices.specs.Faults.{HasFailed}
-use Rattle.scene.specs.declared.refusals.DocRefusal.{DocRefusal}
-use Rattle.scene.specs.declared.refusals.DocRefusal.TheVariants.{Unreadable, NotWhole, WrongShape, UnknownKind, DoubleId, IdNotBelowNext, Dangling, UnknownSystem, NameTaken, UnknownDependency, MissingGlobal, ReservedWrite, TooManyWorkers, TooManySystems, UnknownStore, TooManyEntities}
-use Rattle.scene.specs.declared.refusals.FrameRefusal.{FrameRefusal}
-use Rattle.scene.specs.declared.refusals.FrameRefusal.TheVariants.{System, GoneReference, IdsSpent, IndicesSpent, GenerationsSpent, TooManyCommands, Memory, Threads}
-use Rattle.scene.specs.declared.refusals.Report.{Report}
+use Rattle.scene_rules.specs.declared.refusals.DocRefusal.{DocRefusal}
+use Rattle.scene_rules.specs.declared.refusals.DocRefusal.TheVariants.{Unreadable, NotWhole, WrongShape, UnknownKind, DoubleId, IdNotBelowNext, Dangling, UnknownSystem, NameTaken, UnknownDependency, MissingGlobal, ReservedWrite, TooManyWorkers, TooManySystems, UnknownStore, TooManyEntities}
+use Rattle.scene_rules.specs.declared.refusals.FrameRefusal.{FrameRefusal}
+use Rattle.scene_rules.specs.declared.refusals.FrameRefusal.TheVariants.{System, GoneReference, IdsSpent, IndicesSpent, GenerationsSpent, TooManyCommands, Memory, Threads}
+use Rattle.scene_rules.specs.declared.refusals.Report.{Report}
 use Rattle.scene.specs.declared.runner.RunError.{RunError}
 use Rattle.scene.specs.declared.runner.RunError.TheVariants as run
 use Rattle.scenerun.specs.declared.lines.Piece.{Piece}
@@ -55,7 +55,6 @@ frame_line frame Threads = joined (codes "frame " ∷ decimal frame ∷ codes " 
 -- the line of a run that gave no report
 abbrev pub error_line : RunError → List ℕ
 error_line (run.Document refusal) = joined (codes "document refused: " ∷ name_of refusal ∷ codes "\n" ∷ [])
-error_line run.NotYet = joined (codes "document refused: NotYet\n" ∷ [])
 error_line run.Read = joined (codes "read failed\n" ∷ [])
 error_line (run.Write sent) = joined (codes "write failed after " ∷ decimal sent ∷ codes " bytes\n" ∷ [])
 error_line run.Memory = joined (codes "out of memory\n" ∷ [])
@@ -73,7 +72,6 @@ line_of (Err error) = error_line error
 -- the status of a run that gave no report
 abbrev pub error_status : RunError → ℕ
 error_status (run.Document refusal) = 1
-error_status run.NotYet = 1
 error_status run.Read = 3
 error_status (run.Write sent) = 3
 error_status run.Memory = 4

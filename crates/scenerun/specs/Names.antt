@@ -1,6 +1,6 @@
 -- The names of the parts, of the global and of the systems, by their bytes.
 use Rattle.std.specs.Prelude.{codes, List, [], ◌∷◌}
-use Rattle.scene.specs.Parts.{Name}
+use Rattle.scene_rules.specs.Parts.{Name}
 
 abbrev pub hp_kind : Name
 hp_kind = codes "hp"
@@ -25,6 +25,12 @@ pull_kind = codes "pull"
 
 abbrev pub decay_kind : Name
 decay_kind = codes "decay"
+
+abbrev pub reap_kind : Name
+reap_kind = codes "reap"
+
+abbrev pub bud_kind : Name
+bud_kind = codes "bud"
 
 -- the kinds of parts, ascending
 abbrev pub part_kinds : List Name

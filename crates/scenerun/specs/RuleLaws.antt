@@ -1,5 +1,5 @@
 -- Lemmas on what the rules read and write, and their laws.
-use Rattle.std.proofs.Common.{◌≡◌, ◌<◌, ◌^◌, ℕ, zero, suc, ◌+◌, ℤ, pos, negsuc, Bool, true, false, ◌||◌, ◌&&◌, cond, ltb, eqb, length, List, [], ◌∷◌, Option, Some, None, option_map, option_and_then, is_some, refl, sym, ◌∙◌, ap, subst, below_none, FitsSigned, All, Float}
+use Rattle.std.proofs.Common.{◌≡◌, ◌^◌, ℕ, ℤ, pos, negsuc, Bool, true, false, ◌&&◌, cond, eqb, [], ◌∷◌, Option, Some, None, option_map, option_and_then, is_some, refl, sym, ◌∙◌, ap, subst, below_none, FitsSigned, All}
 use Rattle.std.specs.Int.{w64}
 use Rattle.std.specs.Str.{bytes_eq}
 use Rattle.std.specs.Ordering.{nat_cmp}
@@ -11,17 +11,17 @@ use Rattle.std.proofs.lemmas.Bool.Decides.{Decides-ltb, Decides-eqb}
 use Rattle.std.proofs.lemmas.Slice.Eq.{bytes_eq-Decides}
 use Rattle.std.proofs.lemmas.List.Elements.{All-nil, All-cons}
 use Rattle.std.proofs.lemmas.List.Kept.{AllPairs-cons}
-use Rattle.serde_json.specs.Data.{Num, unsigned, negative, float, null, boolean, number, string, array, object}
-use Rattle.serde_json.specs.Find.{as_number, as_i64, as_integer, of_integer, as_null}
+use Rattle.serde_json.specs.Data.{unsigned, negative, float, null, boolean, number, string, array, object}
+use Rattle.serde_json.specs.Find.{as_number, as_i64, as_null}
 use Rattle.serde_json.specs.Written.{has_float}
-use Rattle.scene.specs.Parts.{Json, Name, Part, Ref, living, gone, is_among}
-use Rattle.scene.specs.Rulebook.{Facts}
-use Rattle.scene.specs.Laws.{Ascend, DeclaresKnown}
+use Rattle.scene_rules.specs.Parts.{Json, Name, Part, is_among}
+use Rattle.scene_rules.specs.Rulebook.{Facts}
+use Rattle.scene_rules.specs.Laws.{Ascend, DeclaresKnown}
 use Rattle.scenerun.specs.declared.data.Datum.{Datum}
 use Rattle.scenerun.specs.declared.data.Datum.TheVariants.{Whole, Owner}
 use Rattle.scenerun.specs.declared.data.BasicSystem.{BasicSystem}
-use Rattle.scenerun.specs.declared.data.BasicSystem.TheVariants.{Drift, Pull, Decay}
-use Rattle.scenerun.specs.Names.{hp_kind, owner_kind, pos_kind, vel_kind, g_name, drift_kind, pull_kind, decay_kind, part_kinds, number_kinds}
+use Rattle.scenerun.specs.declared.data.BasicSystem.TheVariants.{Drift, Pull, Decay, Reap, Bud}
+use Rattle.scenerun.specs.Names.{hp_kind, owner_kind, pos_kind, vel_kind, g_name, drift_kind, pull_kind, decay_kind, reap_kind, bud_kind, part_kinds, number_kinds}
 use Rattle.scenerun.specs.Numbers.{json_of, counting, referring, part_of, whole_in, is_signed, if_signed, signed_in, id_in, refers_once, refers_never, read_part, admits}
 use Rattle.scenerun.specs.Systems.{kind_of, system_named, access_of, facts_of, configured, basics}
 
@@ -164,16 +164,20 @@ pub system_named-kind_of : (system : BasicSystem) → system_named (kind_of syst
 system_named-kind_of Drift = refl
 system_named-kind_of Pull = refl
 system_named-kind_of Decay = refl
+system_named-kind_of Reap = refl
+system_named-kind_of Bud = refl
 
 -- a system that a kind names is of that kind
 pub kind_of-system_named : (kind : Name) (system : BasicSystem) → system_named kind ≡ Some system → kind_of system ≡ kind
-kind_of-system_named kind system is = here (bytes_eq kind drift_kind) (bytes_eq kind pull_kind) (bytes_eq kind decay_kind) ((bytes_eq-Decides kind drift_kind).0) ((bytes_eq-Decides kind pull_kind).0) ((bytes_eq-Decides kind decay_kind).0) is
+kind_of-system_named kind system is = here (bytes_eq kind drift_kind) (bytes_eq kind pull_kind) (bytes_eq kind decay_kind) (bytes_eq kind reap_kind) (bytes_eq kind bud_kind) ((bytes_eq-Decides kind drift_kind).0) ((bytes_eq-Decides kind pull_kind).0) ((bytes_eq-Decides kind decay_kind).0) ((bytes_eq-Decides kind reap_kind).0) ((bytes_eq-Decides kind bud_kind).0) is
   where
-    here : (a b c : Bool) → (a ≡ true → kind ≡ drift_kind) → (b ≡ true → kind ≡ pull_kind) → (c ≡ true → kind ≡ decay_kind) → cond a (Some Drift) (cond b (Some Pull) (cond c (Some Decay) None)) ≡ Some system → kind_of system ≡ kind
-    here true b c one two three e = subst (λ (s : BasicSystem). kind_of s ≡ kind) (same_Some Drift system e) (sym (one refl))
-    here false true c one two three e = subst (λ (s : BasicSystem). kind_of s ≡ kind) (same_Some Pull system e) (sym (two refl))
-    here false false true one two three e = subst (λ (s : BasicSystem). kind_of s ≡ kind) (same_Some Decay system e) (sym (three refl))
-    here false false false one two three e = absurd (none-some system e)
+    here : (a b c d f : Bool) → (a ≡ true → kind ≡ drift_kind) → (b ≡ true → kind ≡ pull_kind) → (c ≡ true → kind ≡ decay_kind) → (d ≡ true → kind ≡ reap_kind) → (f ≡ true → kind ≡ bud_kind) → cond a (Some Drift) (cond b (Some Pull) (cond c (Some Decay) (cond d (Some Reap) (cond f (Some Bud) None)))) ≡ Some system → kind_of system ≡ kind
+    here true b c d f one two three four five e = subst (λ (s : BasicSystem). kind_of s ≡ kind) (same_Some Drift system e) (sym (one refl))
+    here false true c d f one two three four five e = subst (λ (s : BasicSystem). kind_of s ≡ kind) (same_Some Pull system e) (sym (two refl))
+    here false false true d f one two three four five e = subst (λ (s : BasicSystem). kind_of s ≡ kind) (same_Some Decay system e) (sym (three refl))
+    here false false false true f one two three four five e = subst (λ (s : BasicSystem). kind_of s ≡ kind) (same_Some Reap system e) (sym (four refl))
+    here false false false false true one two three four five e = subst (λ (s : BasicSystem). kind_of s ≡ kind) (same_Some Bud system e) (sym (five refl))
+    here false false false false false one two three four five e = absurd (none-some system e)
 
 -- a configuration that is null is null
 pub null-as_null : (config : Json) → is_some (as_null config) ≡ true → null ≡ config
@@ -210,6 +214,8 @@ pub declares-known : (system : BasicSystem) → DeclaresKnown basics (access_of 
 declares-known Drift = record { reads = kind-known vel_kind refl; writes = kind-known pos_kind refl; read_globals = All-nil GlobalKnown; written_globals = All-nil GlobalKnown }
 declares-known Pull = record { reads = All-nil KindKnown; writes = kind-known vel_kind refl; read_globals = global-known; written_globals = All-nil GlobalKnown }
 declares-known Decay = record { reads = All-nil KindKnown; writes = kind-known hp_kind refl; read_globals = All-nil GlobalKnown; written_globals = All-nil GlobalKnown }
+declares-known Reap = record { reads = kind-known hp_kind refl; writes = All-nil KindKnown; read_globals = All-nil GlobalKnown; written_globals = All-nil GlobalKnown }
+declares-known Bud = record { reads = All-cons KindKnown hp_kind (pos_kind ∷ []) refl (kind-known pos_kind refl); writes = All-nil KindKnown; read_globals = All-nil GlobalKnown; written_globals = All-nil GlobalKnown }
 
 pub law-declares_known : (kind : Name) (config : Json) (facts : Facts) → configured (system_named kind) config ≡ Some (Some facts) → DeclaresKnown basics facts.access
 law-declares_known kind config facts e = here (system_named kind) e

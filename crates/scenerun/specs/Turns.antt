@@ -2,14 +2,14 @@
 use Rattle.std.specs.Prelude.{◌≡◌, ℕ, ℤ, true, List, Option, Some, None, IsTrue, FitsSigned, ◌==◌, ◌&&◌, if◌then◌else◌}
 use Rattle.std.specs.Int.{w64}
 use Rattle.std.specs.String.{string_bytes}
-use Rattle.scene.specs.declared.rules.Stop.{Stop}
-use Rattle.scene.specs.declared.rules.Stop.TheVariants.{Refused, Memory}
+use Rattle.scene_rules.specs.declared.rules.Stop.{Stop}
+use Rattle.scene_rules.specs.declared.rules.Stop.TheVariants.{Refused, Memory, Full}
 use Rattle.std.specs.Str.{bytes_eq}
-use Rattle.scene.specs.declared.view.PlainView.{PlainView}
-use Rattle.scene.specs.Parts.{Name}
-use Rattle.scene.specs.Lent.{held, held_global}
-use Rattle.scene.specs.Rulebook.{Access, declares}
-use Rattle.scene.specs.Scenes.{lives}
+use Rattle.scene_rules.specs.declared.view.PlainView.{PlainView}
+use Rattle.scene_rules.specs.Parts.{Name}
+use Rattle.scene_rules.specs.Lent.{held, held_global}
+use Rattle.scene_rules.specs.Rulebook.{Access, declares}
+use Rattle.scene_rules.specs.Scenes.{lives}
 use Rattle.scenerun.specs.declared.data.Datum.{Datum}
 use Rattle.scenerun.specs.declared.data.Datum.TheVariants.{Whole}
 use Rattle.scenerun.specs.declared.data.Gain.{Gain}
@@ -25,11 +25,13 @@ IsDeclared access (Each by) = Unit {0}
 abbrev pub IsOverflow : Stop → Type 0
 IsOverflow (Refused text) = string_bytes text ≡ overflow
 IsOverflow Memory = Unit {0}
+IsOverflow Full = ⊥
 
 -- a stop says `overflow` of a sum that does not fit, or that memory was wanting
 abbrev pub IsOverflowOf : Option ℤ → Stop → Type 0
 IsOverflowOf expected (Refused text) = (string_bytes text ≡ overflow) × (sum : ℤ) × (expected ≡ Some sum) × (¬ (FitsSigned w64 sum))
 IsOverflowOf expected Memory = Unit {0}
+IsOverflowOf expected Full = ⊥
 
 -- each sum of ids fits 64 signed bits
 abbrev pub Fit : (ℕ → Option ℤ) → List ℕ → Type 0
@@ -39,6 +41,7 @@ Fit sum ids = (id : ℕ) (value : ℤ) → lives id ids ≡ true → sum id ≡ 
 abbrev pub IsOverflowAmong : (ℕ → Option ℤ) → List ℕ → Stop → Type 0
 IsOverflowAmong sum ids (Refused text) = (string_bytes text ≡ overflow) × (id : ℕ) × (value : ℤ) × (lives id ids ≡ true) × (sum id ≡ Some value) × (¬ (FitsSigned w64 value))
 IsOverflowAmong sum ids Memory = Unit {0}
+IsOverflowAmong sum ids Full = ⊥
 
 -- the datum of an id after its turn: its sum, where it comes to one
 abbrev pub put_in : Option ℤ → Option Datum → Option Datum

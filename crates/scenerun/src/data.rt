@@ -33,6 +33,19 @@ pub enum BasicSystem {
     Pull,
     /// `decay`: hp loses 1.
     Decay,
+    /// `reap`: each entity with hp at most 0 dies.
+    Reap,
+    /// `bud`: each entity with hp at least 10 and a pos has an offspring with hp 1 there.
+    Bud,
+}
+
+/// What a system asks for in its turn, for each entity.
+#[derive(Clone, Copy)]
+pub enum Ask {
+    /// Its death, where its hp is at most 0.
+    Deaths,
+    /// A birth at its pos with hp 1, where its hp is at least 10.
+    Births,
 }
 
 /// What the number of an entity gains in a system's turn.

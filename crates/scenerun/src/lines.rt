@@ -50,7 +50,6 @@ pub fn status(outcome: &Result<Report, RunError>) -> u8
     match outcome {
         Ok(report) => if report.refused.is_some() { 2 } else { 0 },
         Err(RunError::Document(_)) => 1,
-        Err(RunError::NotYet) => 1,
         Err(RunError::Read) => 3,
         Err(RunError::Write(_)) => 3,
         Err(RunError::Memory) => 4,
@@ -167,7 +166,6 @@ fn write_error_line<E: CountedWrite>(err: &mut E, error: RunError)
                 ],
             )
         }
-        RunError::NotYet => write_pieces(err, &[Piece::Text("document refused: NotYet\n")]),
         RunError::Read => write_pieces(err, &[Piece::Text("read failed\n")]),
         RunError::Write(sent) => {
             write_pieces(

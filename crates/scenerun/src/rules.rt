@@ -2,7 +2,7 @@
 ghost use Rattle.std.specs.Prelude.{◌≡◌, None, Some};
 ghost use Rattle.std.proofs.Common.{rules};
 ghost use Rattle.serde_json.specs.View.{view};
-ghost use Rattle.scene.specs.Parts.{is_among};
+ghost use Rattle.scene_rules.specs.Parts.{is_among};
 ghost use Rattle.scenerun.specs.Names.{number_kinds};
 ghost use Rattle.serde_json.specs.Data.{null};
 ghost use Rattle.scenerun.specs.Numbers.{part_of, json_of, signed_in};
@@ -10,12 +10,12 @@ ghost use Rattle.scenerun.specs.Systems.{basics, kind_of, system_named};
 
 use crate::data::{BasicSystem, Datum, G, HP, OWNER, POS, VEL};
 use crate::systems::turn;
-use scene::{Accessor, PlainView, ReadError, Rules, RunningTime, Stop};
+use scene::{Accessor, PlainView, Queue, ReadError, Rules, RunningTime, Stop};
 use serde_json::Value;
 use std::alloc::{AllocError, Global};
 
-/// The rules of the program: the parts `hp`, `owner`, `pos` and `vel`, the global `g`, and the systems `drift`, `pull`
-/// and `decay`.
+/// The rules of the program: the parts `hp`, `owner`, `pos` and `vel`, the global `g`, and the systems `drift`, `pull`,
+/// `decay`, `reap` and `bud`.
 #[derive(Clone, Copy, Debug)]
 pub struct Basics;
 
@@ -31,6 +31,12 @@ pub fn system_of(kind: &str) -> Option<BasicSystem>
     }
     if kind == "decay" {
         return Some(BasicSystem::Decay);
+    }
+    if kind == "reap" {
+        return Some(BasicSystem::Reap);
+    }
+    if kind == "bud" {
+        return Some(BasicSystem::Bud);
     }
     None
 }
@@ -151,6 +157,20 @@ impl Rules for Basics {
                 written_globals: Vec::new(alloc),
                 writes_reserved: false,
             }),
+            BasicSystem::Reap => Ok(Accessor {
+                reads: vec![in alloc; HP]?,
+                writes: Vec::new(alloc),
+                read_globals: Vec::new(alloc),
+                written_globals: Vec::new(alloc),
+                writes_reserved: false,
+            }),
+            BasicSystem::Bud => Ok(Accessor {
+                reads: vec![in alloc; HP, POS]?,
+                writes: Vec::new(alloc),
+                read_globals: Vec::new(alloc),
+                written_globals: Vec::new(alloc),
+                writes_reserved: false,
+            }),
         }
     }
 
@@ -165,8 +185,9 @@ impl Rules for Basics {
         rt: &H,
         system: &mut BasicSystem,
         view: &mut PlainView<'_, Datum, i64>,
+        queue: &mut Queue<Datum>,
     ) -> Result<(), Stop> {
-        turn(rt, *system, view)
+        turn(rt, *system, view, queue)
     }
 
     ghost kinds_ascend = { λ _. law-kinds_ascend };

@@ -1,5 +1,7 @@
 //! Rows of the scene document: documents with the status, the text and the line that they give.
 mod devices;
+mod frames;
+mod orders;
 
 use crate::program::program;
 use crate::rules::Basics;
@@ -9,7 +11,7 @@ use std::process::Abort;
 use std::test::Fail;
 
 /// What the program makes of a document that a slice gives.
-fn check<H: AllocGlobal + Abort>(
+pub(crate) fn check<H: AllocGlobal + Abort>(
     rt: &H,
     document: &str,
     status: u8,
@@ -131,7 +133,7 @@ fn documents_are_refused_by_name(rt: HostRuntime) -> Result<(), Fail> {
         ),
         ("{\"next\":0,\"entities\":[],\"store\":null}", "WrongShape"),
         (
-            "{\"next\":0,\"entities\":[],\"systems\":[{\"kind\":\"reap\"}]}",
+            "{\"next\":0,\"entities\":[],\"systems\":[{\"kind\":\"eat\"}]}",
             "UnknownSystem",
         ),
         (
@@ -156,13 +158,8 @@ fn documents_are_refused_by_name(rt: HostRuntime) -> Result<(), Fail> {
         ),
         (
             "{\"next\":0,\"entities\":[],\"commands\":[[{\"put\":{\"id\":0,\"kind\":\"mana\",\"value\":1}}]]}",
-            "NotYet",
+            "UnknownKind",
         ),
-        (
-            "{\"next\":0,\"entities\":[],\"systems\":[{\"kind\":\"drift\"},{\"kind\":\"decay\"}]}",
-            "NotYet",
-        ),
-        ("{\"next\":1.5,\"commands\":[]}", "NotYet"),
     ];
     for (document, name) in rows {
         let line = format!(in rt.alloc(); "document refused: {name}\n")?;

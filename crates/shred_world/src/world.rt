@@ -217,6 +217,21 @@ impl<V> World<V> {
         self.slot_mut(id)?.take()
     }
 
+    /// Makes an empty slot under `id`, where there is none: `put_back` then takes no memory.
+    ///
+    /// Errors: want of memory, which leaves the world as it was.
+    pub fn make_slot(&mut self, id: ResourceId) -> Result<(), AllocError>
+    where
+        V: Drop,
+        ensures ok { OnOk result (MatchOption (map.get self.old id) (self.new ≡ map.insert self.old id None) (λ _. self.new ≡ self.old)) }
+        ensures err { OnErr result (self.new ≡ self.old) }
+    {
+        if self.slot(id).is_some() {
+            return Ok(());
+        }
+        self.open_slot(id)
+    }
+
     /// Puts a value back into the slot that was left under `id`.
     pub fn put_back(&mut self, id: ResourceId, value: V)
         requires is_out { map.get self.old id ≡ Some None }
@@ -408,6 +423,20 @@ impl<V> World<V> {
                 },
             ) => Err(AllocFailed { value }),
             Err(_) => unreachable!(),
+        }
+    }
+
+    /// Puts an empty slot under `id`, where there is none.
+    fn open_slot(&mut self, id: ResourceId) -> Result<(), AllocError>
+    where
+        V: Drop,
+        requires absent { map.get self.old id ≡ None }
+        ensures ok { OnOk result (self.new ≡ map.insert self.old id None) }
+        ensures err { OnErr result (self.new ≡ self.old) }
+    {
+        match self.values.insert(id, None) {
+            Ok(_) => Ok(()),
+            Err(_) => Err(AllocError),
         }
     }
 

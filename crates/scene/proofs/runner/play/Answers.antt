@@ -1,6 +1,7 @@
 use Rattle.std.proofs.Common.{◌≡◌, ◌∙◌, subst}
 use Rattle.serde_json.specs.View.{view}
-use Rattle.scene.specs.Texts.{text_of}
+use Rattle.scene_document.specs.Texts.{text_of}
+use Rattle.scene.specs.Outcomes.{bounds_of}
 use Rattle.scene.specs.Turns.{shown_of, rules_of, RunsOut}
 use Rattle.scene.proofs.OutcomeLemmas.{run_of}
 use Rattle.scene.proofs.runner.play.Goals as goal
@@ -9,7 +10,7 @@ pub returns : goal.returns
 returns g c =
     let opened = c.in-Ok-load.ensures in
     let same : rules_of c.run_to_end.new.scene ≡ c.args.rules = c.run_to_end.ensures.rules ∙ opened.same_rules in
-    run_of (g.R.Rules.book c.args.rules) c.args.limits.indices c.args.bytes.now (view c.in-Ok.value) opened.document.0 (shown_of g.R.Rules.part_of g.R.Rules.global_of g.R.Rules.kind_of g.R.Rules.config_of g.R.Rules.book c.in-Ok-load.scene) (shown_of g.R.Rules.part_of g.R.Rules.global_of g.R.Rules.kind_of g.R.Rules.config_of g.R.Rules.book c.run_to_end.new.scene) c.into_report.result c.in-Ok-snapshot.text.items
+    run_of (g.R.Rules.book c.args.rules) (bounds_of c.args.limits) c.args.bytes.now (view c.in-Ok.value) opened.document.0 (shown_of g.R.Rules.part_of g.R.Rules.global_of g.R.Rules.kind_of g.R.Rules.config_of g.R.Rules.book c.in-Ok-load.scene) (shown_of g.R.Rules.part_of g.R.Rules.global_of g.R.Rules.kind_of g.R.Rules.config_of g.R.Rules.book c.run_to_end.new.scene) c.into_report.result c.in-Ok-snapshot.text.items
     c.in-Ok.ensures opened.document.1 opened.document.2
     (subst (λ one. RunsOut (g.R.Rules.book one) (shown_of g.R.Rules.part_of g.R.Rules.global_of g.R.Rules.kind_of g.R.Rules.config_of g.R.Rules.book c.in-Ok-load.scene) (shown_of g.R.Rules.part_of g.R.Rules.global_of g.R.Rules.kind_of g.R.Rules.config_of g.R.Rules.book c.run_to_end.new.scene)) opened.same_rules c.run_to_end.ensures.end)
     c.into_report.ensures

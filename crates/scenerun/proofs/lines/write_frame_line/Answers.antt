@@ -1,5 +1,5 @@
 use Rattle.std.proofs.Common.{List, ℕ, sym, ap, ◌∙◌}
-use Rattle.scene.specs.declared.refusals.FrameRefusal.TheVariants.{System}
+use Rattle.scene_rules.specs.declared.refusals.FrameRefusal.TheVariants.{System}
 use Rattle.scenerun.specs.Lines.{frame_line}
 use Rattle.scenerun.proofs.LineLemmas.{Tells-same}
 use Rattle.scenerun.proofs.lines.write_frame_line.Goals as goal

@@ -1,9 +1,9 @@
-use Rattle.std.proofs.Common.{◌≡◌, ℕ, List, ap, subst, length, take}
+use Rattle.std.proofs.Common.{List, subst}
 use Rattle.std.specs.List.{flat_map}
 use Rattle.std.specs.Io.KnownBytes.{Appends}
 use Rattle.std.proofs.lemmas.List.{take_all}
 use Rattle.scenerun.specs.declared.lines.Piece.{Piece}
-use Rattle.scenerun.specs.Lines.{piece_text, Tells}
+use Rattle.scenerun.specs.Lines.{piece_text}
 use Rattle.scenerun.proofs.LineLemmas.{Tells-part, Tells-all}
 use Rattle.scenerun.proofs.lines.write_pieces.Goals as goal
 

@@ -1,5 +1,5 @@
 use Rattle.std.proofs.Common.{◌≡◌, ℕ, List, take}
-use Rattle.scene.specs.Lent.{held, held_global, SameLoan}
+use Rattle.scene_rules.specs.Lent.{held, held_global, SameLoan}
 use Rattle.scenerun.specs.Gains.{fragment_of, sum_at, gain_in}
 use Rattle.scenerun.proofs.TurnLemmas.{after}
 use Rattle.scenerun.proofs.systems.gain_each.Given as goal

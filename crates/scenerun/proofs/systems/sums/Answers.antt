@@ -1,4 +1,4 @@
-use Rattle.std.proofs.Common.{◌≡◌, List, ℕ, subst}
+use Rattle.std.proofs.Common.{List, ℕ, subst}
 use Rattle.scenerun.specs.Gains.{fragment_of, sum_at, gain_in}
 use Rattle.scenerun.specs.Turns.{IsOverflowAmong}
 use Rattle.scenerun.proofs.TurnLemmas.{IsOverflowAmong-of}

@@ -1,0 +1,12 @@
+use Rattle.std.proofs.Common.{◌≡◌, subst, sym, IfOk, slice_index_or, rules}
+use Rattle.hibitset.specs.Producer.{items_of}
+use Rattle.hibitset.proofs.FoldLemmas.{if_ok_both, zip-places}
+use Rattle.hibitset.proofs.par_iter.collect_parts.Goals as goal
+
+pub returns : goal.returns
+returns g c = if_ok_both c.map_vec.result c.map_vec.ensures.len c.map_vec.ensures.each (λ v len gives.
+    zip-places _ c.args.parts.items v.items (search rules) (λ i p d low.
+    let job = (gives i d low).1 in
+    let is = job.job_is p in
+    subst (λ x. IfOk (slice_index_or v.items i d) (λ l. l.items ≡ items_of g.T.BitSetLike.members x)) (sym is)
+    (let call = job.call in search rules)))

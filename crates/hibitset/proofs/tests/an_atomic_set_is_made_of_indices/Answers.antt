@@ -1,0 +1,14 @@
+use Rattle.std.proofs.Common.{ℕ, ◌≤◌, ap, arith}
+use Rattle.std.specs.declared.ops.Range.{Range}
+use Rattle.std.proofs.iter.Yields.{nat_range_steps}
+use Rattle.hibitset_sets.specs.Extend.{IsIndex}
+use Rattle.hibitset_sets.proofs.ExtendLemmas.{All_yielded}
+use Rattle.hibitset.proofs.tests.an_atomic_set_is_made_of_indices.Goals as goal
+
+pub from_indices-requires : goal.from_indices-requires
+from_indices-requires g c it h =
+    (tt, tt, λ xs t y. All_yielded nat_range_steps (λ s. s.end ≤ 16777216) IsIndex (λ s x u i p. (omega arith, omega arith)) it xs t (omega (arith, ap (λ (r : Range ℕ). r.end) h)) y)
+
+pub extend_indices-requires : goal.extend_indices-requires
+extend_indices-requires g c it h =
+    (tt, tt, λ xs t y. All_yielded nat_range_steps (λ s. s.end ≤ 16777216) IsIndex (λ s x u i p. (omega arith, omega arith)) it xs t (omega (arith, ap (λ (r : Range ℕ). r.end) h)) y)

@@ -1,0 +1,5 @@
+pub mod Split
+pub mod Cut
+pub mod Producer
+pub mod Standing
+pub mod Folds

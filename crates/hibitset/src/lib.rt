@@ -1,0 +1,28 @@
+//! Sets of indices in four layers of words, their splits, and work over them in several threads.
+//!
+//! Sets, operators and walks are those of `hibitset_sets`, under the same names. This crate adds
+//! producers, which can be split, parallel walks, and the set whose bits threads will set together.
+#![tactic(auto)]
+
+pub mod atomic;
+pub mod flat;
+pub mod laws;
+pub mod par_iter;
+pub mod parallel;
+pub mod producer;
+
+pub use atomic::AtomicBitSet;
+pub use flat::map_indices;
+pub use hibitset_sets::average_ones::average_ones;
+pub use hibitset_sets::count::{Counter, Uncounted};
+pub use hibitset_sets::util::{BITS, LAYERS, MAX, Row, SHIFT0, SHIFT1, SHIFT2, SHIFT3, offsets};
+pub use hibitset_sets::{
+    BitIter, BitSet, BitSetAll, BitSetAnd, BitSetLike, BitSetNot, BitSetOr, BitSetXor,
+    DrainBitIter, DrainableBitSet, Index, KeptMasks, MAX_EID,
+};
+pub use par_iter::BitParIter;
+pub use parallel::ParBitSetLike;
+pub use producer::BitProducer;
+
+#[cfg(test)]
+mod tests;

@@ -1,0 +1,20 @@
+//! Sets whose walk threads can share.
+ghost use Rattle.std.specs.Prelude.{◌≡◌};
+
+use crate::par_iter::BitParIter;
+use hibitset_sets::BitSetLike;
+
+/// What every set has, for walks in several threads.
+pub trait ParBitSetLike: BitSetLike {
+    /// A walk over the members below `MAX_EID` that threads share. Three of its layers may be split.
+    final fn par_iter(self) -> BitParIter<Self>
+    where
+        Self: Sized,
+        ensures set { result.set ≡ self }
+        ensures layers { result.layers ≡ 3 }
+    {
+        BitParIter::new(self)
+    }
+}
+
+impl<T: BitSetLike> ParBitSetLike for T {}

@@ -1,7 +1,0 @@
-use Rattle.std.proofs.Common.{◌≡◌, false, take}
-use Rattle.std.specs.List.{list_any}
-use Rattle.scene.specs.Refusals.{entity_dangles}
-use Rattle.scene.proofs.refusal.dangles.Given as goal
-
-abbrev pub invariant-loop-entity : goal.invariant-loop-entity
-invariant-loop-entity g l = list_any (entity_dangles g.R.Rules.part_of l.ids.keys) (take l.entity-index l.draft.entities.items) ≡ false

@@ -1,7 +1,0 @@
-use Rattle.std.proofs.Common.{◌≡◌, false, take}
-use Rattle.std.specs.List.{list_any}
-use Rattle.scene.specs.Refusals.{datum_dangles}
-use Rattle.scene.proofs.refusal.entity_dangles.Given as goal
-
-abbrev pub invariant-loop-part : goal.invariant-loop-part
-invariant-loop-part g l = list_any (datum_dangles g.R.Rules.part_of l.ids.keys) (take l.part-index l.entity.parts.items) ≡ false

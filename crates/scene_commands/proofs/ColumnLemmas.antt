@@ -1,0 +1,124 @@
+-- Lemmas on columns and slots: what stands under a name after a slot of one of them was set.
+use Rattle.std.proofs.Common.{◌≡◌, ◌≢◌, ◌≤◌, ◌<◌, ℕ, zero, suc, ◌+◌, ◌==◌, ◌&&◌, ◌||◌, Bool, true, false, cond, List, [], ◌∷◌, ◌++◌, Option, Some, None, option_and_then, refl, sym, ◌∙◌, ap, ⊎_elim, length, slice_set, arith}
+use Rattle.std.proofs.lemmas.Option.{slice_get_within, none-some, same_Some}
+use Rattle.std.proofs.lemmas.Bool.{cases_Bool, cases_eq, false≢true}
+use Rattle.std.proofs.lemmas.Bool.Decides.{nat_tests}
+use Rattle.std.proofs.Math.Bool.{and-true, and-false}
+use Rattle.std.proofs.lemmas.Slice.Eq.{bytes_eq-Decides}
+use Rattle.std.specs.Str.{bytes_eq}
+use Rattle.std.specs.List.{slice_get, position_from}
+use Rattle.std.specs.Map.{lookup}
+use Rattle.std.specs.Ordering.{nat_cmp}
+use Rattle.std.specs.BTreeMap.{BTreeMap, get, is_at}
+use Rattle.scene_rules.specs.Parts.{Name, place_of, is_among}
+use Rattle.scene_rules.specs.Slots.{in_column, filled}
+use Rattle.scene_commands.specs.Over.{slot, slot_in}
+
+-- what was set at a place stands there
+pub slice_get-set_same : {X : Type 0} (xs : List X) (i : ℕ) (x : X) → i < length xs → slice_get (slice_set xs i x) i ≡ Some x
+slice_get-set_same [] i x below = absurd (omega arith)
+slice_get-set_same (y ∷ ys) zero x below = refl
+slice_get-set_same (y ∷ ys) (suc i) x below = slice_get-set_same ys i x (omega arith)
+
+-- other places keep what they had
+pub slice_get-set_other : {X : Type 0} (xs : List X) (i j : ℕ) (x : X) → j ≢ i → slice_get (slice_set xs i x) j ≡ slice_get xs j
+slice_get-set_other [] i j x differ = refl
+slice_get-set_other (y ∷ ys) zero zero x differ = absurd (differ refl)
+slice_get-set_other (y ∷ ys) zero (suc j) x differ = refl
+slice_get-set_other (y ∷ ys) (suc i) zero x differ = refl
+slice_get-set_other (y ∷ ys) (suc i) (suc j) x differ = slice_get-set_other ys i j x (λ same. differ (ap (λ n. suc n) same))
+
+-- a place that is found is at or after the start
+pub position_from-least : {X : Type 0} (p : X → Bool) (i place : ℕ) (xs : List X) → position_from p i xs ≡ Some place → i ≤ place
+position_from-least p i place [] e = absurd (none-some place e)
+position_from-least p i place (x ∷ xs) e = here (p x) (λ found. position_from-least p (i + 1) place xs found) e
+  where
+    here : (b : Bool) → (position_from p (i + 1) xs ≡ Some place → i + 1 ≤ place) → cond b (Some i) (position_from p (i + 1) xs) ≡ Some place → i ≤ place
+    here true later found = let same : i ≡ place = same_Some i place found in omega arith
+    here false later found = let past : i + 1 ≤ place = later found in omega arith
+
+-- two names that are found at one place are one name
+pub one_place : (name kind : List ℕ) (i place : ℕ) (names : List (List ℕ)) → position_from (λ other. bytes_eq other name) i names ≡ Some place → position_from (λ other. bytes_eq other kind) i names ≡ Some place → name ≡ kind
+one_place name kind i place [] e f = absurd (none-some place e)
+one_place name kind i place (x ∷ xs) e f = here (bytes_eq x name) (bytes_eq x kind) (λ t. (bytes_eq-Decides x name).0 t) (λ t. (bytes_eq-Decides x kind).0 t) (λ g h. one_place name kind (i + 1) place xs g h) e f
+  where
+    here : (b c : Bool) → (b ≡ true → x ≡ name) → (c ≡ true → x ≡ kind) → (position_from (λ other. bytes_eq other name) (i + 1) xs ≡ Some place → position_from (λ other. bytes_eq other kind) (i + 1) xs ≡ Some place → name ≡ kind) → cond b (Some i) (position_from (λ other. bytes_eq other name) (i + 1) xs) ≡ Some place → cond c (Some i) (position_from (λ other. bytes_eq other kind) (i + 1) xs) ≡ Some place → name ≡ kind
+    here true true one two later found found' = sym (one refl) ∙ two refl
+    here true false one two later found found' = let same : i ≡ place = same_Some i place found in let past : i + 1 ≤ place = position_from-least (λ other. bytes_eq other kind) (i + 1) place xs found' in absurd (omega arith)
+    here false true one two later found found' = let same : i ≡ place = same_Some i place found' in let past : i + 1 ≤ place = position_from-least (λ other. bytes_eq other name) (i + 1) place xs found in absurd (omega arith)
+    here false false one two later found found' = later found found'
+
+-- what stands under a name, where the list goes with the names
+abbrev pub under_name : {X : Type 0} → List Name → List X → Name → Option X
+under_name names xs name = option_and_then (λ place. slice_get xs place) (place_of name names)
+
+-- after a place was set, the name of that place has the new, every other name what it had
+pub under_name-set : {X : Type 0} (names : List Name) (xs : List X) (kind name : Name) (place : ℕ) (x : X) → place_of kind names ≡ Some place → place < length xs → under_name names (slice_set xs place x) name ≡ cond (bytes_eq name kind) (Some x) (under_name names xs name)
+under_name-set names xs kind name place x found below = ⊎_elim same other (cases_Bool (bytes_eq name kind))
+  where
+    same : bytes_eq name kind ≡ true → under_name names (slice_set xs place x) name ≡ cond (bytes_eq name kind) (Some x) (under_name names xs name)
+    same t = let one : name ≡ kind = (bytes_eq-Decides name kind).0 t in rw t (rw one (rw found (slice_get-set_same xs place x below)))
+
+    by_place : bytes_eq name kind ≡ false → (o : Option ℕ) → place_of name names ≡ o → option_and_then (λ i. slice_get (slice_set xs place x) i) o ≡ option_and_then (λ i. slice_get xs i) o
+    by_place f None e = refl
+    by_place f (Some j) e = slice_get-set_other xs place j x (λ equal. false≢true (sym f ∙ (bytes_eq-Decides name kind).1 (one_place name kind 0 place names (e ∙ ap (λ n. Some n) equal) found)))
+
+    other : bytes_eq name kind ≡ false → under_name names (slice_set xs place x) name ≡ cond (bytes_eq name kind) (Some x) (under_name names xs name)
+    other f = rw f (by_place f (place_of name names) refl)
+
+-- a column that was updated at an id has this slot there, and what it had elsewhere
+pub slot_in-new : {D : Type 0} (id : ℕ) (old new : BTreeMap ℕ (Option D)) (set_to : Option (Option D)) → ((q : ℕ) → get nat_cmp new q ≡ cond (is_at (nat_cmp id) q) set_to (get nat_cmp old q)) → (other : ℕ) → get nat_cmp new other ≡ cond (other == id) set_to (get nat_cmp old other)
+slot_in-new id old new set_to updates other = updates other ∙ ap (λ b. cond b set_to (get nat_cmp old other)) at
+  where
+    at : is_at (nat_cmp id) other ≡ (other == id)
+    at = grind (arith, nat_tests)
+
+-- the slot of an id under a kind, after the column of a kind was updated at an id
+pub slot-set : {D : Type 0} (names : List Name) (columns : List (BTreeMap ℕ (Option D))) (kind : Name) (place id : ℕ) (old new : BTreeMap ℕ (Option D)) (set_to : Option (Option D)) → place_of kind names ≡ Some place → slice_get columns place ≡ Some old → ((q : ℕ) → get nat_cmp new q ≡ cond (is_at (nat_cmp id) q) set_to (get nat_cmp old q)) → (other : ℕ) (name : Name) → slot names (slice_set columns place new) other name ≡ cond (other == id && bytes_eq name kind) set_to (slot names columns other name)
+slot-set names columns kind place id old new set_to found stands updates other name = rw (under_name-set names columns kind name place new found (slice_get_within columns place old stands)) (⊎_elim same differ (cases_Bool (bytes_eq name kind)))
+  where
+    same : bytes_eq name kind ≡ true → slot_in (cond (bytes_eq name kind) (Some new) (under_name names columns name)) other ≡ cond (other == id && bytes_eq name kind) set_to (slot_in (under_name names columns name) other)
+    same t = let one : name ≡ kind = (bytes_eq-Decides name kind).0 t in rw t (rw (and-true, one, found, stands) (slot_in-new id old new set_to updates other))
+
+    differ : bytes_eq name kind ≡ false → slot_in (cond (bytes_eq name kind) (Some new) (under_name names columns name)) other ≡ cond (other == id && bytes_eq name kind) set_to (slot_in (under_name names columns name) other)
+    differ f = rw (f, and-false) refl
+
+-- what stands in a column at an id is what its slot there holds
+pub in_column-slot : {D : Type 0} (column : Option (BTreeMap ℕ (Option D))) (id : ℕ) → in_column column id ≡ filled (slot_in column id)
+in_column-slot None id = refl
+in_column-slot (Some column) id = refl
+
+-- the datum of an id under a kind, after the column of a kind was updated at an id
+pub datum-set : {D : Type 0} (names : List Name) (columns : List (BTreeMap ℕ (Option D))) (kind : Name) (place id : ℕ) (old new : BTreeMap ℕ (Option D)) (set_to : Option D) → place_of kind names ≡ Some place → slice_get columns place ≡ Some old → ((q : ℕ) → get nat_cmp new q ≡ cond (is_at (nat_cmp id) q) (Some set_to) (get nat_cmp old q)) → (other : ℕ) (name : Name) → in_column (under_name names (slice_set columns place new) name) other ≡ cond (other == id && bytes_eq name kind) set_to (in_column (under_name names columns name) other)
+datum-set names columns kind place id old new set_to found stands updates other name = in_column-slot (under_name names (slice_set columns place new) name) other ∙ ap filled (slot-set names columns kind place id old new (Some set_to) found stands updates other name) ∙ here (other == id && bytes_eq name kind)
+  where
+    here : (b : Bool) → filled (cond b (Some set_to) (slot_in (under_name names columns name) other)) ≡ cond b set_to (in_column (under_name names columns name) other)
+    here true = refl
+    here false = sym (in_column-slot (under_name names columns name) other)
+
+-- what stands in columns at a place and an id, after a slot of one of them was set
+pub place-set : {D : Type 0} (columns : List (BTreeMap ℕ (Option D))) (place id : ℕ) (old new : BTreeMap ℕ (Option D)) (set_to : Option D) → slice_get columns place ≡ Some old → ((q : ℕ) → get nat_cmp new q ≡ cond (is_at (nat_cmp id) q) (Some set_to) (get nat_cmp old q)) → (at other : ℕ) → (other == id) ≡ false → in_column (slice_get (slice_set columns place new) at) other ≡ in_column (slice_get columns at) other
+place-set columns place id old new set_to stands updates at other apart = ⊎_elim here elsewhere (cases_eq at place)
+  where
+    here : at ≡ place → in_column (slice_get (slice_set columns place new) at) other ≡ in_column (slice_get columns at) other
+    here same = rw (same, slice_get-set_same columns place new (slice_get_within columns place old stands), stands) (ap filled (rw apart at (slot_in-new id old new (Some set_to) updates other)))
+
+    elsewhere : at ≢ place → in_column (slice_get (slice_set columns place new) at) other ≡ in_column (slice_get columns at) other
+    elsewhere far = rw (slice_get-set_other columns place at new far) refl
+
+-- a name that is not found does not stand among the names
+pub not_among : (name : List ℕ) (i : ℕ) (names : List (List ℕ)) → position_from (λ other. bytes_eq other name) i names ≡ None → is_among name names ≡ false
+not_among name i [] e = refl
+not_among name i (x ∷ xs) e = here (bytes_eq x name) (bytes_eq name x) (λ t. (bytes_eq-Decides x name).1 (sym ((bytes_eq-Decides name x).0 t))) (not_among name (i + 1) xs) e
+  where
+    here : (b c : Bool) → (c ≡ true → b ≡ true) → (position_from (λ other. bytes_eq other name) (i + 1) xs ≡ None → is_among name xs ≡ false) → cond b (Some i) (position_from (λ other. bytes_eq other name) (i + 1) xs) ≡ None → (c || is_among name xs) ≡ false
+    here true c turned later none = absurd (none-some i (sym none))
+    here false true turned later none = absurd (false≢true (turned refl))
+    here false false turned later none = later none
+
+-- columns without slots with one more
+pub slot-push : {D : Type 0} (columns : List (BTreeMap ℕ (Option D))) (column : BTreeMap ℕ (Option D)) → column.entries ≡ [] → ((place id : ℕ) → slot_in (slice_get columns place) id ≡ None) → (place id : ℕ) → slot_in (slice_get (columns ++ column ∷ []) place) id ≡ None
+slot-push [] column empty none zero id = ap (lookup (is_at (nat_cmp id))) empty
+slot-push [] column empty none (suc place) id = refl
+slot-push (x ∷ columns) column empty none zero id = none zero id
+slot-push (x ∷ columns) column empty none (suc place) id = slot-push columns column empty (λ p i. none (suc p) i) place id

@@ -1,0 +1,11 @@
+pub mod LivingLemmas
+pub mod CutLemmas
+pub mod RanLemmas
+pub mod ColumnLemmas
+pub mod OverLemmas
+pub mod ChangeLemmas
+pub mod WalkLemmas
+pub mod GoneLemmas
+pub mod FrameLemmas
+pub mod CommitLemmas
+pub mod FinalLemmas

@@ -1,0 +1,71 @@
+-- Lemmas on the ids of entities, in order and in a set.
+use Rattle.std.proofs.Common.{◌≡◌, ℕ, suc, ◌+◌, ◌-◌, ◌<◌, ◌≤◌, Bool, true, false, not, cond, eqb, ltb, ◌||◌, List, [], ◌∷◌, length, get_or, drop, refl, ap, sym, ◌∙◌, arith}
+use Rattle.std.specs.List.{list_any}
+use Rattle.std.specs.Ordering.{nat_cmp, is_eq, match_ordering}
+use Rattle.std.specs.BTreeSet.{insert_key}
+use Rattle.std.specs.declared.cmp.Ordering.{Ordering}
+use Rattle.std.specs.declared.cmp.Ordering.TheVariants.{Less, Equal, Greater}
+use Rattle.std.proofs.Math.Seq.{drop-cons}
+use Rattle.std.proofs.lemmas.Bool.{eqb-true}
+use Rattle.std.proofs.lemmas.Bool.Decides.{nat_tests}
+use Rattle.scene_rules.specs.Scenes.{lives}
+use Rattle.scene_document.specs.Documents.{has_double}
+use Rattle.scene_document.specs.Openings.{ascending}
+use Rattle.scene_document.proofs.BuildLemmas.{is_eq-nat_cmp}
+
+-- a set has an id exactly where it stands among its keys
+pub contains-lives : (id : ℕ) (keys : List ℕ) → list_any (λ other. is_eq (nat_cmp id other)) keys ≡ lives id keys
+contains-lives id [] = refl
+contains-lives id (other ∷ keys) = ap (λ b. b || list_any (λ one. is_eq (nat_cmp id one)) keys) (is_eq-nat_cmp id other) ∙ ap (λ b. eqb other id || b) (contains-lives id keys)
+
+-- two tests in the other order, and one test twice
+or_swap : (a b c : Bool) → (a || (b || c)) ≡ (b || (a || c))
+or_swap true true c = refl
+or_swap true false c = refl
+or_swap false b c = refl
+
+or_twice : (a b : Bool) → (a || b) ≡ (a || (a || b))
+or_twice true b = refl
+or_twice false b = refl
+
+-- what a list of keys with one more has
+insert_step : (test : ℕ → Bool) (key other : ℕ) (keys inserted : List ℕ) → list_any test inserted ≡ (test key || list_any test keys) → (order : Ordering) → nat_cmp key other ≡ order
+    → list_any test (match_ordering order (key ∷ other ∷ keys) (other ∷ keys) (other ∷ inserted)) ≡ (test key || (test other || list_any test keys))
+insert_step test key other keys inserted e Less o = refl
+insert_step test key other keys inserted e Equal o =
+    let same : other ≡ key = eqb-true other key (sym (is_eq-nat_cmp key other) ∙ ap is_eq o) in
+    ap (λ one. test one || list_any test keys) same ∙ or_twice (test key) (list_any test keys) ∙ ap (λ one. test key || (test one || list_any test keys)) (sym same)
+insert_step test key other keys inserted e Greater o = ap (λ b. test other || b) e ∙ or_swap (test other) (test key) (list_any test keys)
+
+any-insert_key : (test : ℕ → Bool) (key : ℕ) (keys : List ℕ) → list_any test (insert_key nat_cmp keys key) ≡ (test key || list_any test keys)
+any-insert_key test key [] = refl
+any-insert_key test key (other ∷ keys) = insert_step test key other keys (insert_key nat_cmp keys key) (any-insert_key test key keys) (nat_cmp key other) refl
+
+-- an id stands among ids in order exactly where it stands in the list
+pub lives-ascending : (id : ℕ) (ids : List ℕ) → lives id (ascending ids) ≡ lives id ids
+lives-ascending id [] = refl
+lives-ascending id (one ∷ ids) = any-insert_key (λ other. eqb other id) one (ascending ids) ∙ ap (λ b. eqb one id || b) (lives-ascending id ids)
+
+-- the last of the elements up to an index, with those after it
+pub drop_last : {X : Type 0} (xs : List X) (index : ℕ) (d : X) → 0 < index → index ≤ length xs → drop (index - 1) xs ≡ get_or xs (index - 1) d ∷ drop index xs
+drop_last xs index d h k =
+    let at : suc (index - 1) ≡ index = omega arith in
+    drop-cons xs (index - 1) d (omega arith) ∙ ap (λ i. get_or xs (index - 1) d ∷ drop i xs) at
+
+-- a set of the ids of a list, which is shorter than the list where an id stands there twice
+pub record IsSetOf (listed : List ℕ) (count : ℕ) (keys : List ℕ) : Type 0 where
+  pub ids : keys ≡ ascending listed
+  pub len : length keys ≤ count
+  pub double : ltb (length keys) count ≡ has_double listed
+
+-- how long the set is with one more
+count_step : (keys count after : ℕ) (there doubled : Bool) → keys ≤ count → ltb keys count ≡ doubled → after ≡ keys + cond (not there) 1 0 → (after ≤ suc count) × (ltb after (suc count) ≡ (there || doubled))
+count_step keys count after true doubled h e f = (omega arith, grind (arith, nat_tests))
+count_step keys count after false doubled h e f = (omega arith, grind (arith, nat_tests))
+
+pub IsSetOf-insert : (id : ℕ) (listed keys after : List ℕ) (count : ℕ) (added : Bool) → IsSetOf listed count keys → added ≡ not (list_any (λ other. is_eq (nat_cmp id other)) keys) → after ≡ insert_key nat_cmp keys id → length after ≡ length keys + cond added 1 0
+    → IsSetOf (id ∷ listed) (suc count) after
+IsSetOf-insert id listed keys after count added is e f len =
+    let there : list_any (λ other. is_eq (nat_cmp id other)) keys ≡ lives id listed = contains-lives id keys ∙ ap (lives id) is.ids ∙ lives-ascending id listed in
+    let counts = count_step (length keys) count (length after) (lives id listed) (has_double listed) is.len is.double (len ∙ ap (λ b. length keys + cond b 1 0) (e ∙ ap not there)) in
+    record { ids = f ∙ ap (λ others. insert_key nat_cmp others id) is.ids; len = counts.0; double = counts.1 }

@@ -1,0 +1,11 @@
+pub mod TextLemmas
+pub mod ShapeLemmas
+pub mod BuildLemmas
+pub mod PlaceLemmas
+pub mod IdLemmas
+pub mod NameLemmas
+pub mod RefusalLemmas
+pub mod OrderLemmas
+pub mod PlacingLemmas
+pub mod CommandLemmas
+pub mod LoadedLemmas

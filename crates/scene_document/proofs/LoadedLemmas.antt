@@ -1,0 +1,503 @@
+-- Lemmas on what is loaded of a draft that no refusal stands against.
+use Rattle.std.proofs.Common.{◌≡◌, ℕ, zero, suc, ◌+◌, ◌<◌, ◌≤◌, Bool, true, false, not, cond, eqb, ltb, List, [], ◌∷◌, ◌++◌, map, length, find, Option, Some, None, AllPairs, option_map, option_and_then, slice_get, vec_len, refl, ap, sym, subst, ◌∙◌, ⊎_elim, arith}
+use Rattle.std.specs.List.{All, AllByRecursion, list_any, filter_map, cons_option}
+use Rattle.std.specs.List.Sorted.{IsStrictlySortedBy}
+use Rattle.std.specs.BTreeMap.{BTreeMap}
+use Rattle.std.specs.Global.{Vec}
+use Rattle.std.specs.BTreeSet.{insert_key}
+use Rattle.std.specs.Ordering.{nat_cmp, match_ordering}
+use Rattle.std.specs.declared.cmp.Ordering.{Ordering}
+use Rattle.std.specs.declared.cmp.Ordering.TheVariants.{Less, Equal, Greater}
+use Rattle.std.specs.Str.{bytes_eq}
+use Rattle.std.proofs.lemmas.Bool.{not-false, eq-eqb, cases_lt}
+use Rattle.std.proofs.lemmas.Bool.Decides.{nat_tests}
+use Rattle.std.proofs.lemmas.Option.{slice_get-map}
+use Rattle.std.proofs.lemmas.List.{map-append, length-map}
+use Rattle.std.proofs.lemmas.List.Kept.{AllPairs-cons}
+use Rattle.scene_document.proofs.IdLemmas.{lives-ascending}
+use Rattle.std.proofs.Math.Path.{fun_ext}
+use Rattle.std.proofs.lemmas.Slice.Eq.{bytes_eq-Decides}
+use Rattle.std.proofs.lemmas.List.Elements.{All-head, All-tail, All-cons, All-nil, All-map, All-weaker, All-same, All-append}
+use Rattle.scene_document.specs.declared.draft.EntityDraft.{EntityDraft}
+use Rattle.scene_document.specs.declared.draft.MadeDraft.{MadeDraft}
+use Rattle.scene_document.specs.declared.draft.SystemDraft.{SystemDraft}
+use Rattle.scene_document.specs.declared.draft.CommandDraft.{CommandDraft}
+use Rattle.scene_document.specs.declared.draft.EntryDraft.{EntryDraft}
+use Rattle.scene_document.specs.declared.draft.EntryDraft.TheVariants as entry
+use Rattle.scene_document.specs.declared.draft.DocumentDraft.{DocumentDraft}
+use Rattle.scene_document.specs.declared.loaded.Loaded.{Loaded}
+use Rattle.scene_rules.specs.declared.view.Columns.{Columns}
+use Rattle.scene_rules.specs.declared.placed.Placed.{Placed}
+use Rattle.scene_rules.specs.declared.command.Command.{Command}
+use Rattle.scene_rules.specs.Parts.{Json, Name, Ref, living, gone, Part, place_of}
+use Rattle.scene_rules.specs.Rulebook.{Book, Facts}
+use Rattle.scene_rules.specs.Rulebook as plain
+use Rattle.scene_rules.specs.Lent.{access_of}
+use Rattle.scene_rules.specs.Queues.{plain_commands}
+use Rattle.scene_rules.specs.Scenes.{PlainScene, PlainSystem, lives, RefLives, RefsLive, PartsAdmitted}
+use Rattle.scene_rules.specs.Commands.{ref_lives}
+use Rattle.scene_rules.specs.Laws.{Ascend, IsKnownPart, IsLawful}
+use Rattle.scene_document.specs.Drafts.{Draft, DraftPart, DraftEntity, DraftEntry, DraftCommand, spawn, kill, put, take}
+use Rattle.scene_document.specs.Documents.{listed_ids, systems_of, has_unknown_kind, has_double, has_id_past_next, dangles, part_dangles, has_unknown_system, has_taken_name, has_unknown_dependency, lacks_global, writes_reserved, refusal_of}
+use Rattle.scene_document.specs.DraftViews.{name_at, named, plain_entity, plain_system, plain_entry, plain_asked, plain_list, facts_of, seen, config_seen, IsPlaced, IsAdmitted, IsDraft, IsMadeOf, IsMadeAs, IsOfBook, IsKnownDraft, Differ, AreApart, IsLawfulDraft}
+use Rattle.scene_document.specs.Openings.{part_in, part_among, global_among, ascending, first_scene, Resource, same_resource, staged, with_facts, systems_at, staged_systems, local_systems, command_of, commands_in, commands_for, frames_of}
+use Rattle.shred_plan.specs.Plan.{Added, order}
+use Rattle.shred_plan.specs.Laws.{systems_added}
+use Rattle.scene_rules.specs.Slots.{in_column, filled, HoldsOnly}
+use Rattle.scene_rules.specs.Lending.{scene_in, system_in, IsOfRules}
+use Rattle.scene_document.specs.Loading.{order_in, commands_found, commands_at, frames_in, IsLoaded}
+use Rattle.scene_document.specs.Columns.{stored, first_at, datum_among}
+use Rattle.scene_document.specs.Placing.{placed_at, placed_if, locals_from, slots_from, slot_at}
+use Rattle.scene_document.proofs.PlaceLemmas.{or_false, placed_within, part_among-placed, part_among-not_placed, global_among-placed, global_among-not_placed, ids-plain, datum_among-unlisted}
+use Rattle.scene_document.proofs.RefusalLemmas.{next-plain}
+use Rattle.scene_document.proofs.OrderLemmas.{times, order-times}
+use Rattle.scene_document.proofs.PlacingLemmas.{none_before, apart_above, staged_system, map-filter_map, filter_map_where}
+
+-- two scenes that hold the same are the same
+pub same_scene : (one other : PlainScene) → one.next ≡ other.next → one.ids ≡ other.ids → ((id : ℕ) (kind : Name) → one.part id kind ≡ other.part id kind) → ((name : Name) → one.global name ≡ other.global name) → one ≡ other
+same_scene one other next ids part global =
+    ap (λ n. record { next = n; ids = one.ids; part = one.part; global = one.global }) next
+    ∙ ap (λ i. record { next = other.next; ids = i; part = one.part; global = one.global }) ids
+    ∙ ap (λ p. record { next = other.next; ids = other.ids; part = p; global = one.global }) (fun_ext (λ id. fun_ext (λ kind. part id kind)))
+    ∙ ap (λ g. record { next = other.next; ids = other.ids; part = other.part; global = g }) (fun_ext (λ name. global name))
+
+-- a fact holds of what a document gives, where it is known
+abbrev Holds : (Name → Part → Type 0) → DraftPart → Type 0
+Holds P one = (name : Name) (part : Part) → one ≡ Some (name, part) → P name part
+
+-- a part that is found has what each of the parts has
+has_step : (P : Name → Part → Type 0) (b : Bool) (kind : Name) (part : Name × Part) (later : Option Part) (held : Part) → bytes_eq kind part.0 ≡ b → P part.0 part.1 → (later ≡ Some held → P kind held) → cond b (Some part.1) later ≡ Some held → P kind held
+has_step P true kind part later held t h rest e =
+    let same : part.1 ≡ held = cc in
+    subst (λ name. P name held) (sym ((bytes_eq-Decides kind part.0).0 t)) (subst (λ one. P part.0 one) same h)
+has_step P false kind part later held t h rest e = rest e
+
+pub part_in-has : (P : Name → Part → Type 0) (parts : List DraftPart) (kind : Name) (held : Part) → All (Holds P) parts → part_in parts kind ≡ Some held → P kind held
+part_in-has P [] kind held h e = absurd cc
+part_in-has P (None ∷ parts) kind held h e = part_in-has P parts kind held (All-tail (Holds P) None parts h) e
+part_in-has P (Some part ∷ parts) kind held h e =
+    has_step P (bytes_eq kind part.0) kind part (part_in parts kind) held refl (All-head (Holds P) (Some part) parts h part.0 part.1 refl)
+    (part_in-has P parts kind held (All-tail (Holds P) (Some part) parts h)) e
+
+-- and so has a part of an id
+among_step : (P : Type 0) (b : Bool) (here later : Option Part) (held : Part) → (here ≡ Some held → P) → (later ≡ Some held → P) → cond b here later ≡ Some held → P
+among_step P true here later held h rest e = h e
+among_step P false here later held h rest e = rest e
+
+pub part_among-has : (P : Name → Part → Type 0) (entities : List DraftEntity) (id : ℕ) (kind : Name) (held : Part) → All (λ entity. All (Holds P) entity.parts) entities → part_among entities id kind ≡ Some held → P kind held
+part_among-has P [] id kind held h e = absurd cc
+part_among-has P (entity ∷ entities) id kind held h e =
+    among_step (P kind held) (eqb entity.id id) (part_in entity.parts kind) (part_among entities id kind) held
+    (part_in-has P entity.parts kind held (All-head (λ other. All (Holds P) other.parts) entity entities h))
+    (part_among-has P entities id kind held (All-tail (λ other. All (Holds P) other.parts) entity entities h)) e
+
+-- what a list of tests that finds nothing says of each
+none_passes : {X : Type 0} (test : X → Bool) (xs : List X) → list_any test xs ≡ false → All (λ x. test x ≡ false) xs
+none_passes test [] e = All-nil (λ x. test x ≡ false)
+none_passes test (x ∷ xs) e = let apart = or_false (test x) (list_any test xs) e in All-cons (λ y. test y ≡ false) x xs (apart.0) (none_passes test xs (apart.1))
+
+-- a test that is passed over
+passed_over : {X : Type 0} (b : Bool) (refusal : X) (rest : Option X) → cond b (Some refusal) rest ≡ None → (b ≡ false) × (rest ≡ None)
+passed_over true refusal rest e = absurd cc
+passed_over false refusal rest e = (refl, e)
+
+-- the tests that fail where no refusal stands
+pub no_double : (indices : ℕ) (draft : Draft) → refusal_of indices draft ≡ None → has_double (listed_ids draft) ≡ false
+no_double indices draft e = (passed_over (has_double (listed_ids draft)) _ _ ((passed_over (has_unknown_kind draft) _ _ e).1)).0
+
+pub no_dangling : (indices : ℕ) (draft : Draft) → refusal_of indices draft ≡ None → dangles draft ≡ false
+no_dangling indices draft e =
+    let kinds = (passed_over (has_unknown_kind draft) _ _ e).1 in
+    let ids = (passed_over (has_double (listed_ids draft)) _ _ kinds).1 in
+    let next = (passed_over (has_id_past_next draft) _ _ ids).1 in
+    (passed_over (dangles draft) _ _ next).0
+
+pub no_past : (indices : ℕ) (draft : Draft) → refusal_of indices draft ≡ None → has_id_past_next draft ≡ false
+no_past indices draft e =
+    let kinds = (passed_over (has_unknown_kind draft) _ _ e).1 in
+    let ids = (passed_over (has_double (listed_ids draft)) _ _ kinds).1 in
+    (passed_over (has_id_past_next draft) _ _ ids).0
+
+-- what a part that does not dangle refers to lives
+refs_live : (ids : List ℕ) (refs : List Ref) → list_any (λ ref. not (ref_lives ids ref)) refs ≡ false → All (RefLives (ascending ids)) refs
+refs_live ids [] e = All-nil (RefLives (ascending ids))
+refs_live ids (living id ∷ refs) e =
+    let apart = or_false (not (lives id ids)) (list_any (λ ref. not (ref_lives ids ref)) refs) e in
+    All-cons (RefLives (ascending ids)) (living id) refs (lives-ascending id ids ∙ not-false (lives id ids) (apart.0)) (refs_live ids refs (apart.1))
+refs_live ids (gone ∷ refs) e = absurd cc
+
+part_lives : (ids : List ℕ) (one : DraftPart) → part_dangles ids one ≡ false → Holds (λ name part. All (RefLives (ascending ids)) part.refs) one
+part_lives ids None e name part f = absurd cc
+part_lives ids (Some pair) e name part f =
+    let same : pair ≡ (name, part) = cc in
+    subst (λ one. All (RefLives (ascending ids)) one.1.refs) same (refs_live ids pair.1.refs e)
+
+pub living-loaded : (draft : Draft) → dangles draft ≡ false → RefsLive (ascending (listed_ids draft)) (part_among draft.entities)
+living-loaded draft e id kind held lived f =
+    part_among-has (λ name part. All (RefLives (ascending (listed_ids draft))) part.refs) draft.entities id kind held
+    (All-weaker (λ entity. list_any (part_dangles (listed_ids draft)) entity.parts ≡ false) (λ entity. All (Holds (λ name part. All (RefLives (ascending (listed_ids draft))) part.refs)) entity.parts)
+    (λ entity none. All-weaker (λ one. part_dangles (listed_ids draft) one ≡ false) (Holds (λ name part. All (RefLives (ascending (listed_ids draft))) part.refs)) (part_lives (listed_ids draft)) entity.parts (none_passes (part_dangles (listed_ids draft)) entity.parts none))
+    draft.entities (none_passes (λ entity. list_any (part_dangles (listed_ids draft)) entity.parts) draft.entities e))
+    f
+
+-- what is known of a draft's parts is of their kinds
+part_admitted : {D : Type 0} (part_of : D → Part) (book : Book) (one : Option (ℕ × D)) → IsAdmitted part_of book one → Holds (λ name part. book.admits name part ≡ true) (named part_of book.part_names one)
+part_admitted part_of book None h name part f = absurd cc
+part_admitted part_of book (Some pair) h name part f =
+    let same : (name_at book.part_names pair.0, part_of pair.1) ≡ (name, part) = cc in
+    subst (λ (one : Name × Part). book.admits one.0 one.1 ≡ true) same h
+
+pub admitted-loaded : {D : Type 0} (part_of : D → Part) (book : Book) (entities : List (EntityDraft D)) → All (λ entity. All (IsAdmitted part_of book) entity.parts.items) entities → PartsAdmitted book (part_among (map (plain_entity part_of book.part_names) entities))
+admitted-loaded part_of book entities h id kind held f =
+    part_among-has (λ name part. book.admits name part ≡ true) (map (plain_entity part_of book.part_names) entities) id kind held
+    (All-map (λ entity. All (Holds (λ name part. book.admits name part ≡ true)) entity.parts) (plain_entity part_of book.part_names) entities
+    (All-weaker (λ entity. All (IsAdmitted part_of book) entity.parts.items) (λ entity. All (Holds (λ name part. book.admits name part ≡ true)) (map (named part_of book.part_names) entity.parts.items))
+    (λ entity each. All-map (Holds (λ name part. book.admits name part ≡ true)) (named part_of book.part_names) entity.parts.items
+    (All-weaker (IsAdmitted part_of book) (λ one. Holds (λ name part. book.admits name part ≡ true) (named part_of book.part_names one)) (part_admitted part_of book) entity.parts.items each))
+    entities h))
+    f
+
+module _ {D G : Type 0} (part_of : D → Part) (global_of : G → Json) (book : Book) (columns : Columns D G) where
+  -- the part of an id that columns hold
+  pub part-held : Ascend book.part_names → (entities : List (EntityDraft D)) → All (λ entity. All (IsPlaced (length book.part_names)) entity.parts.items) entities → has_double (map (λ entity. entity.id) entities) ≡ false
+      → ((place id : ℕ) → place < length book.part_names → stored columns.parts.items place id ≡ datum_among entities place id)
+      → (id : ℕ) (kind : Name) (found : Option ℕ) → place_of kind book.part_names ≡ found
+      → part_among (map (plain_entity part_of book.part_names) entities) id kind ≡ option_map part_of (in_column (option_and_then (λ place. slice_get columns.parts.items place) found) id)
+  part-held ascend entities placed distinct held id kind None e = part_among-not_placed part_of book.part_names kind id e entities placed
+  part-held ascend entities placed distinct held id kind (Some place) e =
+      part_among-placed part_of book.part_names ascend kind place id e entities placed distinct
+      ∙ ap (option_map part_of) (sym (held place id (placed_within book.part_names kind place e)))
+
+  -- the value of a global that columns hold
+  pub global-held : Ascend book.global_names → (globals : List (Option (ℕ × G))) → All (IsPlaced (length book.global_names)) globals
+      → ((place : ℕ) → place < length book.global_names → filled (slice_get columns.globals.items place) ≡ first_at globals place None)
+      → (name : Name) (found : Option ℕ) → place_of name book.global_names ≡ found
+      → global_among (map (named global_of book.global_names) globals) name ≡ option_map global_of (filled (option_and_then (λ place. slice_get columns.globals.items place) found))
+  global-held ascend globals placed held name None e = global_among-not_placed global_of book.global_names name e globals placed
+  global-held ascend globals placed held name (Some place) e =
+      global_among-placed global_of book.global_names name ascend place e globals placed
+      ∙ ap (option_map global_of) (sym (held place (placed_within book.global_names name place e)))
+
+-- ---- systems
+
+module _ {S : Type 0} (kind_of : S → Name) (config_of : S → Json) (book : Book) where
+  -- a system at its place in plain terms
+  placed-plain : (place : ℕ) (draft : SystemDraft S) (made : MadeDraft S) → IsMadeOf kind_of config_of book draft.kind.now (config_seen (seen draft.config)) made
+      → record { position = place; kind = draft.kind.now; config = config_seen (seen draft.config); access = access_of made.accessor } ≡ system_in kind_of config_of (placed_at place made)
+  placed-plain place draft made h =
+      ap (λ kind. record { position = place; kind = kind; config = config_seen (seen draft.config); access = access_of made.accessor }) (sym h.of_kind)
+      ∙ ap (λ config. record { position = place; kind = kind_of made.system; config = config; access = access_of made.accessor }) (sym h.with_config)
+
+  local_step : (place : ℕ) (draft : SystemDraft S) (b : Bool) (made : Option (MadeDraft S)) → IsMadeAs kind_of config_of book draft.kind.now (config_seen (seen draft.config)) made → (rest : List PlainSystem) (others : List (Placed S)) → rest ≡ map (system_in kind_of config_of) others
+      → cond b (with_facts place (plain_system draft) (option_map facts_of made)) [] ++ rest ≡ map (system_in kind_of config_of) (cons_option (placed_if b place made) others)
+  local_step place draft true None h rest others e = e
+  local_step place draft true (Some made) h rest others e = ap (λ one. one ∷ rest) (placed-plain place draft made h) ∙ ap (λ list. system_in kind_of config_of (placed_at place made) ∷ list) e
+  local_step place draft false None h rest others e = e
+  local_step place draft false (Some made) h rest others e = e
+
+  -- the local systems in plain terms
+  locals-plain : (place : ℕ) (entries : List (EntryDraft S)) → All (IsOfBook kind_of config_of book) entries → systems_at (λ one. one.local) place (map plain_entry entries) ≡ map (system_in kind_of config_of) (locals_from place entries)
+  locals-plain place [] h = refl
+  locals-plain place (entry.Barrier ∷ entries) h = locals-plain (suc place) entries (All-tail (IsOfBook kind_of config_of book) entry.Barrier entries h)
+  locals-plain place (entry.System draft ∷ entries) h =
+      local_step place draft draft.local draft.made (All-head (IsOfBook kind_of config_of book) (entry.System draft) entries h)
+      (systems_at (λ one. one.local) (suc place) (map plain_entry entries)) (locals_from (suc place) entries)
+      (locals-plain (suc place) entries (All-tail (IsOfBook kind_of config_of book) (entry.System draft) entries h))
+
+  -- a system behind one at an earlier place
+  find_later : (place number : ℕ) (draft : SystemDraft S) (made : Option (MadeDraft S)) (rest : List PlainSystem) → place < number → find (λ one. eqb one.position number) (with_facts place (plain_system draft) (option_map facts_of made) ++ rest) ≡ find (λ one. eqb one.position number) rest
+  find_later place number draft None rest h = refl
+  find_later place number draft (Some made) rest h = rw (apart_above place number h) refl
+
+  slot_here : (all : List DraftEntry) (place number : ℕ) (draft : SystemDraft S) (local : Bool) (made : Option (MadeDraft S)) (later : List (Added Resource)) (rest : List PlainSystem) → number ≡ place → IsMadeAs kind_of config_of book draft.kind.now (config_seen (seen draft.config)) made
+      → times number (systems_added later) ≡ 0 → 1 ≤ times number (systems_added (staged_system all place (plain_system draft) local (option_map facts_of made) ++ later))
+      → option_map (system_in kind_of config_of) (cond local None (placed_if true place made)) ≡ find (λ one. eqb one.position number) (with_facts place (plain_system draft) (option_map facts_of made) ++ rest)
+  slot_here all place number draft local None later rest same h none some = absurd (omega (arith, none, some))
+  slot_here all place number draft true (Some made) later rest same h none some = absurd (omega (arith, none, some))
+  slot_here all place number draft false (Some made) later rest same h none some =
+      rw (eq-eqb place number (sym same)) (ap (λ one. Some one) (sym (placed-plain place draft made h)))
+
+  slot_later : (all : List DraftEntry) (place number : ℕ) (draft : SystemDraft S) (local : Bool) (facts : Option Facts) (later : List (Added Resource)) → place < number
+      → 1 ≤ times number (systems_added (staged_system all place (plain_system draft) local facts ++ later)) → 1 ≤ times number (systems_added later)
+  slot_later all place number draft local None later h some = some
+  slot_later all place number draft true (Some facts) later h some = some
+  slot_later all place number draft false (Some facts) later h some = subst (λ b. 1 ≤ cond b (suc (times number (systems_added later))) (times number (systems_added later))) (apart_above place number h) some
+
+  -- the slot of a staged system holds that system
+  slots-plain : (all : List DraftEntry) (place index number : ℕ) (entries : List (EntryDraft S)) → number ≡ place + index → All (IsOfBook kind_of config_of book) entries → 1 ≤ times number (systems_added (staged all place (map plain_entry entries)))
+      → option_map (system_in kind_of config_of) (filled (slice_get (slots_from place entries) index)) ≡ find (λ one. eqb one.position number) (systems_at (λ one. true) place (map plain_entry entries))
+  slots-plain all place index number [] e h some = absurd (omega (arith, some))
+  slots-plain all place zero number (entry.Barrier ∷ entries) e h some =
+      let none = none_before all (suc place) (map plain_entry entries) number (omega (arith, e)) in absurd (omega (arith, none, some))
+  slots-plain all place (suc index) number (entry.Barrier ∷ entries) e h some = slots-plain all (suc place) index number entries (omega (arith, e)) (All-tail (IsOfBook kind_of config_of book) entry.Barrier entries h) some
+  slots-plain all place zero number (entry.System draft ∷ entries) e h some =
+      slot_here all place number draft draft.local draft.made (staged all (suc place) (map plain_entry entries)) (systems_at (λ one. true) (suc place) (map plain_entry entries)) (omega (arith, e))
+      (All-head (IsOfBook kind_of config_of book) (entry.System draft) entries h) (none_before all (suc place) (map plain_entry entries) number (omega (arith, e))) some
+  slots-plain all place (suc index) number (entry.System draft ∷ entries) e h some =
+      slots-plain all (suc place) index number entries (omega (arith, e)) (All-tail (IsOfBook kind_of config_of book) (entry.System draft) entries h)
+      (slot_later all place number draft draft.local (option_map facts_of draft.made) (staged all (suc place) (map plain_entry entries)) (omega (arith, e)) some)
+      ∙ sym (find_later place number draft draft.made (systems_at (λ one. true) (suc place) (map plain_entry entries)) (omega (arith, e)))
+
+  slot-plain : (all : List DraftEntry) (entries : List (EntryDraft S)) (number : ℕ) → All (IsOfBook kind_of config_of book) entries → 1 ≤ times number (systems_added (staged all 1 (map plain_entry entries)))
+      → option_map (system_in kind_of config_of) (slot_at (slots_from 1 entries) number) ≡ find (λ one. eqb one.position number) (systems_at (λ one. true) 1 (map plain_entry entries))
+  slot-plain all entries zero h some = let none = none_before all 1 (map plain_entry entries) zero (omega arith) in absurd (omega (arith, none, some))
+  slot-plain all entries (suc index) h some = slots-plain all 1 index (suc index) entries (omega arith) h some
+
+  -- all systems in the order in which they run
+  pub order-plain : (entries : List (EntryDraft S)) (systems : List (Placed S)) → All (IsOfBook kind_of config_of book) entries
+      → systems ≡ filter_map (slot_at (slots_from 1 entries)) (order same_resource (staged (map plain_entry entries) 1 (map plain_entry entries))) ++ locals_from 1 entries
+      → filter_map (λ place. find (λ one. eqb one.position place) (systems_at (λ one. true) 1 (map plain_entry entries))) (order same_resource (staged (map plain_entry entries) 1 (map plain_entry entries))) ++ systems_at (λ one. one.local) 1 (map plain_entry entries)
+      ≡ map (system_in kind_of config_of) systems
+  order-plain entries systems h is =
+      let all = map plain_entry entries in
+      let numbers : List ℕ = order same_resource (staged all 1 all) in
+      sym (ap (map (system_in kind_of config_of)) is
+      ∙ map-append (system_in kind_of config_of) (filter_map (slot_at (slots_from 1 entries)) numbers) (locals_from 1 entries)
+      ∙ ap (λ list. list ++ map (system_in kind_of config_of) (locals_from 1 entries))
+      (map-filter_map (system_in kind_of config_of) (slot_at (slots_from 1 entries)) numbers
+      ∙ filter_map_where (λ place. option_map (system_in kind_of config_of) (slot_at (slots_from 1 entries) place)) (λ place. find (λ one. eqb one.position place) (systems_at (λ one. true) 1 all)) numbers
+      (λ number some. slot-plain all entries number h (let more = order-times same_resource number (staged all 1 all) in omega (arith, more, some))))
+      ∙ ap (λ list. filter_map (λ place. find (λ one. eqb one.position place) (systems_at (λ one. true) 1 all)) numbers ++ list) (sym (locals-plain 1 entries h)))
+
+  -- a system that runs is the rules'
+  abbrev IsRight : Option (Placed S) → Type 0
+  IsRight None = Unit {0}
+  IsRight (Some placed) = IsOfRules kind_of config_of book placed
+
+  right_made : (place : ℕ) (draft : SystemDraft S) (made : MadeDraft S) → IsMadeOf kind_of config_of book draft.kind.now (config_seen (seen draft.config)) made → IsOfRules kind_of config_of book (placed_at place made)
+  right_made place draft made h = (facts_of made, rw (h.of_kind, h.with_config) h.known, refl)
+
+  right_if : (b : Bool) (place : ℕ) (draft : SystemDraft S) (made : Option (MadeDraft S)) → IsMadeAs kind_of config_of book draft.kind.now (config_seen (seen draft.config)) made → IsRight (placed_if b place made)
+  right_if b place draft None h = tt
+  right_if true place draft (Some made) h = right_made place draft made h
+  right_if false place draft (Some made) h = tt
+
+  right_staged : (local : Bool) (place : ℕ) (draft : SystemDraft S) (made : Option (MadeDraft S)) → IsMadeAs kind_of config_of book draft.kind.now (config_seen (seen draft.config)) made → IsRight (cond local None (placed_if true place made))
+  right_staged true place draft made h = tt
+  right_staged false place draft made h = right_if true place draft made h
+
+  slots-right : (place index : ℕ) (entries : List (EntryDraft S)) → All (IsOfBook kind_of config_of book) entries → IsRight (filled (slice_get (slots_from place entries) index))
+  slots-right place index [] h = tt
+  slots-right place zero (entry.Barrier ∷ entries) h = tt
+  slots-right place zero (entry.System draft ∷ entries) h = right_staged draft.local place draft draft.made (All-head (IsOfBook kind_of config_of book) (entry.System draft) entries h)
+  slots-right place (suc index) (one ∷ entries) h = slots-right (suc place) index entries (All-tail (IsOfBook kind_of config_of book) one entries h)
+
+  slot-right : (entries : List (EntryDraft S)) (number : ℕ) → All (IsOfBook kind_of config_of book) entries → IsRight (slot_at (slots_from 1 entries) number)
+  slot-right entries zero h = tt
+  slot-right entries (suc index) h = slots-right 1 index entries h
+
+  cons-right : (o : Option (Placed S)) (rest : List (Placed S)) → IsRight o → All (IsOfRules kind_of config_of book) rest → All (IsOfRules kind_of config_of book) (cons_option o rest)
+  cons-right None rest h all = all
+  cons-right (Some one) rest h all = All-cons (IsOfRules kind_of config_of book) one rest h all
+
+  locals-right : (place : ℕ) (entries : List (EntryDraft S)) → All (IsOfBook kind_of config_of book) entries → All (IsOfRules kind_of config_of book) (locals_from place entries)
+  locals-right place [] h = All-nil (IsOfRules kind_of config_of book)
+  locals-right place (entry.Barrier ∷ entries) h = locals-right (suc place) entries (All-tail (IsOfBook kind_of config_of book) entry.Barrier entries h)
+  locals-right place (entry.System draft ∷ entries) h =
+      cons-right (placed_if draft.local place draft.made) (locals_from (suc place) entries) (right_if draft.local place draft draft.made (All-head (IsOfBook kind_of config_of book) (entry.System draft) entries h))
+      (locals-right (suc place) entries (All-tail (IsOfBook kind_of config_of book) (entry.System draft) entries h))
+
+  picked-right : (entries : List (EntryDraft S)) (numbers : List ℕ) → All (IsOfBook kind_of config_of book) entries → All (IsOfRules kind_of config_of book) (filter_map (slot_at (slots_from 1 entries)) numbers)
+  picked-right entries [] h = All-nil (IsOfRules kind_of config_of book)
+  picked-right entries (number ∷ numbers) h = cons-right (slot_at (slots_from 1 entries) number) (filter_map (slot_at (slots_from 1 entries)) numbers) (slot-right entries number h) (picked-right entries numbers h)
+
+  -- all systems that run are the rules'
+  pub made-right : (entries : List (EntryDraft S)) (systems : List (Placed S)) → All (IsOfBook kind_of config_of book) entries
+      → systems ≡ filter_map (slot_at (slots_from 1 entries)) (order same_resource (staged (map plain_entry entries) 1 (map plain_entry entries))) ++ locals_from 1 entries
+      → All (IsOfRules kind_of config_of book) systems
+  made-right entries systems h is =
+      let numbers : List ℕ = order same_resource (staged (map plain_entry entries) 1 (map plain_entry entries)) in
+      All-same (IsOfRules kind_of config_of book) systems (filter_map (slot_at (slots_from 1 entries)) numbers ++ locals_from 1 entries) is
+      (All-append (IsOfRules kind_of config_of book) (filter_map (slot_at (slots_from 1 entries)) numbers) (locals_from 1 entries) (picked-right entries numbers h) (locals-right 1 entries h))
+
+-- ---- commands
+
+-- the commands of a list, if there is one
+abbrev listed : {X : Type 0} → Option (List X) → List X
+listed None = []
+listed (Some list) = list
+
+found-listed : {D : Type 0} (part_of : D → Part) (o : Option (Vec (Command D))) → commands_found part_of o ≡ listed (option_map (λ list. plain_commands part_of list.items) o)
+found-listed part_of None = refl
+found-listed part_of (Some list) = refl
+
+in-listed : {D : Type 0} (part_of : D → Part) (o : Option (Vec (CommandDraft D))) → commands_in (option_map (plain_list part_of) o) ≡ listed (option_map (λ list. filter_map command_of (plain_list part_of list)) o)
+in-listed part_of None = refl
+in-listed part_of (Some list) = refl
+
+module _ {D : Type 0} (part_of : D → Part) (lists : List (Vec (CommandDraft D))) (commands : List (Vec (Command D))) (are : map (λ list. plain_commands part_of list.items) commands ≡ map (λ list. filter_map command_of (plain_list part_of list)) lists) where
+  -- the commands for a frame
+  pub commands-plain : (place : ℕ) → commands_in (slice_get (map (plain_list part_of) lists) place) ≡ commands_found part_of (slice_get commands place)
+  commands-plain place =
+      ap commands_in (slice_get-map (plain_list part_of) lists place) ∙ in-listed part_of (slice_get lists place)
+      ∙ ap listed (sym (slice_get-map (λ list. filter_map command_of (plain_list part_of list)) lists place) ∙ ap (λ all. slice_get all place) (sym are) ∙ slice_get-map (λ list. plain_commands part_of list.items) commands place)
+      ∙ sym (found-listed part_of (slice_get commands place))
+
+module _ {D : Type 0} (part_of : D → Part) (book : Book) where
+  known_apart : (one : Name × Part) (others : List DraftPart) → All (Differ (Some one)) others → All (λ other. bytes_eq one.0 other.0 ≡ false) (filter_map (λ part. part) others)
+  known_apart one [] h = All-nil (λ other. bytes_eq one.0 other.0 ≡ false)
+  known_apart one (None ∷ others) h = known_apart one others (All-tail (Differ (Some one)) None others h)
+  known_apart one (Some other ∷ others) h = All-cons (λ other. bytes_eq one.0 other.0 ≡ false) other (filter_map (λ part. part) others) (All-head (Differ (Some one)) (Some other) others h) (known_apart one others (All-tail (Differ (Some one)) (Some other) others h))
+
+  parts_apart : (parts : List DraftPart) → AreApart parts → AllPairs (λ one other. bytes_eq one.0 other.0 ≡ false) (filter_map (λ part. part) parts)
+  parts_apart [] h = λ i j d below inside. absurd (omega arith)
+  parts_apart (None ∷ parts) h = parts_apart parts h.1
+  parts_apart (Some one ∷ parts) h = AllPairs-cons (λ one other. bytes_eq one.0 other.0 ≡ false) one (filter_map (λ part. part) parts) (known_apart one parts h.0) (parts_apart parts h.1)
+
+  parts_known : (parts : List DraftPart) → All (IsKnownDraft book) parts → All (IsKnownPart book) (filter_map (λ part. part) parts)
+  parts_known [] h = All-nil (IsKnownPart book)
+  parts_known (None ∷ parts) h = parts_known parts (All-tail (IsKnownDraft book) None parts h)
+  parts_known (Some one ∷ parts) h = All-cons (IsKnownPart book) one (filter_map (λ part. part) parts) (All-head (IsKnownDraft book) (Some one) parts h) (parts_known parts (All-tail (IsKnownDraft book) (Some one) parts h))
+
+  cons-lawful : (command : DraftCommand) (rest : List plain.Command) → IsLawfulDraft book command → All (IsLawful book) rest → All (IsLawful book) (cons_option (command_of command) rest)
+  cons-lawful (spawn parts) rest h all = All-cons (IsLawful book) (plain.spawn (filter_map (λ part. part) parts)) rest (parts_known parts h.0, parts_apart parts h.1) all
+  cons-lawful (kill id) rest h all = All-cons (IsLawful book) (plain.kill id) rest tt all
+  cons-lawful (put id None) rest h all = all
+  cons-lawful (put id (Some part)) rest h all = All-cons (IsLawful book) (plain.put id part.0 part.1) rest h all
+  cons-lawful (take id None) rest h all = all
+  cons-lawful (take id (Some kind)) rest h all = All-cons (IsLawful book) (plain.take id kind) rest h all
+
+  list-lawful : (list : List (CommandDraft D)) → All (λ draft. IsLawfulDraft book (plain_asked part_of draft)) list → All (IsLawful book) (filter_map command_of (map (plain_asked part_of) list))
+  list-lawful [] h = All-nil (IsLawful book)
+  list-lawful (one ∷ list) h =
+      cons-lawful (plain_asked part_of one) (filter_map command_of (map (plain_asked part_of) list)) (All-head (λ draft. IsLawfulDraft book (plain_asked part_of draft)) one list h)
+      (list-lawful list (All-tail (λ draft. IsLawfulDraft book (plain_asked part_of draft)) one list h))
+
+  -- the commands of a list at a place are lawful
+  pub lists-lawful : (lists : List (Vec (CommandDraft D))) → All (λ list. All (λ draft. IsLawfulDraft book (plain_asked part_of draft)) list.items) lists → (place : ℕ) → All (IsLawful book) (commands_in (slice_get (map (plain_list part_of) lists) place))
+  lists-lawful [] h place = All-nil (IsLawful book)
+  lists-lawful (list ∷ lists) h zero = list-lawful list.items (All-head (λ list. All (λ draft. IsLawfulDraft book (plain_asked part_of draft)) list.items) list lists h)
+  lists-lawful (list ∷ lists) h (suc place) = lists-lawful lists (All-tail (λ list. All (λ draft. IsLawfulDraft book (plain_asked part_of draft)) list.items) list lists h) place
+
+-- ---- ids
+
+above-ascending : (id : ℕ) (ids : List ℕ) → AllByRecursion (λ other. nat_cmp id other ≡ Less) ids → All (λ other. id < other) ids
+above-ascending id [] h = All-nil (λ other. id < other)
+above-ascending id (other ∷ ids) h = All-cons (λ other. id < other) other ids (less-below id other h.0) (above-ascending id ids h.1)
+  where
+    less-below : (one other : ℕ) → nat_cmp one other ≡ Less → one < other
+    less-below one other e = grind (arith, nat_tests)
+
+-- ids in order ascend
+pub ids-ascend : (ids : List ℕ) → IsStrictlySortedBy nat_cmp ids → AllPairs (λ one other. one < other) ids
+unfolding IsStrictlySortedBy
+ids-ascend [] h = λ i j d below inside. absurd (omega arith)
+ids-ascend (id ∷ ids) h = AllPairs-cons (λ one other. one < other) id ids (above-ascending id ids h.0) (ids-ascend ids h.1)
+
+below_step : (next key other : ℕ) (keys inserted : List ℕ) (o : Ordering) → key < next → All (λ id. id < next) (other ∷ keys) → All (λ id. id < next) inserted → All (λ id. id < next) (match_ordering o (key ∷ other ∷ keys) (other ∷ keys) (other ∷ inserted))
+below_step next key other keys inserted Less h all rest = All-cons (λ id. id < next) key (other ∷ keys) h all
+below_step next key other keys inserted Equal h all rest = all
+below_step next key other keys inserted Greater h all rest = All-cons (λ id. id < next) other inserted (All-head (λ id. id < next) other keys all) rest
+
+below-insert : (next key : ℕ) (keys : List ℕ) → key < next → All (λ id. id < next) keys → All (λ id. id < next) (insert_key nat_cmp keys key)
+below-insert next key [] h all = All-cons (λ id. id < next) key [] h all
+below-insert next key (other ∷ keys) h all = below_step next key other keys (insert_key nat_cmp keys key) (nat_cmp key other) h all (below-insert next key keys h (All-tail (λ id. id < next) other keys all))
+
+-- ids that are below the next one are so in order
+pub ids-below : {D : Type 0} (next : ℕ) (entities : List (EntityDraft D)) → list_any (λ entity. not (ltb entity.id next)) entities ≡ false → All (λ id. id < next) (ascending (map (λ entity. entity.id) entities))
+ids-below next [] h = All-nil (λ id. id < next)
+ids-below next (entity ∷ entities) h =
+    let apart = or_false (not (ltb entity.id next)) (list_any (λ entity. not (ltb entity.id next)) entities) h in
+    below-insert next entity.id (ascending (map (λ entity. entity.id) entities)) (ltb-below entity.id next (not-false (ltb entity.id next) apart.0)) (ids-below next entities apart.1)
+  where
+    ltb-below : (one other : ℕ) → ltb one other ≡ true → one < other
+    ltb-below one other e = grind (arith, nat_tests)
+
+-- columns hold nothing but at listed ids
+pub holds-listed : {D : Type 0} (part_of : D → Part) (names : List Name) (entities : List (EntityDraft D)) (columns : List (BTreeMap ℕ (Option D))) → ((place id : ℕ) → place < length columns → stored columns place id ≡ datum_among entities place id) → HoldsOnly (ascending (map (λ entity. entity.id) entities)) columns
+holds-listed part_of names entities columns held place id unlisted = ⊎_elim
+    (λ below. held place id below ∙ datum_among-unlisted part_of names place id entities (sym (lives-ascending id (map (λ entity. entity.id) entities)) ∙ unlisted))
+    (λ above. ap (λ column. in_column column id) (slice_get_past columns place above))
+    (cases_lt place (length columns))
+  where
+    slice_get_past : {X : Type 0} (xs : List X) (place : ℕ) → length xs ≤ place → slice_get xs place ≡ None
+    slice_get_past [] place h = refl
+    slice_get_past (x ∷ xs) zero h = absurd (omega arith)
+    slice_get_past (x ∷ xs) (suc place) h = slice_get_past xs place (omega arith)
+
+-- what is made of a draft's parts is loaded of it
+module _ {D G S : Type 0} (part_of : D → Part) (global_of : G → Json) (kind_of : S → Name) (config_of : S → Json) (book : Book) (kinds : Ascend book.part_names) (names : Ascend book.global_names) where
+  frames-plain : (plain : Draft) (draft : DocumentDraft D G S) (loaded : Loaded D G S) → IsDraft part_of global_of kind_of config_of book plain draft
+      → loaded.systems.items ≡ filter_map (slot_at (slots_from 1 draft.entries.items)) (order same_resource (staged (map plain_entry draft.entries.items) 1 (map plain_entry draft.entries.items))) ++ locals_from 1 draft.entries.items
+      → map (λ list. plain_commands part_of list.items) loaded.commands.items ≡ map (λ list. filter_map command_of (plain_list part_of list)) draft.commands.items
+      → (number : ℕ) → frames_of plain number ≡ frames_in part_of kind_of config_of loaded number
+  frames-plain plain draft loaded is systems commands number =
+      let order_of : List DraftEntry → List PlainSystem = λ entries. filter_map (λ place. find (λ one. eqb one.position place) (systems_at (λ one. true) 1 entries)) (order same_resource (staged entries 1 entries)) ++ systems_at (λ one. one.local) 1 entries in
+      let ordered : staged_systems plain ++ local_systems plain ≡ order_in kind_of config_of loaded.systems.items = ap order_of is.entries ∙ order-plain kind_of config_of book draft.entries.items loaded.systems.items is.made systems in
+      ap (λ list. record { order = list; commands = commands_for plain number }) ordered
+      ∙ ap (λ list. record { order = order_in kind_of config_of loaded.systems.items; commands = list }) (asked number)
+    where
+      asked : (number : ℕ) → commands_for plain number ≡ commands_at part_of loaded.commands.items number
+      asked zero = refl
+      asked (suc place) = ap (λ all. commands_in (slice_get all place)) is.commands ∙ commands-plain part_of draft.commands.items loaded.commands.items commands place
+
+  lawful-loaded : (draft : DocumentDraft D G S) (loaded : Loaded D G S) → All (λ list. All (λ draft. IsLawfulDraft book (plain_asked part_of draft)) list.items) draft.commands.items
+      → map (λ list. plain_commands part_of list.items) loaded.commands.items ≡ map (λ list. filter_map command_of (plain_list part_of list)) draft.commands.items → (number : ℕ) → All (IsLawful book) (commands_at part_of loaded.commands.items number)
+  lawful-loaded draft loaded lawful commands zero = All-nil (IsLawful book)
+  lawful-loaded draft loaded lawful commands (suc place) =
+      All-same (IsLawful book) (commands_found part_of (slice_get loaded.commands.items place)) (commands_in (slice_get (map (plain_list part_of) draft.commands.items) place))
+      (sym (commands-plain part_of draft.commands.items loaded.commands.items commands place)) (lists-lawful part_of book draft.commands.items lawful place)
+
+  pub IsLoaded-from_draft : (plain : Draft) (draft : DocumentDraft D G S) (loaded : Loaded D G S) (indices : ℕ) → IsDraft part_of global_of kind_of config_of book plain draft → refusal_of indices plain ≡ None
+      → loaded.next ≡ draft.next → loaded.ids.items ≡ ascending (map (λ entity. entity.id) draft.entities.items) → IsStrictlySortedBy nat_cmp loaded.ids.items
+      → vec_len loaded.columns.parts ≡ length book.part_names
+      → ((place id : ℕ) → place < length book.part_names → stored loaded.columns.parts.items place id ≡ datum_among draft.entities.items place id)
+      → vec_len loaded.columns.globals ≡ length book.global_names
+      → ((place : ℕ) → place < length book.global_names → filled (slice_get loaded.columns.globals.items place) ≡ first_at draft.globals.items place None)
+      → loaded.systems.items ≡ filter_map (slot_at (slots_from 1 draft.entries.items)) (order same_resource (staged (map plain_entry draft.entries.items) 1 (map plain_entry draft.entries.items))) ++ locals_from 1 draft.entries.items
+      → map (λ list. plain_commands part_of list.items) loaded.commands.items ≡ map (λ list. filter_map command_of (plain_list part_of list)) draft.commands.items
+      → loaded.frames ≡ draft.frames
+      → IsLoaded part_of global_of kind_of config_of book plain loaded
+  IsLoaded-from_draft plain draft loaded indices is passed next ids ordered parts_len parts globals_len globals systems commands frames =
+      let entities = draft.entities.items in
+      let listed : listed_ids plain ≡ map (λ entity. entity.id) entities = ap (λ all. map (λ entity. entity.id) all) is.entities ∙ ids-plain part_of book.part_names entities in
+      let distinct : has_double (map (λ entity. entity.id) entities) ≡ false = ap has_double (sym listed) ∙ no_double indices plain passed in
+      let past : list_any (λ entity. not (ltb entity.id draft.next)) entities ≡ false =
+      sym (ap (λ next. list_any (λ entity. not (ltb entity.id next)) plain.entities) is.next ∙ ap (λ all. list_any (λ entity. not (ltb entity.id draft.next)) all) is.entities ∙ next-plain part_of book.part_names draft.next entities) ∙ no_past indices plain passed in
+      let same : first_scene plain ≡ scene_in part_of global_of book loaded.next loaded.ids.items loaded.columns =
+      same_scene (first_scene plain) (scene_in part_of global_of book loaded.next loaded.ids.items loaded.columns)
+      (is.next ∙ sym next)
+      (ap ascending listed ∙ sym ids)
+      (λ id kind. ap (λ entities. part_among entities id kind) is.entities ∙ part-held part_of global_of book loaded.columns kinds entities is.kinds_placed distinct parts id kind (place_of kind book.part_names) refl)
+      (λ name. ap (λ all. global_among all name) is.globals ∙ global-held part_of global_of book loaded.columns names draft.globals.items is.globals_placed globals name (place_of name book.global_names) refl) in
+      let admitted : PartsAdmitted book (part_among plain.entities) = subst (λ entities. PartsAdmitted book (part_among entities)) (sym is.entities) (admitted-loaded part_of book entities is.admitted) in
+      let living : RefsLive (ascending (listed_ids plain)) (part_among plain.entities) = living-loaded plain (no_dangling indices plain passed) in
+      record {
+        scene = same;
+        frame = frames-plain plain draft loaded is systems commands;
+        asked = is.frames ∙ sym frames;
+        ready = record {
+          sound = record {
+            fits = record { kinds = parts_len; globals = globals_len };
+            ids_fit = record {
+              ascend = ids-ascend loaded.ids.items ordered;
+              below = subst (λ all. All (λ id. id < loaded.next) all) (sym ids) (subst (λ last. All (λ id. id < last) (ascending (map (λ entity. entity.id) entities))) (sym next) (ids-below draft.next entities past));
+            };
+            own = subst (λ all. HoldsOnly all loaded.columns.parts.items) (sym ids) (holds-listed part_of book.part_names entities loaded.columns.parts.items (λ place id inside. parts place id (subst (λ count. place < count) (sym loaded.columns.parts.ok.0 ∙ parts_len) inside)));
+            admitted = subst (λ (scene : PlainScene). PartsAdmitted book scene.part) same admitted;
+            living = subst (λ (scene : PlainScene). RefsLive scene.ids scene.part) same living;
+          };
+          made = made-right kind_of config_of book draft.entries.items loaded.systems.items is.made systems;
+          lawful = lawful-loaded draft loaded is.lawful commands;
+        };
+      }
+
+-- a document that is not refused has few entries
+pub few-entries : {D G S : Type 0} (part_of : D → Part) (global_of : G → Json) (kind_of : S → Name) (config_of : S → Json) (book : Book) (indices : ℕ) (plain : Draft) (draft : DocumentDraft D G S) → IsDraft part_of global_of kind_of config_of book plain draft → refusal_of indices plain ≡ None → vec_len draft.entries ≤ 4096
+few-entries part_of global_of kind_of config_of book indices plain draft is e =
+    let a = (passed_over (has_unknown_kind plain) _ _ e).1 in
+    let b = (passed_over (has_double (listed_ids plain)) _ _ a).1 in
+    let d = (passed_over (has_id_past_next plain) _ _ b).1 in
+    let f = (passed_over (dangles plain) _ _ d).1 in
+    let g = (passed_over (has_unknown_system plain) _ _ f).1 in
+    let h = (passed_over (has_taken_name (systems_of plain)) _ _ g).1 in
+    let i = (passed_over (has_unknown_dependency [] (systems_of plain)) _ _ h).1 in
+    let j = (passed_over (lacks_global plain) _ _ i).1 in
+    let k = (passed_over (writes_reserved plain) _ _ j).1 in
+    let l = (passed_over (ltb 64 plain.workers) _ _ k).1 in
+    let few : ltb 4096 (length plain.entries) ≡ false = (passed_over (ltb 4096 (length plain.entries)) _ _ l).0 in
+    let count : length plain.entries ≡ vec_len draft.entries = ap length is.entries ∙ length-map draft.entries.items plain_entry ∙ sym draft.entries.ok.0 in
+    let within : length plain.entries ≤ 4096 = not_more (length plain.entries) few in omega (arith, within, count)
+  where
+    not_more : (count : ℕ) → ltb 4096 count ≡ false → count ≤ 4096
+    not_more count few = grind (arith, nat_tests)

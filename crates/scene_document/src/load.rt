@@ -1,0 +1,44 @@
+//! Loading a document.
+ghost use Rattle.std.specs.Prelude.{◌≡◌, Ok, MatchResult};
+ghost use Rattle.serde_json.specs.View.{view};
+ghost use Rattle.scene_document.specs.Drafts.{Draft};
+ghost use Rattle.scene_document.specs.Documents.{document_from};
+ghost use Rattle.scene_document.specs.Loading.{IsLoaded, IsNotLoaded};
+
+use crate::columns::into_loaded;
+use crate::loaded::{Limits, LoadError, Loaded};
+use crate::refusal::refusal;
+use crate::shape::read_draft;
+use crate::text::has_float;
+use scene_rules::{DocRefusal, ReadError, Rules};
+use serde_json::Value;
+use std::alloc::Global;
+
+/// Loads the document that a JSON is, where no refusal stands.
+///
+/// Errors: `Document` with the least refusal that stands; `Memory`.
+pub fn load_document<R: Rules>(
+    alloc: Global,
+    rules: &R,
+    limits: Limits,
+    value: &Value,
+) -> Result<Loaded<R::Data, R::Global, R::System>, LoadError>
+    ensures { MatchResult result
+        (λ loaded. (draft : Draft)
+        × (document_from (R.book rules.now) limits.indices (view value.now) ≡ Ok draft)
+        × IsLoaded R.part_of R.global_of R.kind_of R.config_of (R.book rules.now) draft loaded)
+        (IsNotLoaded (R.book rules.now) limits.indices (view value.now)) }
+{
+    if has_float(value) {
+        return Err(LoadError::Document(DocRefusal::NotWhole));
+    }
+    let draft = match read_draft(alloc, rules, value) {
+        Ok(draft) => draft,
+        Err(ReadError::Shape) => return Err(LoadError::Document(DocRefusal::WrongShape)),
+        Err(ReadError::Memory) => return Err(LoadError::Memory),
+    };
+    match refusal(alloc, rules, limits, &draft)? {
+        Some(found) => Err(LoadError::Document(found)),
+        None => Ok(into_loaded(alloc, rules, draft)?),
+    }
+}

@@ -1,0 +1,46 @@
+-- Lemmas on the runs of documents.
+use Rattle.std.proofs.Common.{◌≡◌, ℕ, List, sym, ◌∙◌, ap, subst}
+use Rattle.std.specs.Prelude.{Result, Ok, Err}
+use Rattle.scene_rules.specs.declared.refusals.Report.{Report}
+use Rattle.scene_rules.specs.declared.refusals.DocRefusal.{DocRefusal}
+use Rattle.scene_rules.specs.Rulebook.{Book}
+use Rattle.scene_rules.specs.Scenes.{PlainScene}
+use Rattle.scene_document.specs.Drafts.{Draft}
+use Rattle.scene_document.specs.Documents.{document_of}
+use Rattle.scene_document.specs.Openings.{first_scene, frames_of}
+use Rattle.scene_document.specs.Texts.{text_of}
+use Rattle.scene.specs.Runs.{Ran}
+use Rattle.scene.specs.Outcomes.{Bounds, IsRunOf}
+use Rattle.scene_laws.specs.OneOutcome.{OneOutcome, HadMemory, SameButPlace}
+use Rattle.scene_laws.proofs.TurnLemmas.{runs-one}
+
+-- two runs of a document that had memory are one
+pub ran-one : (book : Book) (limit : ℕ) (draft : Draft) (one other : Report) (scene after : PlainScene) → OneOutcome book → HadMemory one → HadMemory other → Ran book limit draft one scene → Ran book limit draft other after → (one ≡ other) × (scene ≡ after)
+ran-one book limit draft one other scene after lone first_memory second_memory first second = runs-one book lone limit (frames_of draft) draft.frames (first_scene draft) scene after one other first_memory second_memory first.0 first.1 second.0 second.1
+
+-- a document with the workers and the store of another
+abbrev pub placed_as : Draft → Draft → Draft
+placed_as other draft = record { next = draft.next; entities = draft.entities; globals = draft.globals; entries = draft.entries; frames = draft.frames; commands = draft.commands; workers = other.workers; store = other.store }
+
+-- two documents that differ in their workers and store are one but for those
+pub same-but-place : (one two : Draft) → SameButPlace one two → placed_as two one ≡ two
+same-but-place one two same = λ i. record { next = same.next i; entities = same.entities i; globals = same.globals i; entries = same.entries i; frames = same.frames i; commands = same.commands i; workers = two.workers; store = two.store }
+
+-- a run is one of the document with the workers and the store of another
+pub ran-as : (book : Book) (limit : ℕ) (one two : Draft) (report : Report) (scene : PlainScene) → SameButPlace one two → Ran book limit one report scene → Ran book limit two report scene
+ran-as book limit one two report scene same ran = subst (λ draft. Ran book limit draft report scene) (same-but-place one two same) ran
+
+-- the draft that is a document, or another
+abbrev pub draft_or : Draft → Result Draft DocRefusal → Draft
+draft_or other (Ok draft) = draft
+draft_or other (Err refusal) = other
+
+-- the runs of two documents that differ in their workers and store, and had memory, have one report and one text
+pub runs-as-one : (book : Book) (bounds : Bounds) (input other : List ℕ) (one two : Draft) (first second : Report) (text more : List ℕ) → OneOutcome book → HadMemory first → HadMemory second → document_of book bounds.indices input ≡ Ok one → document_of book bounds.indices other ≡ Ok two → SameButPlace one two → IsRunOf book bounds input first text → IsRunOf book bounds other second more → (first ≡ second) × (text ≡ more)
+runs-as-one book bounds input other one two first second text more lone first_memory second_memory is_one is_two same run run_too =
+    let draft : run.draft ≡ one = ap (draft_or one) (sym run.document ∙ is_one) in
+    let draft_too : run_too.draft ≡ two = ap (draft_or two) (sym run_too.document ∙ is_two) in
+    let ran : Ran book bounds.commands two first run.scene = ran-as book bounds.commands one two first run.scene same (subst (λ some. Ran book bounds.commands some first run.scene) draft run.ran) in
+    let ran_too : Ran book bounds.commands two second run_too.scene = subst (λ some. Ran book bounds.commands some second run_too.scene) draft_too run_too.ran in
+    let end = ran-one book bounds.commands two first second run.scene run_too.scene lone first_memory second_memory ran ran_too in
+    (end.0, run.written ∙ (ap (text_of book) end.1 ∙ sym run_too.written))

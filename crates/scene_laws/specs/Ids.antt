@@ -1,0 +1,24 @@
+-- How the ids of a scene go on to those of a later one.
+use Rattle.std.specs.Prelude.{◌≡◌, ◌<◌, ◌≤◌, ℕ, suc, true, false}
+use Rattle.scene_rules.specs.Scenes.{PlainScene, IdsFit, lives}
+
+-- ids go on from a scene to a later one: the next id does not fall, ids ascend and are below it, an id that was given and does
+-- not live does not come back, and an id that is new was not given before
+pub record IdsGoOn (scene after : PlainScene) : Type 0 where
+  pub next : scene.next ≤ after.next
+  pub fit : IdsFit after.next after.ids
+  pub no_return : (id : ℕ) → id < scene.next → lives id scene.ids ≡ false → lives id after.ids ≡ false
+  pub fresh : (id : ℕ) → lives id after.ids ≡ true → lives id scene.ids ≡ false → scene.next ≤ id
+
+-- an id is given: no entity had it, and it is the last and the only one that came
+pub record Gives (id : ℕ) (scene after : PlainScene) : Type 0 where
+  pub is_next : id ≡ scene.next
+  pub unused : lives id scene.ids ≡ false
+  pub lives_now : lives id after.ids ≡ true
+  pub next_after : after.next ≡ suc id
+
+-- an id is taken away: an entity had it, none has it now, and it stays below the next one
+pub record TakesAway (id : ℕ) (scene after : PlainScene) : Type 0 where
+  pub lived : lives id scene.ids ≡ true
+  pub dead_now : lives id after.ids ≡ false
+  pub below : id < after.next

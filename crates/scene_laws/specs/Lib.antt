@@ -1,0 +1,6 @@
+-- The definitions that the laws cite.
+pub mod Ids
+pub mod References
+pub mod OneOutcome
+pub mod Parts
+pub mod Printed

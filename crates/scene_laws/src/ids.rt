@@ -1,0 +1,24 @@
+//! An id is given once.
+ghost use Rattle.std.specs.Prelude.{◌≡◌, ℕ, List};
+ghost use Rattle.scene_rules.specs.Scenes.{PlainScene, PlainFrame, IdsFit};
+ghost use Rattle.scene_rules.specs.Rulebook.{spawn, kill};
+ghost use Rattle.scene_rules.specs.Parts.{Name, Part};
+ghost use Rattle.scene_rules.specs.Commands.{apply, changed};
+ghost use Rattle.scene_rules.specs.declared.refusals.Skip.{Skip};
+ghost use Rattle.scene.specs.Frames.{Reaches};
+ghost use Rattle.scene_laws.specs.Ids.{IdsGoOn, Gives, TakesAway};
+
+use scene_rules::Rules;
+
+/// No id is given twice: over any number of frames the next id does not fall, an id that was given and does not live
+/// stays dead, and each id that came is new; a spawn gives the next id, which no entity had; and a killed id
+/// is dead and below the next one, so that it stays dead.
+pub fn an_id_is_given_once<R: Rules>(rules: &R)
+    ensures go_on { (limit : ℕ) (frames : ℕ → PlainFrame) (count : ℕ) (scene after : PlainScene)
+        (skips : List Skip) → IdsFit scene.next scene.ids
+        → Reaches (R.book rules.now) limit frames count scene after skips → IdsGoOn scene after }
+    ensures spawned { (parts : List (Name × Part)) (scene after : PlainScene) → IdsFit scene.next scene.ids
+        → apply (spawn parts) scene ≡ changed after → Gives scene.next scene after }
+    ensures killed { (id : ℕ) (scene after : PlainScene) → IdsFit scene.next scene.ids
+        → apply (kill id) scene ≡ changed after → TakesAway id scene after }
+{}

@@ -1,0 +1,42 @@
+//! A run has one outcome.
+ghost use Rattle.std.specs.Prelude.{◌≡◌, ℕ, List, Ok};
+ghost use Rattle.scene_rules.specs.Scenes.{PlainScene};
+ghost use Rattle.scene_rules.specs.declared.refusals.Report.{Report};
+ghost use Rattle.scene_document.specs.Drafts.{Draft};
+ghost use Rattle.scene_document.specs.Documents.{document_of};
+ghost use Rattle.scene.specs.Runs.{Ran};
+ghost use Rattle.scene.specs.Outcomes.{Bounds, IsRunOf};
+ghost use Rattle.scene_laws.specs.OneOutcome.{OneOutcome, HadMemory, SameButPlace};
+
+use scene_rules::Rules;
+
+/// Where each system allows one outcome, a document has one: two runs of it that do not end in a want of memory have the
+/// same report and reach the same scene.
+pub fn one_outcome<R: Rules>(rules: &R)
+    ensures report { (limit : ℕ) (draft : Draft) (one other : Report) (scene after : PlainScene)
+        → OneOutcome (R.book rules.now) → HadMemory one → HadMemory other
+        → Ran (R.book rules.now) limit draft one scene → Ran (R.book rules.now) limit draft other after
+        → one ≡ other }
+    ensures scene { (limit : ℕ) (draft : Draft) (one other : Report) (scene after : PlainScene)
+        → OneOutcome (R.book rules.now) → HadMemory one → HadMemory other
+        → Ran (R.book rules.now) limit draft one scene → Ran (R.book rules.now) limit draft other after
+        → scene ≡ after }
+{}
+
+/// Where each system allows one outcome, neither the workers nor the store that a document names change what its run
+/// answers: the runs of two documents that differ in those alone, and do not end in a want of memory, have the same
+/// report and the same text.
+pub fn workers_and_store_change_nothing<R: Rules>(rules: &R)
+    ensures report { (bounds : Bounds) (input other : List ℕ) (one two : Draft) (first second : Report)
+        (text more : List ℕ) → OneOutcome (R.book rules.now) → HadMemory first → HadMemory second
+        → document_of (R.book rules.now) bounds.indices input ≡ Ok one
+        → document_of (R.book rules.now) bounds.indices other ≡ Ok two → SameButPlace one two
+        → IsRunOf (R.book rules.now) bounds input first text
+        → IsRunOf (R.book rules.now) bounds other second more → first ≡ second }
+    ensures text { (bounds : Bounds) (input other : List ℕ) (one two : Draft) (first second : Report)
+        (text more : List ℕ) → OneOutcome (R.book rules.now) → HadMemory first → HadMemory second
+        → document_of (R.book rules.now) bounds.indices input ≡ Ok one
+        → document_of (R.book rules.now) bounds.indices other ≡ Ok two → SameButPlace one two
+        → IsRunOf (R.book rules.now) bounds input first text
+        → IsRunOf (R.book rules.now) bounds other second more → text ≡ more }
+{}

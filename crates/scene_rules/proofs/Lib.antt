@@ -1,0 +1,3 @@
+pub mod NameLemmas
+pub mod ColumnsLemmas
+pub mod FragmentLemmas

@@ -1,0 +1,55 @@
+-- What the trait `Rules` asks of an implementation, beside the contracts of its calls.
+use Rattle.std.specs.Prelude.{◌≡◌, ℕ, true, false, List, length, All, map, Option, Some, None, Result, MatchResult, AllPairs}
+use Rattle.std.specs.Cmp.Lexicographic.{slice_cmp}
+use Rattle.std.specs.Ordering.{nat_cmp}
+use Rattle.std.specs.declared.cmp.Ordering.TheVariants.{Less}
+use Rattle.std.specs.String.{string_bytes}
+use Rattle.scene_rules.specs.declared.rules.ReadError.{ReadError}
+use Rattle.scene_rules.specs.declared.rules.ReadError.TheVariants.{Shape}
+use Rattle.scene_rules.specs.declared.rules.Stop.{Stop}
+use Rattle.scene_rules.specs.declared.rules.Stop.TheVariants as stop
+use Rattle.std.specs.Str.{bytes_eq}
+use Rattle.scene_rules.specs.Parts.{Json, Name, Ref, living, Part, is_among}
+use Rattle.scene_rules.specs.Rulebook.{Book, Facts, Access, Outcome, refuses, fills, queue_room, Command, spawn, kill, put, take}
+
+-- names ascend by their bytes, and so stand once each
+abbrev pub Ascend : List Name → Type 0
+Ascend names = AllPairs (λ one other. slice_cmp nat_cmp one other ≡ Less) names
+
+-- what was read, or that there is nothing to read; want of memory says nothing
+abbrev pub IsReadingOf : {V X : Type 0} → (V → X) → Option X → Result V ReadError → Type 0
+IsReadingOf meaning expected result = MatchResult result (λ value. expected ≡ Some (meaning value)) (λ error. error ≡ Shape → expected ≡ None)
+
+-- the ids of a part's references, all of which live
+abbrev pub refs_to : List ℕ → List Ref
+refs_to ids = map (λ id. living id) ids
+
+-- a system of a kind with a configuration was made, or its kind is unknown
+abbrev pub IsMaking : {S : Type 0} → (S → Name) → (S → Json) → Name → Json → Option (Option Facts) → Option S → Type 0
+IsMaking kind_of config_of kind config facts None = facts ≡ Some None
+IsMaking kind_of config_of kind config facts (Some system) = (some : Facts) × (facts ≡ Some (Some some)) × (kind_of system ≡ kind) × (config_of system ≡ config)
+
+-- what a stop says of a system's turn, which had put these commands in its queue: a refusal is one that the rules allow, a full
+-- queue is full of what they allow, and want of memory says nothing
+abbrev pub IsStopOf : (Outcome → Type 0) → List Command → Stop → Type 0
+IsStopOf meets commands (stop.Refused text) = meets (refuses (string_bytes text))
+IsStopOf meets commands stop.Memory = Unit {0}
+IsStopOf meets commands stop.Full = meets (fills commands) × (length commands ≡ queue_room)
+
+-- a kind is the rules', and a part is of that kind
+abbrev pub IsKnownPart : Book → Name × Part → Type 0
+IsKnownPart book entry = (is_among entry.0 book.part_names ≡ true) × (book.admits entry.0 entry.1 ≡ true)
+
+-- a command is one that the rules know: its kinds are theirs, those of a spawn differ, and its parts are of their kinds
+abbrev pub IsLawful : Book → Command → Type 0
+IsLawful book (spawn parts) = All (IsKnownPart book) parts × AllPairs (λ one other. bytes_eq one.0 other.0 ≡ false) parts
+IsLawful book (kill id) = Unit {0}
+IsLawful book (put id kind part) = IsKnownPart book (kind, part)
+IsLawful book (take id kind) = is_among kind book.part_names ≡ true
+
+-- the names that a system declares are the rules'
+pub record DeclaresKnown (book : Book) (access : Access) : Type 0 where
+  pub reads : All (λ kind. is_among kind book.part_names ≡ true) access.reads
+  pub writes : All (λ kind. is_among kind book.part_names ≡ true) access.writes
+  pub read_globals : All (λ name. is_among name book.global_names ≡ true) access.read_globals
+  pub written_globals : All (λ name. is_among name book.global_names ≡ true) access.written_globals

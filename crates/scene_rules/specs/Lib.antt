@@ -1,0 +1,10 @@
+-- The definitions that the contracts of this crate cite, in the order in which a reader needs them.
+pub mod Parts
+pub mod Rulebook
+pub mod Scenes
+pub mod Commands
+pub mod Slots
+pub mod Lent
+pub mod Laws
+pub mod Queues
+pub mod Lending

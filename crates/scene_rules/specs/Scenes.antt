@@ -1,0 +1,79 @@
+-- A scene, the fragment of it that a system is lent, and the scene after a system's turn.
+use Rattle.std.specs.Prelude.{◌≡◌, ◌<◌, ℕ, Bool, true, ◌==◌, List, length, Option, Some, None, All, AllPairs, if◌then◌else◌}
+use Rattle.std.specs.List.{list_any}
+use Rattle.scene_rules.specs.Parts.{Json, Name, Ref, living, gone, Part, is_among}
+use Rattle.scene_rules.specs.Rulebook.{Access, declares, declares_global, Fragment, Book, leaves, refuses, fills, Command, queue_room}
+
+-- a scene: the next id, the ids ascending, the part of each id under each kind, the value of each global
+pub record PlainScene : Type 0 where
+  pub next : ℕ
+  pub ids : List ℕ
+  pub part : ℕ → Name → Option Part
+  pub global : Name → Option Json
+
+-- whether an id lives
+abbrev pub lives : ℕ → List ℕ → Bool
+lives id ids = list_any (λ other. other == id) ids
+
+-- a reference to an entity that lives
+abbrev pub RefLives : List ℕ → Ref → Type 0
+RefLives ids (living id) = lives id ids ≡ true
+RefLives ids gone = ⊥
+
+-- each reference of each part of a living id names a living id
+abbrev pub RefsLive : List ℕ → (ℕ → Name → Option Part) → Type 0
+RefsLive ids part = (id : ℕ) (kind : Name) (held : Part) → lives id ids ≡ true → part id kind ≡ Some held → All (RefLives ids) held.refs
+
+-- each part is one that the rules admit under its kind
+abbrev pub PartsAdmitted : Book → (ℕ → Name → Option Part) → Type 0
+PartsAdmitted book part = (id : ℕ) (kind : Name) (held : Part) → part id kind ≡ Some held → book.admits kind held ≡ true
+
+-- each part stands at a living id
+abbrev pub PartsOwned : List ℕ → (ℕ → Name → Option Part) → Type 0
+PartsOwned ids part = (id : ℕ) (kind : Name) (held : Part) → part id kind ≡ Some held → lives id ids ≡ true
+
+-- ids ascend and are below the next one
+pub record IdsFit (next : ℕ) (ids : List ℕ) : Type 0 where
+  pub ascend : AllPairs (λ one other. one < other) ids
+  pub below : All (λ id. id < next) ids
+
+-- what a scene holds of the declared kinds and globals
+abbrev pub fragment : Access → PlainScene → Fragment
+fragment access scene = record {
+  ids = scene.ids;
+  part = λ id kind. if declares access kind then scene.part id kind else None;
+  global = λ name. if declares_global access name then scene.global name else None;
+}
+
+-- the scene with what a system left of its written kinds and globals put in, and all else equal
+abbrev pub with_left : Access → Fragment → PlainScene → PlainScene
+with_left access left scene = record {
+  next = scene.next;
+  ids = scene.ids;
+  part = λ id kind. if is_among kind access.writes then left.part id kind else scene.part id kind;
+  global = λ name. if is_among name access.written_globals then left.global name else scene.global name;
+}
+
+-- a system by what a document says of it: where it stands among the entries, its kind, its configuration and what it declares
+pub record PlainSystem : Type 0 where
+  pub position : ℕ
+  pub kind : Name
+  pub config : Json
+  pub access : Access
+
+-- a system's turn takes a scene to the one after, with these commands
+abbrev pub Steps : Book → PlainSystem → PlainScene → PlainScene → List Command → Type 0
+Steps book system scene after commands = (left : Fragment) × book.meets system.kind system.config (fragment system.access scene) (leaves left commands) × (after ≡ with_left system.access left scene)
+
+-- a system refuses a scene with a text
+abbrev pub StepRefuses : Book → PlainSystem → PlainScene → List ℕ → Type 0
+StepRefuses book system scene text = book.meets system.kind system.config (fragment system.access scene) (refuses text)
+
+-- a system fills its queue with these commands, and has more
+abbrev pub StepFills : Book → PlainSystem → PlainScene → List Command → Type 0
+StepFills book system scene commands = book.meets system.kind system.config (fragment system.access scene) (fills commands) × (length commands ≡ queue_room)
+
+-- what a frame is made of: its systems in their order, and the document's commands for it
+pub record PlainFrame : Type 0 where
+  pub order : List PlainSystem
+  pub commands : List Command

@@ -1,0 +1,5 @@
+pub mod Views
+pub mod Moves
+pub mod Runs
+pub mod Seats
+pub mod Staging

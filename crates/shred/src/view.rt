@@ -1,0 +1,79 @@
+//! What a system is lent of a world.
+ghost use Rattle.std.specs.Prelude.{◌≡◌, IfSome, IfNone, option_copied};
+ghost use Rattle.shred_world.specs.Bundles.{Holding, is_listed};
+ghost use Rattle.shred.specs.Views.{view_slots, FitsSeat, error_of};
+ghost use Rattle.shred.specs.Runs.{RunsInView};
+
+use crate::{Stop, System};
+use shred_world::{Holder, ResourceId, World};
+
+/// The values that a system declares, and no others: those that it reads in the world, those that it writes out of it.
+pub struct View<'w, V> {
+    world: &'w World<V>,
+    reads: &'w [ResourceId],
+    writes: &'w [ResourceId],
+    seat: World<V>,
+    ghost seated: { FitsSeat writes.now seat },
+}
+
+impl<V> Holder<V> for View<'_, V> {
+    ghost slots = { λ view. view_slots view.reads.now view.writes.now view.world.now view.seat };
+
+    fn value(&self, id: ResourceId) -> Option<&V> {
+        if is_among(id, self.writes) {
+            self.seat.get_raw(id)
+        } else if is_among(id, self.reads) {
+            self.world.get_raw(id)
+        } else {
+            None
+        }
+    }
+
+    fn take(&mut self, id: ResourceId) -> Option<V> {
+        self.seat.take_raw(id)
+    }
+
+    fn put(&mut self, id: ResourceId, value: V) {
+        self.seat.put_back(id, value)
+    }
+}
+
+/// Runs a system over the values that it reads in a world and those in a seat, and hands the seat back.
+pub(crate) fn run_in_view<V, S: System<V>, H: AllocGlobal>(
+    rt: &H,
+    system: &mut S,
+    world: &World<V>,
+    reads: &[ResourceId],
+    writes: &[ResourceId],
+    seat: World<V>,
+) -> (Result<(), Stop>, World<V>)
+    requires seated { FitsSeat writes.now seat }
+    ensures { RunsInView S.meets system.old (view_slots reads.now writes.now world.now seat) (error_of result.0) system.new result.1 }
+{
+    let mut view = View {
+        world,
+        reads,
+        writes,
+        seat,
+    };
+    let outcome = system.run(rt, &mut view);
+    let View {
+        world: _,
+        reads: _,
+        writes: _,
+        seat,
+    } = view;
+    (outcome, seat)
+}
+
+/// Whether the id is in the list.
+fn is_among(id: ResourceId, ids: &[ResourceId]) -> bool
+    ensures { result ≡ is_listed ids.now id }
+{
+    for other in ids {
+        if id == *other {
+            return true;
+        }
+    }
+    false
+}

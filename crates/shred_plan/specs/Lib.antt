@@ -1,0 +1,4 @@
+pub mod Plan
+pub mod PlanText
+pub mod Places
+pub mod Laws
