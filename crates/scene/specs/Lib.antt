@@ -3,10 +3,10 @@ pub use Rattle.scene_rules.specs.Parts
 pub use Rattle.scene_rules.specs.Rulebook
 pub use Rattle.scene_rules.specs.Scenes
 pub use Rattle.scene_rules.specs.Commands
-pub use Rattle.scene_document.specs.Drafts
+pub use Rattle.scene_draft.specs.Drafts
 pub use Rattle.scene_document.specs.Documents
 pub use Rattle.scene_document.specs.Openings
-pub use Rattle.scene_document.specs.Texts
+pub use Rattle.scene_draft.specs.Texts
 pub mod Frames
 pub mod Runs
 pub mod Engine

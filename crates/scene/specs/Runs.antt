@@ -3,7 +3,7 @@ use Rattle.std.specs.Prelude.{ℕ}
 use Rattle.scene_rules.specs.declared.refusals.Report.{Report}
 use Rattle.scene_rules.specs.Rulebook.{Book}
 use Rattle.scene_rules.specs.Scenes.{PlainScene}
-use Rattle.scene_document.specs.Drafts.{Draft}
+use Rattle.scene_draft.specs.Drafts.{Draft}
 use Rattle.scene_document.specs.Openings.{first_scene, frames_of}
 use Rattle.scene.specs.Frames.{Reaches, Ended}
 

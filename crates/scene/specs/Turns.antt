@@ -8,7 +8,8 @@ use Rattle.scene_rules.specs.Parts.{Json, Name, Part}
 use Rattle.scene_rules.specs.Rulebook.{Book}
 use Rattle.scene_rules.specs.Scenes.{PlainScene, PlainFrame}
 use Rattle.scene_rules.specs.Commands.{skips_of}
-use Rattle.scene_document.specs.Drafts.{Draft}
+use Rattle.scene_draft.specs.Drafts.{Draft}
+use Rattle.scene_draft.specs.Texts.{json_of}
 use Rattle.scene_document.specs.Documents.{document_from}
 use Rattle.scene_document.specs.Openings.{first_scene, frames_of}
 use Rattle.scene_document.specs.Loading.{loaded_scene, frames_in, CanRun}
@@ -98,3 +99,7 @@ module _ {R D G S : Type 0} (part_of : D → Part) (global_of : G → Json) (kin
     pub same_rules : rules_of scene ≡ rules
     pub ready : IsReady scene
     pub document : (draft : Draft) × (document_from (book_of rules) limits.indices json ≡ Ok draft) × (shown_of scene ≡ opening limits.commands draft)
+
+  -- a scene was opened from bytes: they read as a JSON, and it was opened from that
+  abbrev pub IsOpenedFrom : R → Limits → List ℕ → Scene R D G S → Type 0
+  IsOpenedFrom rules limits bytes scene = (json : Json) × (json_of bytes ≡ Some json) × IsOpened rules limits json scene

@@ -2,8 +2,9 @@
 ghost use Rattle.std.specs.Prelude.{◌≡◌, ◌<◌, OnOk, OnErr, IfOk, MatchResult};
 
 use crate::turns::run_loaded;
-use scene_document::{Limits, LoadError, Loaded, load_document, scene_text};
-use scene_rules::{Report, Rules, Skips};
+use scene_document::{Limits, LoadError, Loaded, load_document};
+use scene_draft::{JsonError, read_json, scene_text};
+use scene_rules::{DocRefusal, Report, Rules, Skips};
 use serde_json::Value;
 use std::alloc::{AllocError, Global};
 use std::mem;
@@ -22,13 +23,37 @@ pub struct Scene<R: Rules + Drop> {
 pub struct Refused;
 
 impl<R: Rules + Drop> Scene<R> {
-    ghost use Rattle.scene.specs.Turns.{shown_of, rules_of, IsReady, IsOpened, Advances, Stays, frames_left};
+    ghost use Rattle.scene.specs.Turns.{shown_of, rules_of, IsReady, IsOpened, IsOpenedFrom, Advances, Stays, frames_left};
+    ghost use Rattle.scene.specs.Outcomes.{IsNoDocument, bounds_of};
     ghost use Rattle.scene_document.specs.Loading.{IsNotLoaded};
     ghost use Rattle.scene.specs.Limits.{AreLimits};
     ghost use Rattle.serde_json.specs.View.{view};
-    ghost use Rattle.scene_document.specs.Texts.{text_of};
+    ghost use Rattle.scene_draft.specs.Texts.{scene_json, text_of, ReadsBack};
 
-    /// The scene of a document, before any frame.
+    /// The scene of the document in these bytes, before any frame.
+    ///
+    /// Errors: `Document`, with the least refusal that stands; `Memory`. The limits are at most the greatest ones, and
+    /// `generation` is at least 1.
+    pub fn open(
+        alloc: Global,
+        rules: R,
+        limits: Limits,
+        bytes: &[u8],
+    ) -> Result<Scene<R>, LoadError>
+        requires { AreLimits limits }
+        ensures { MatchResult result
+            (IsOpenedFrom R.part_of R.global_of R.kind_of R.config_of R.book rules limits bytes.now)
+            (IsNoDocument (R.book rules) (bounds_of limits) bytes.now) }
+    {
+        let value = match read_json(alloc, bytes) {
+            Ok(value) => value,
+            Err(JsonError::Unreadable) => return Err(LoadError::Document(DocRefusal::Unreadable)),
+            Err(JsonError::Memory) => return Err(LoadError::Memory),
+        };
+        Scene::load(alloc, rules, limits, &value)
+    }
+
+    /// The scene of a document that was read as JSON, before any frame.
     ///
     /// Errors: `Document`, with the least refusal that stands; `Memory`. The limits are at most the greatest ones, and
     /// `generation` is at least 1.
@@ -113,10 +138,12 @@ impl<R: Rules + Drop> Scene<R> {
         self.loaded.frames.saturating_sub(self.report.frames)
     }
 
-    /// The text of the last accepted scene. Refused for memory alone.
+    /// The text of the last accepted scene, which reads as the JSON of the scene and as no other. Refused for memory alone.
     pub fn snapshot(&self, alloc: Global) -> Result<Vec<u8>, AllocError>
-        ensures { IfOk result (λ text. text.items ≡ text_of (R.book (rules_of self.now))
+        ensures text { IfOk result (λ text. text.items ≡ text_of (R.book (rules_of self.now))
             (shown_of R.part_of R.global_of R.kind_of R.config_of R.book self.now).scene) }
+        ensures reads { IfOk result (λ text. ReadsBack text.items (scene_json (R.book (rules_of self.now))
+            (shown_of R.part_of R.global_of R.kind_of R.config_of R.book self.now).scene)) }
     {
         scene_text(
             alloc,
@@ -145,6 +172,7 @@ impl<R: Rules + Drop> Scene<R> {
     pub fn into_report(self) -> Report
         ensures { result ≡ (shown_of R.part_of R.global_of R.kind_of R.config_of R.book self).report }
     {
-        self.report
+        let Scene { report: told, .. } = self;
+        told
     }
 }

@@ -12,7 +12,7 @@ ghost use Rattle.scene.specs.Outcomes.{IsRunOf, IsNoDocument, RunsDocument, boun
 
 use crate::frame::Scene;
 use scene_devices::{CountedRead, CountedWrite, ReadError, read_document, write_text};
-use scene_document::{JsonError, Limits, LoadError, read_json};
+use scene_document::{Limits, LoadError};
 use scene_rules::{DocRefusal, Report, Rules};
 
 /// Why a run gave no report.
@@ -42,12 +42,7 @@ fn play<R: Rules + Drop, H: AllocGlobal>(
         (λ played. IsRunOf (R.book rules) (bounds_of limits) bytes.now played.0 played.1.items)
         (IsNoDocument (R.book rules) (bounds_of limits) bytes.now) }
 {
-    let value = match read_json(rt.alloc(), bytes) {
-        Ok(value) => value,
-        Err(JsonError::Unreadable) => return Err(LoadError::Document(DocRefusal::Unreadable)),
-        Err(JsonError::Memory) => return Err(LoadError::Memory),
-    };
-    let mut scene = match Scene::load(rt.alloc(), rules, limits, &value) {
+    let mut scene = match Scene::open(rt.alloc(), rules, limits, bytes) {
         Ok(scene) => scene,
         Err(error) => return Err(error),
     };

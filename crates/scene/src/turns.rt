@@ -172,7 +172,8 @@ pub fn run_loaded<R: Rules, H: AllocGlobal>(
     ) {
         Ok(()) => Ok(()),
         Err(cause) => {
-            restore(&mut loaded.columns, saved);
+            let columns = &mut loaded.columns;
+            restore(columns, saved);
             Err(cause)
         }
     }

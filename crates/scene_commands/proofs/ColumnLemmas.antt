@@ -1,6 +1,6 @@
 -- Lemmas on columns and slots: what stands under a name after a slot of one of them was set.
-use Rattle.std.proofs.Common.{◌≡◌, ◌≢◌, ◌≤◌, ◌<◌, ℕ, zero, suc, ◌+◌, ◌==◌, ◌&&◌, ◌||◌, Bool, true, false, cond, List, [], ◌∷◌, ◌++◌, Option, Some, None, option_and_then, refl, sym, ◌∙◌, ap, ⊎_elim, length, slice_set, arith}
-use Rattle.std.proofs.lemmas.Option.{slice_get_within, none-some, same_Some}
+use Rattle.std.proofs.Common.{◌≡◌, ◌≢◌, ℕ, zero, suc, ◌+◌, ◌==◌, ◌&&◌, ◌||◌, Bool, true, false, cond, List, [], ◌∷◌, ◌++◌, Option, Some, None, refl, sym, ◌∙◌, ap, ⊎_elim, slice_set, arith}
+use Rattle.std.proofs.lemmas.Option.{slice_get_within, none-some}
 use Rattle.std.proofs.lemmas.Bool.{cases_Bool, cases_eq, false≢true}
 use Rattle.std.proofs.lemmas.Bool.Decides.{nat_tests}
 use Rattle.std.proofs.Math.Bool.{and-true, and-false}
@@ -12,59 +12,8 @@ use Rattle.std.specs.Ordering.{nat_cmp}
 use Rattle.std.specs.BTreeMap.{BTreeMap, get, is_at}
 use Rattle.scene_rules.specs.Parts.{Name, place_of, is_among}
 use Rattle.scene_rules.specs.Slots.{in_column, filled}
+use Rattle.scene_rules.proofs.ColumnsLemmas.{slice_get-set_same, slice_get-set_other, under_name, under_name-set}
 use Rattle.scene_commands.specs.Over.{slot, slot_in}
-
--- what was set at a place stands there
-pub slice_get-set_same : {X : Type 0} (xs : List X) (i : ℕ) (x : X) → i < length xs → slice_get (slice_set xs i x) i ≡ Some x
-slice_get-set_same [] i x below = absurd (omega arith)
-slice_get-set_same (y ∷ ys) zero x below = refl
-slice_get-set_same (y ∷ ys) (suc i) x below = slice_get-set_same ys i x (omega arith)
-
--- other places keep what they had
-pub slice_get-set_other : {X : Type 0} (xs : List X) (i j : ℕ) (x : X) → j ≢ i → slice_get (slice_set xs i x) j ≡ slice_get xs j
-slice_get-set_other [] i j x differ = refl
-slice_get-set_other (y ∷ ys) zero zero x differ = absurd (differ refl)
-slice_get-set_other (y ∷ ys) zero (suc j) x differ = refl
-slice_get-set_other (y ∷ ys) (suc i) zero x differ = refl
-slice_get-set_other (y ∷ ys) (suc i) (suc j) x differ = slice_get-set_other ys i j x (λ same. differ (ap (λ n. suc n) same))
-
--- a place that is found is at or after the start
-pub position_from-least : {X : Type 0} (p : X → Bool) (i place : ℕ) (xs : List X) → position_from p i xs ≡ Some place → i ≤ place
-position_from-least p i place [] e = absurd (none-some place e)
-position_from-least p i place (x ∷ xs) e = here (p x) (λ found. position_from-least p (i + 1) place xs found) e
-  where
-    here : (b : Bool) → (position_from p (i + 1) xs ≡ Some place → i + 1 ≤ place) → cond b (Some i) (position_from p (i + 1) xs) ≡ Some place → i ≤ place
-    here true later found = let same : i ≡ place = same_Some i place found in omega arith
-    here false later found = let past : i + 1 ≤ place = later found in omega arith
-
--- two names that are found at one place are one name
-pub one_place : (name kind : List ℕ) (i place : ℕ) (names : List (List ℕ)) → position_from (λ other. bytes_eq other name) i names ≡ Some place → position_from (λ other. bytes_eq other kind) i names ≡ Some place → name ≡ kind
-one_place name kind i place [] e f = absurd (none-some place e)
-one_place name kind i place (x ∷ xs) e f = here (bytes_eq x name) (bytes_eq x kind) (λ t. (bytes_eq-Decides x name).0 t) (λ t. (bytes_eq-Decides x kind).0 t) (λ g h. one_place name kind (i + 1) place xs g h) e f
-  where
-    here : (b c : Bool) → (b ≡ true → x ≡ name) → (c ≡ true → x ≡ kind) → (position_from (λ other. bytes_eq other name) (i + 1) xs ≡ Some place → position_from (λ other. bytes_eq other kind) (i + 1) xs ≡ Some place → name ≡ kind) → cond b (Some i) (position_from (λ other. bytes_eq other name) (i + 1) xs) ≡ Some place → cond c (Some i) (position_from (λ other. bytes_eq other kind) (i + 1) xs) ≡ Some place → name ≡ kind
-    here true true one two later found found' = sym (one refl) ∙ two refl
-    here true false one two later found found' = let same : i ≡ place = same_Some i place found in let past : i + 1 ≤ place = position_from-least (λ other. bytes_eq other kind) (i + 1) place xs found' in absurd (omega arith)
-    here false true one two later found found' = let same : i ≡ place = same_Some i place found' in let past : i + 1 ≤ place = position_from-least (λ other. bytes_eq other name) (i + 1) place xs found in absurd (omega arith)
-    here false false one two later found found' = later found found'
-
--- what stands under a name, where the list goes with the names
-abbrev pub under_name : {X : Type 0} → List Name → List X → Name → Option X
-under_name names xs name = option_and_then (λ place. slice_get xs place) (place_of name names)
-
--- after a place was set, the name of that place has the new, every other name what it had
-pub under_name-set : {X : Type 0} (names : List Name) (xs : List X) (kind name : Name) (place : ℕ) (x : X) → place_of kind names ≡ Some place → place < length xs → under_name names (slice_set xs place x) name ≡ cond (bytes_eq name kind) (Some x) (under_name names xs name)
-under_name-set names xs kind name place x found below = ⊎_elim same other (cases_Bool (bytes_eq name kind))
-  where
-    same : bytes_eq name kind ≡ true → under_name names (slice_set xs place x) name ≡ cond (bytes_eq name kind) (Some x) (under_name names xs name)
-    same t = let one : name ≡ kind = (bytes_eq-Decides name kind).0 t in rw t (rw one (rw found (slice_get-set_same xs place x below)))
-
-    by_place : bytes_eq name kind ≡ false → (o : Option ℕ) → place_of name names ≡ o → option_and_then (λ i. slice_get (slice_set xs place x) i) o ≡ option_and_then (λ i. slice_get xs i) o
-    by_place f None e = refl
-    by_place f (Some j) e = slice_get-set_other xs place j x (λ equal. false≢true (sym f ∙ (bytes_eq-Decides name kind).1 (one_place name kind 0 place names (e ∙ ap (λ n. Some n) equal) found)))
-
-    other : bytes_eq name kind ≡ false → under_name names (slice_set xs place x) name ≡ cond (bytes_eq name kind) (Some x) (under_name names xs name)
-    other f = rw f (by_place f (place_of name names) refl)
 
 -- a column that was updated at an id has this slot there, and what it had elsewhere
 pub slot_in-new : {D : Type 0} (id : ℕ) (old new : BTreeMap ℕ (Option D)) (set_to : Option (Option D)) → ((q : ℕ) → get nat_cmp new q ≡ cond (is_at (nat_cmp id) q) set_to (get nat_cmp old q)) → (other : ℕ) → get nat_cmp new other ≡ cond (other == id) set_to (get nat_cmp old other)

@@ -9,7 +9,8 @@ use Rattle.std.specs.Ordering.{nat_cmp}
 use Rattle.std.specs.BTreeMap.{BTreeMap, get, is_at}
 use Rattle.scene_rules.specs.Slots.{in_column, filled}
 use Rattle.scene_commands.specs.Over.{slot_in, put_over, HasRoom}
-use Rattle.scene_commands.proofs.ColumnLemmas.{slice_get-set_same, slice_get-set_other, slot_in-new}
+use Rattle.scene_rules.proofs.ColumnsLemmas.{slice_get-set_same, slice_get-set_other}
+use Rattle.scene_commands.proofs.ColumnLemmas.{slot_in-new}
 
 -- a place of a list in which a place was set is that place or as it was
 pub set_at : {X : Type 0} (xs : List X) (place : ℕ) (x : X) → place < length xs → (at : ℕ) → ((at ≡ place) × (slice_get (slice_set xs place x) at ≡ Some x)) ⊎ ((at ≢ place) × (slice_get (slice_set xs place x) at ≡ slice_get xs at))
@@ -47,15 +48,6 @@ put-more id above rest old new set_to first taken updates q = ap (λ s. put_over
     here : (b : Bool) → (b ≡ true → q ≡ id) → put_over (cond b None (get nat_cmp above q)) (filled (cond b (Some set_to) (get nat_cmp old q))) ≡ put_over (get nat_cmp above q) (filled (get nat_cmp old q))
     here true same = sym (ap (λ s. put_over s (filled (get nat_cmp old q))) (ap (get nat_cmp above) (same refl) ∙ first))
     here false same = refl
-
--- the last of those that were taken from the front stands at their number less one
-pub taken_last : {T : Type 0} (n : ℕ) (all rest : List T) (one : T) → take n all ≡ rest ++ one ∷ [] → slice_get all (length rest) ≡ Some one
-taken_last zero all [] one e = absurd (none-some one (ap (λ xs. slice_get xs 0) e))
-taken_last zero all (r ∷ rest) one e = absurd (none-some r (ap (λ xs. slice_get xs 0) e))
-taken_last (suc n) [] [] one e = absurd (none-some one (ap (λ xs. slice_get xs 0) e))
-taken_last (suc n) [] (r ∷ rest) one e = absurd (none-some r (ap (λ xs. slice_get xs 0) e))
-taken_last (suc n) (x ∷ all) [] one e = ap (λ xs. slice_get xs 0) e
-taken_last (suc n) (x ∷ all) (r ∷ rest) one e = taken_last n all rest one (ap (λ xs. drop 1 xs) e)
 
 -- one place more from the end has the slots put over it
 pub put-place : {D : Type 0} (above kept now : List (BTreeMap ℕ (Option D))) (place : ℕ) (one old new : BTreeMap ℕ (Option D)) → place < length now → slice_get above place ≡ Some one → slice_get kept place ≡ Some old → ((id : ℕ) → in_column (Some new) id ≡ put_over (get nat_cmp one id) (in_column (Some old) id)) → ((at id : ℕ) → in_column (slice_get now at) id ≡ cond (nat_le (suc place) at) (put_over (slot_in (slice_get above at) id) (in_column (slice_get kept at) id)) (in_column (slice_get kept at) id)) → (at id : ℕ) → in_column (slice_get (slice_set now place new) at) id ≡ cond (nat_le place at) (put_over (slot_in (slice_get above at) id) (in_column (slice_get kept at) id)) (in_column (slice_get kept at) id)

@@ -20,7 +20,9 @@ use Rattle.scene_rules.specs.Lending.{IsSound, scene_in}
 use Rattle.scene_commands.specs.Over.{cut, cut_ref, dead, given, left, slot, slot_in, put_over, datum_over, scene_over, IsOver, SameColumns, PutIn}
 use Rattle.scene_commands.proofs.CutLemmas.{cut-none}
 use Rattle.scene_commands.proofs.LivingLemmas.{lives-filter, lives-front}
-use Rattle.scene_commands.proofs.ColumnLemmas.{in_column-slot, under_name}
+use Rattle.scene_rules.proofs.ColumnsLemmas.{under_name}
+use Rattle.scene_rules.proofs.FragmentLemmas.{cond_same}
+use Rattle.scene_commands.proofs.ColumnLemmas.{in_column-slot}
 use Rattle.scene_commands.proofs.OverLemmas.{same_scene, bare, ref-append}
 use Rattle.scene_commands.proofs.GoneLemmas.{live_datum}
 
@@ -54,10 +56,6 @@ refs_left is_dead ids (living id ∷ refs) h none k d below = here (is_dead id) 
     here true e dies later j within = absurd (false≢true (sym dies))
     here false e stays later zero within = lives-filter id is_dead ids ∙ rw (h zero d (omega arith), e) refl
     here false e stays later (suc j) within = later stays j d (omega arith)
-
-cond_same : {X : Type 0} (b : Bool) (x : X) → cond b x x ≡ x
-cond_same true x = refl
-cond_same false x = refl
 
 module _ {D G : Type 0} (part_of : D → Part) (global_of : G → Json) (book : Book) where
   -- columns that hold the same make the same scene

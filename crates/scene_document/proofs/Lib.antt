@@ -1,5 +1,3 @@
-pub mod TextLemmas
-pub mod ShapeLemmas
 pub mod BuildLemmas
 pub mod PlaceLemmas
 pub mod IdLemmas

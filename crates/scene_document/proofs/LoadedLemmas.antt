@@ -18,13 +18,13 @@ use Rattle.scene_document.proofs.IdLemmas.{lives-ascending}
 use Rattle.std.proofs.Math.Path.{fun_ext}
 use Rattle.std.proofs.lemmas.Slice.Eq.{bytes_eq-Decides}
 use Rattle.std.proofs.lemmas.List.Elements.{All-head, All-tail, All-cons, All-nil, All-map, All-weaker, All-same, All-append}
-use Rattle.scene_document.specs.declared.draft.EntityDraft.{EntityDraft}
-use Rattle.scene_document.specs.declared.draft.MadeDraft.{MadeDraft}
-use Rattle.scene_document.specs.declared.draft.SystemDraft.{SystemDraft}
-use Rattle.scene_document.specs.declared.draft.CommandDraft.{CommandDraft}
-use Rattle.scene_document.specs.declared.draft.EntryDraft.{EntryDraft}
-use Rattle.scene_document.specs.declared.draft.EntryDraft.TheVariants as entry
-use Rattle.scene_document.specs.declared.draft.DocumentDraft.{DocumentDraft}
+use Rattle.scene_draft.specs.declared.draft.EntityDraft.{EntityDraft}
+use Rattle.scene_draft.specs.declared.draft.MadeDraft.{MadeDraft}
+use Rattle.scene_draft.specs.declared.draft.SystemDraft.{SystemDraft}
+use Rattle.scene_draft.specs.declared.draft.CommandDraft.{CommandDraft}
+use Rattle.scene_draft.specs.declared.draft.EntryDraft.{EntryDraft}
+use Rattle.scene_draft.specs.declared.draft.EntryDraft.TheVariants as entry
+use Rattle.scene_draft.specs.declared.draft.DocumentDraft.{DocumentDraft}
 use Rattle.scene_document.specs.declared.loaded.Loaded.{Loaded}
 use Rattle.scene_rules.specs.declared.view.Columns.{Columns}
 use Rattle.scene_rules.specs.declared.placed.Placed.{Placed}
@@ -37,9 +37,9 @@ use Rattle.scene_rules.specs.Queues.{plain_commands}
 use Rattle.scene_rules.specs.Scenes.{PlainScene, PlainSystem, lives, RefLives, RefsLive, PartsAdmitted}
 use Rattle.scene_rules.specs.Commands.{ref_lives}
 use Rattle.scene_rules.specs.Laws.{Ascend, IsKnownPart, IsLawful}
-use Rattle.scene_document.specs.Drafts.{Draft, DraftPart, DraftEntity, DraftEntry, DraftCommand, spawn, kill, put, take}
+use Rattle.scene_draft.specs.Drafts.{Draft, DraftPart, DraftEntity, DraftEntry, DraftCommand, spawn, kill, put, take}
 use Rattle.scene_document.specs.Documents.{listed_ids, systems_of, has_unknown_kind, has_double, has_id_past_next, dangles, part_dangles, has_unknown_system, has_taken_name, has_unknown_dependency, lacks_global, writes_reserved, refusal_of}
-use Rattle.scene_document.specs.DraftViews.{name_at, named, plain_entity, plain_system, plain_entry, plain_asked, plain_list, facts_of, seen, config_seen, IsPlaced, IsAdmitted, IsDraft, IsMadeOf, IsMadeAs, IsOfBook, IsKnownDraft, Differ, AreApart, IsLawfulDraft}
+use Rattle.scene_draft.specs.DraftViews.{name_at, named, plain_entity, plain_system, plain_entry, plain_asked, plain_list, facts_of, seen, config_seen, IsPlaced, IsAdmitted, IsDraft, IsMadeOf, IsMadeAs, IsOfBook, IsKnownDraft, Differ, AreApart, IsLawfulDraft}
 use Rattle.scene_document.specs.Openings.{part_in, part_among, global_among, ascending, first_scene, Resource, same_resource, staged, with_facts, systems_at, staged_systems, local_systems, command_of, commands_in, commands_for, frames_of}
 use Rattle.shred_plan.specs.Plan.{Added, order}
 use Rattle.shred_plan.specs.Laws.{systems_added}

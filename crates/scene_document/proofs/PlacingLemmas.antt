@@ -9,12 +9,12 @@ use Rattle.std.specs.BTreeMap.{BTreeMap}
 use Rattle.std.proofs.lemmas.Map.Text.{is_eq-slice_cmp}
 use Rattle.scene_rules.specs.Parts.{Json, Name}
 use Rattle.scene_rules.specs.declared.placed.Placed.{Placed}
-use Rattle.scene_document.specs.declared.draft.EntryDraft.{EntryDraft}
-use Rattle.scene_document.specs.declared.draft.EntryDraft.TheVariants as entry
-use Rattle.scene_document.specs.declared.draft.MadeDraft.{MadeDraft}
-use Rattle.scene_document.specs.declared.draft.SystemDraft.{SystemDraft}
-use Rattle.scene_document.specs.Drafts.{DraftEntry, DraftSystem, barrier, system}
-use Rattle.scene_document.specs.DraftViews.{plain_entry, facts_of, seen, config_seen}
+use Rattle.scene_draft.specs.declared.draft.EntryDraft.{EntryDraft}
+use Rattle.scene_draft.specs.declared.draft.EntryDraft.TheVariants as entry
+use Rattle.scene_draft.specs.declared.draft.MadeDraft.{MadeDraft}
+use Rattle.scene_draft.specs.declared.draft.SystemDraft.{SystemDraft}
+use Rattle.scene_draft.specs.Drafts.{DraftEntry, DraftSystem, barrier, system}
+use Rattle.scene_draft.specs.DraftViews.{plain_entry, facts_of, seen, config_seen}
 use Rattle.scene_document.specs.Names.{has_name}
 use Rattle.scene_document.specs.Openings.{Resource, place_named, staged, staged_at}
 use Rattle.shred_plan.specs.Plan.{Added, fence, placing}
@@ -29,7 +29,7 @@ use Rattle.std.proofs.lemmas.Bool.Decides.{nat_tests}
 use Rattle.scene_rules.specs.Rulebook.{Facts}
 use Rattle.shred_plan.specs.Laws.{systems_added}
 use Rattle.scene_document.proofs.OrderLemmas.{times}
-use Rattle.scene_document.proofs.ShapeLemmas.{bytes_eq-symmetric}
+use Rattle.scene_draft.proofs.ShapeLemmas.{bytes_eq-symmetric}
 
 -- the places that are kept, with one more
 pub kept-updated : (place : ℕ) (other name : Name) (old new : BTreeMap (Bor Name) ℕ) → kept_place new other ≡ cond (is_eq (slice_cmp nat_cmp name other)) (Some place) (kept_place old other)

@@ -1,7 +1,7 @@
 -- What columns hold after parts were put in; no public clause cites this.
 use Rattle.std.specs.Prelude.{ℕ, ◌==◌, List, [], ◌∷◌, Option, Some, None, slice_get, if◌then◌else◌}
 use Rattle.std.specs.BTreeMap.{BTreeMap}
-use Rattle.scene_document.specs.declared.draft.EntityDraft.{EntityDraft}
+use Rattle.scene_draft.specs.declared.draft.EntityDraft.{EntityDraft}
 use Rattle.scene_rules.specs.Slots.{in_column}
 
 -- the datum of an id in the column at a place

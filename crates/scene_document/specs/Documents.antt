@@ -1,8 +1,7 @@
 -- Which document the bytes are, or why they are none: each refusal as a test of its own, and the least that stands.
-use Rattle.std.specs.Prelude.{ℕ, Bool, false, not, ◌&&◌, ◌||◌, List, [], ◌∷◌, ◌++◌, map, length, nat_lt, codes, Option, Some, None, is_none, Result, Ok, Err, if◌then◌else◌}
+use Rattle.std.specs.Prelude.{ℕ, Bool, false, not, ◌&&◌, ◌||◌, List, [], ◌∷◌, ◌++◌, map, length, nat_lt, Option, Some, None, is_none, Result, Ok, Err, if◌then◌else◌}
 use Rattle.std.specs.List.{list_any, filter_map}
-use Rattle.std.specs.Str.{bytes_eq, is_utf8}
-use Rattle.serde_json.specs.Read.{read}
+use Rattle.std.specs.Str.{bytes_eq}
 use Rattle.serde_json.specs.Written.{has_float}
 use Rattle.scene_rules.specs.declared.refusals.DocRefusal.{DocRefusal}
 use Rattle.scene_rules.specs.declared.refusals.DocRefusal.TheVariants.{Unreadable, NotWhole, WrongShape, UnknownKind, DoubleId, IdNotBelowNext, Dangling, UnknownSystem, NameTaken, UnknownDependency, MissingGlobal, ReservedWrite, TooManyWorkers, TooManySystems, UnknownStore, TooManyEntities}
@@ -10,17 +9,14 @@ use Rattle.scene_rules.specs.Parts.{Json, Name, is_among}
 use Rattle.scene_rules.specs.Rulebook.{Book, Facts, Access}
 use Rattle.scene_rules.specs.Scenes.{lives}
 use Rattle.scene_rules.specs.Commands.{ref_lives}
-use Rattle.scene_document.specs.Drafts.{Draft, DraftPart, DraftSystem, DraftEntry, barrier, system, DraftCommand, spawn, kill, put, take, draft_from}
+use Rattle.scene_draft.specs.Drafts.{Draft, DraftPart, DraftSystem, system_of_entry, DraftCommand, spawn, kill, put, take, stores, draft_from}
+use Rattle.scene_draft.specs.Texts.{json_of}
 
 -- the ids of the listed entities, in the order of the list
 abbrev pub listed_ids : Draft → List ℕ
 listed_ids draft = map (λ entity. entity.id) draft.entities
 
 -- the systems among the entries
-abbrev pub system_of_entry : DraftEntry → Option DraftSystem
-system_of_entry barrier = None
-system_of_entry (system one) = Some one
-
 abbrev pub systems_of : Draft → List DraftSystem
 systems_of draft = filter_map system_of_entry draft.entries
 
@@ -89,10 +85,6 @@ lacks_global draft = list_any (λ one. declares_that (λ access. list_any (λ na
 abbrev pub writes_reserved : Draft → Bool
 writes_reserved draft = list_any (λ one. declares_that (λ access. access.reserved) one.facts) (systems_of draft)
 
--- the kinds of store
-abbrev pub stores : List Name
-stores = codes "vec" ∷ codes "dense" ∷ codes "hash" ∷ codes "btree" ∷ []
-
 -- the least refusal of a document of the right shape, under a limit of indices
 abbrev pub refusal_of : ℕ → Draft → Option DocRefusal
 refusal_of indices draft =
@@ -123,10 +115,6 @@ of_shape indices (Some draft) = unless_refused draft (refusal_of indices draft)
 -- the document that a JSON is, or the least refusal that stands
 abbrev pub document_from : Book → ℕ → Json → Result Draft DocRefusal
 document_from book indices json = if has_float json then Err NotWhole else of_shape indices (draft_from book json)
-
--- the JSON that bytes read as: they are UTF-8 and have a reading
-abbrev pub json_of : List ℕ → Option Json
-json_of bytes = if is_utf8 bytes then read bytes else None
 
 -- a JSON as a document, or that there is none
 abbrev pub of_reading : Book → ℕ → Option Json → Result Draft DocRefusal

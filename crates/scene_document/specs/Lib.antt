@@ -1,12 +1,9 @@
 -- The definitions that the contracts of this crate cite, in the order in which a reader needs them.
-pub mod Drafts
+pub use Rattle.scene_draft.specs.Drafts
+pub use Rattle.scene_draft.specs.Texts
 pub mod Documents
 pub mod Openings
-pub mod Texts
 pub mod Loading
-pub mod TextSteps
-pub mod DraftViews
-pub mod ShapeWords
 pub mod Names
 pub mod Refusals
 pub mod Columns

@@ -13,7 +13,7 @@ use Rattle.scene_rules.specs.Scenes.{PlainScene, PlainSystem, PlainFrame}
 use Rattle.scene_rules.specs.Laws.{IsLawful}
 use Rattle.scene_rules.specs.Queues.{plain_commands}
 use Rattle.scene_rules.specs.Lending.{scene_in, system_in, IsOfRules, IsSound}
-use Rattle.scene_document.specs.Drafts.{Draft}
+use Rattle.scene_draft.specs.Drafts.{Draft}
 use Rattle.scene_document.specs.Documents.{document_from}
 use Rattle.scene_document.specs.Openings.{first_scene, frames_of}
 

@@ -2,8 +2,8 @@
 use Rattle.std.specs.Prelude.{Bool, false, not, ◌&&◌, ◌||◌, List, []}
 use Rattle.std.specs.List.{list_any}
 use Rattle.std.specs.Str.{bytes_eq}
-use Rattle.scene_document.specs.declared.draft.EntryDraft.{EntryDraft}
-use Rattle.scene_document.specs.declared.draft.EntryDraft.TheVariants as entry
+use Rattle.scene_draft.specs.declared.draft.EntryDraft.{EntryDraft}
+use Rattle.scene_draft.specs.declared.draft.EntryDraft.TheVariants as entry
 use Rattle.scene_rules.specs.Parts.{Name, is_among}
 use Rattle.scene_rules.specs.Lent.{texts}
 

@@ -8,7 +8,7 @@ use Rattle.scene_rules.specs.Parts.{Json, Name, Part}
 use Rattle.scene_rules.specs.Rulebook.{Book, Facts, Access, Command}
 use Rattle.scene_rules.specs.Rulebook as book
 use Rattle.scene_rules.specs.Scenes.{PlainScene, PlainSystem, PlainFrame}
-use Rattle.scene_document.specs.Drafts.{Draft, DraftPart, DraftEntity, DraftSystem, DraftEntry, barrier, system, DraftCommand, spawn, kill, put, take}
+use Rattle.scene_draft.specs.Drafts.{Draft, DraftPart, DraftEntity, DraftSystem, DraftEntry, barrier, system, DraftCommand, spawn, kill, put, take}
 use Rattle.scene_document.specs.Documents.{listed_ids}
 use Rattle.shred_plan.specs.Plan.{Added, fence, placing, order}
 

@@ -5,9 +5,9 @@ use Rattle.std.specs.Cmp.Lexicographic.{slice_cmp}
 use Rattle.std.specs.Ordering.{nat_cmp}
 use Rattle.std.specs.List.{cons_option}
 use denote.Ref.{Bor}
-use Rattle.scene_document.specs.declared.draft.MadeDraft.{MadeDraft}
-use Rattle.scene_document.specs.declared.draft.EntryDraft.{EntryDraft}
-use Rattle.scene_document.specs.declared.draft.EntryDraft.TheVariants as entry
+use Rattle.scene_draft.specs.declared.draft.MadeDraft.{MadeDraft}
+use Rattle.scene_draft.specs.declared.draft.EntryDraft.{EntryDraft}
+use Rattle.scene_draft.specs.declared.draft.EntryDraft.TheVariants as entry
 use Rattle.scene_rules.specs.declared.placed.Placed.{Placed}
 use Rattle.scene_rules.specs.Parts.{Name}
 use Rattle.scene_rules.specs.Slots.{filled}

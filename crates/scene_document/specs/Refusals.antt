@@ -6,19 +6,19 @@ use Rattle.std.specs.Str.{bytes_eq}
 use Rattle.scene_rules.specs.declared.refusals.DocRefusal.{DocRefusal}
 use Rattle.scene_rules.specs.declared.refusals.DocRefusal.TheVariants.{UnknownKind, DoubleId, IdNotBelowNext, Dangling, UnknownSystem, NameTaken, UnknownDependency, MissingGlobal, ReservedWrite, TooManyWorkers, TooManySystems, UnknownStore, TooManyEntities}
 use Rattle.scene_rules.specs.declared.access.Accessor.{Accessor}
-use Rattle.scene_document.specs.declared.draft.EntityDraft.{EntityDraft}
-use Rattle.scene_document.specs.declared.draft.MadeDraft.{MadeDraft}
-use Rattle.scene_document.specs.declared.draft.EntryDraft.{EntryDraft}
-use Rattle.scene_document.specs.declared.draft.EntryDraft.TheVariants as entry
-use Rattle.scene_document.specs.declared.draft.CommandDraft.{CommandDraft}
-use Rattle.scene_document.specs.declared.draft.CommandDraft.TheVariants as asked
-use Rattle.scene_document.specs.declared.draft.DocumentDraft.{DocumentDraft}
+use Rattle.scene_draft.specs.declared.draft.EntityDraft.{EntityDraft}
+use Rattle.scene_draft.specs.declared.draft.MadeDraft.{MadeDraft}
+use Rattle.scene_draft.specs.declared.draft.EntryDraft.{EntryDraft}
+use Rattle.scene_draft.specs.declared.draft.EntryDraft.TheVariants as entry
+use Rattle.scene_draft.specs.declared.draft.CommandDraft.{CommandDraft}
+use Rattle.scene_draft.specs.declared.draft.CommandDraft.TheVariants as asked
+use Rattle.scene_draft.specs.declared.draft.DocumentDraft.{DocumentDraft}
 use Rattle.scene_rules.specs.Parts.{Name, Part}
 use Rattle.scene_rules.specs.Rulebook.{Access}
 use Rattle.scene_rules.specs.Lent.{access_of}
 use Rattle.scene_rules.specs.Commands.{ref_lives}
 use Rattle.scene_document.specs.Documents.{has_double, has_taken_name, has_unknown_dependency}
-use Rattle.scene_document.specs.DraftViews.{name_at, systems_in}
+use Rattle.scene_draft.specs.DraftViews.{name_at, systems_in}
 use Rattle.scene_document.specs.Openings.{ascending}
 
 -- a reference of a datum names none of the ids

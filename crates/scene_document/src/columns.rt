@@ -3,17 +3,17 @@ ghost use Rattle.std.specs.Prelude.{◌≡◌, ℕ, ◌<◌, ◌≤◌, ◌==◌
 ghost use Rattle.std.specs.BTreeSet.{IsOrdered};
 ghost use Rattle.std.specs.Ordering.{nat_cmp};
 ghost use Rattle.scene_rules.specs.Slots.{filled};
-ghost use Rattle.scene_document.specs.Drafts.{Draft};
+ghost use Rattle.scene_draft.specs.Drafts.{Draft};
 ghost use Rattle.scene_document.specs.Documents.{refusal_of, has_double};
-ghost use Rattle.scene_document.specs.DraftViews.{IsDraft};
+ghost use Rattle.scene_draft.specs.DraftViews.{IsDraft};
 ghost use Rattle.scene_document.specs.Loading.{IsLoaded};
 ghost use Rattle.scene_document.specs.Openings.{ascending};
 ghost use Rattle.scene_document.specs.Columns.{stored, first_at, datum_among};
 
 use crate::commands::commands_of;
-use crate::draft::{DocumentDraft, EntityDraft};
 use crate::loaded::Loaded;
 use crate::order::order_systems;
+use scene_draft::{DocumentDraft, EntityDraft};
 use scene_rules::{Columns, Rules};
 use std::alloc::{AllocError, Global};
 use std::collections::{BTreeMap, BTreeSet};

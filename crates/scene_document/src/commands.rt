@@ -2,10 +2,10 @@
 ghost use Rattle.std.specs.Prelude.{◌≡◌, ◌++◌, [], map, option_map, IfOk, OnOk};
 ghost use Rattle.std.specs.List.{filter_map, cons_option};
 ghost use Rattle.scene_rules.specs.Queues.{plain_entry as plain_pair, plain_command, plain_commands};
-ghost use Rattle.scene_document.specs.DraftViews.{plain_part, plain_asked, plain_list};
+ghost use Rattle.scene_draft.specs.DraftViews.{plain_part, plain_asked, plain_list};
 ghost use Rattle.scene_document.specs.Openings.{command_of};
 
-use crate::draft::CommandDraft;
+use scene_draft::CommandDraft;
 use scene_rules::{Command, Rules};
 use std::alloc::{AllocError, Global};
 

@@ -1,15 +1,14 @@
 //! Loading a document.
 ghost use Rattle.std.specs.Prelude.{◌≡◌, Ok, MatchResult};
 ghost use Rattle.serde_json.specs.View.{view};
-ghost use Rattle.scene_document.specs.Drafts.{Draft};
+ghost use Rattle.scene_draft.specs.Drafts.{Draft};
 ghost use Rattle.scene_document.specs.Documents.{document_from};
 ghost use Rattle.scene_document.specs.Loading.{IsLoaded, IsNotLoaded};
 
 use crate::columns::into_loaded;
 use crate::loaded::{Limits, LoadError, Loaded};
 use crate::refusal::refusal;
-use crate::shape::read_draft;
-use crate::text::has_float;
+use scene_draft::{has_float, read_draft};
 use scene_rules::{DocRefusal, ReadError, Rules};
 use serde_json::Value;
 use std::alloc::Global;

@@ -3,15 +3,15 @@ ghost use Rattle.std.specs.Prelude.{◌≡◌, ℕ, ◌==◌, ◌≤◌, true, f
 ghost use Rattle.std.specs.List.{filter_map, fold, cons_option};
 ghost use Rattle.scene_rules.specs.Parts.{Name};
 ghost use Rattle.scene_rules.specs.Lent.{texts, access_of};
-ghost use Rattle.scene_document.specs.Drafts.{DraftEntry};
-ghost use Rattle.scene_document.specs.DraftViews.{plain_entry};
+ghost use Rattle.scene_draft.specs.Drafts.{DraftEntry};
+ghost use Rattle.scene_draft.specs.DraftViews.{plain_entry};
 ghost use Rattle.scene_document.specs.Names.{has_name};
 ghost use Rattle.scene_document.specs.Openings.{same_resource, place_named, staged};
 ghost use Rattle.scene_document.specs.Placing.{kept_place, resource_of, told_of, local_of, staged_of, locals_from, slots_from, slot_at, times_in};
 ghost use Rattle.shred_plan.specs.Plan.{added, order};
 
-use crate::draft::{EntryDraft, MadeDraft, SystemDraft};
 use crate::resource::ResourceName;
+use scene_draft::{EntryDraft, MadeDraft, SystemDraft};
 use scene_rules::Placed;
 use shred_plan::{Adding, Planner};
 use std::alloc::{AllocError, Global};

@@ -5,3 +5,4 @@ pub mod OutcomeLemmas
 pub mod PartLemmas
 pub mod PrintLemmas
 pub mod LoadLemmas
+pub mod ReadyLemmas

@@ -15,9 +15,9 @@ use Rattle.scene_rules.specs.Rulebook.{Book}
 use Rattle.scene_rules.specs.Scenes.{PlainScene, RefLives, lives}
 use Rattle.scene_rules.specs.Commands.{ref_lives}
 use Rattle.scene_rules.specs.Laws.{Ascend}
-use Rattle.scene_document.specs.Drafts.{draft_from}
+use Rattle.scene_draft.specs.Drafts.{draft_from}
 use Rattle.scene_document.specs.Documents.{listed_ids, has_unknown_kind, has_double, has_id_past_next, part_dangles, dangles, refusal_of, unless_refused, of_shape, document_from}
-use Rattle.scene_document.specs.Texts.{members_with, entity_json, scene_json}
+use Rattle.scene_draft.specs.Texts.{members_with, entity_json, scene_json}
 use Rattle.scene_laws.specs.Printed.{CanBeRead, CanBeLoaded}
 use Rattle.scene_laws.proofs.PrintLemmas.{pairs_of, read_of, entity_read, draft_read, draft-back}
 

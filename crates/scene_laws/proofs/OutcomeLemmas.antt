@@ -5,10 +5,10 @@ use Rattle.scene_rules.specs.declared.refusals.Report.{Report}
 use Rattle.scene_rules.specs.declared.refusals.DocRefusal.{DocRefusal}
 use Rattle.scene_rules.specs.Rulebook.{Book}
 use Rattle.scene_rules.specs.Scenes.{PlainScene}
-use Rattle.scene_document.specs.Drafts.{Draft}
+use Rattle.scene_draft.specs.Drafts.{Draft}
 use Rattle.scene_document.specs.Documents.{document_of}
 use Rattle.scene_document.specs.Openings.{first_scene, frames_of}
-use Rattle.scene_document.specs.Texts.{text_of}
+use Rattle.scene_draft.specs.Texts.{text_of}
 use Rattle.scene.specs.Runs.{Ran}
 use Rattle.scene.specs.Outcomes.{Bounds, IsRunOf}
 use Rattle.scene_laws.specs.OneOutcome.{OneOutcome, HadMemory, SameButPlace}

@@ -9,7 +9,7 @@ use Rattle.scene_rules.specs.declared.refusals.Skip.{Skip}
 use Rattle.scene_rules.specs.Rulebook.{Book}
 use Rattle.scene_rules.specs.Scenes.{PlainScene, PlainFrame}
 use Rattle.scene_rules.specs.Commands.{skips_of}
-use Rattle.scene_document.specs.Drafts.{Draft}
+use Rattle.scene_draft.specs.Drafts.{Draft}
 use Rattle.scene_document.specs.Openings.{first_scene, frames_of, commands_in}
 use Rattle.scene.specs.Frames.{Accepts, Refuses, Reaches, Ended}
 use Rattle.scene.specs.Runs.{Ran}

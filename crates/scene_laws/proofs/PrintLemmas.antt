@@ -19,10 +19,10 @@ use Rattle.scene_rules.specs.Parts.{Json, Name, Part, is_among}
 use Rattle.scene_rules.specs.Rulebook.{Book}
 use Rattle.scene_rules.specs.Scenes.{PlainScene, lives}
 use Rattle.scene_rules.specs.Laws.{Ascend}
-use Rattle.scene_document.specs.Drafts.{Draft, DraftEntity, items_list, members_list, each, part_under, global_under, entity_from, draft_from, DraftEntry, DraftCommand, entries_from, whole_32, commands_from}
+use Rattle.scene_draft.specs.Drafts.{Draft, DraftEntity, items_list, members_list, each, part_under, global_under, entity_from, draft_from, DraftEntry, DraftCommand, entries_from, whole_32, commands_from}
 use Rattle.scene_document.specs.Documents.{listed_ids}
 use Rattle.scene_document.specs.Openings.{part_in, part_among, global_among, ascending, first_scene}
-use Rattle.scene_document.specs.Texts.{members_with, entity_json, scene_json}
+use Rattle.scene_draft.specs.Texts.{members_with, entity_json, scene_json}
 use Rattle.scene_laws.specs.Printed.{CanBeRead, document_json}
 
 -- a key comes after all keys of members
@@ -105,7 +105,7 @@ module _ {V : Type 0} (written : V → Json) (get : Name → Option V) where
       here later less None = later
       here later less (Some value) = (nat_list_cmp_total.antisymm name key ∙ ap ordering_reverse less, later)
 
-  ordered-pairs : (names : List Name) → Ascend names → Ordered (pairs_of names)
+  pub ordered-pairs : (names : List Name) → Ascend names → Ordered (pairs_of names)
   ordered-pairs [] ascend = tt
   ordered-pairs (name ∷ names) ascend = here (ordered-pairs names (λ i j d less within. ascend (suc i) (suc j) d (omega arith) (omega arith))) (above-pairs name names (λ k d within. ascend 0 (suc k) d (omega arith) (omega arith))) (get name)
     where

@@ -4,7 +4,7 @@ use Rattle.scene_rules.specs.declared.refusals.FrameRefusal.TheVariants.{Memory}
 use Rattle.scene_rules.specs.declared.refusals.Report.{Report}
 use Rattle.scene_rules.specs.Parts.{Json, Name}
 use Rattle.scene_rules.specs.Rulebook.{Book, Fragment, Outcome, leaves, refuses, fills}
-use Rattle.scene_document.specs.Drafts.{Draft}
+use Rattle.scene_draft.specs.Drafts.{Draft}
 
 -- two fragments hold the same
 pub record SameFragment (one other : Fragment) : Type 0 where

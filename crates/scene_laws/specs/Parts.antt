@@ -4,7 +4,7 @@ use Rattle.scene_rules.specs.declared.refusals.FrameRefusal.{FrameRefusal}
 use Rattle.scene_rules.specs.declared.refusals.Report.{Report}
 use Rattle.scene_rules.specs.declared.refusals.Skip.{Skip}
 use Rattle.scene_rules.specs.Scenes.{PlainFrame}
-use Rattle.scene_document.specs.Drafts.{Draft}
+use Rattle.scene_draft.specs.Drafts.{Draft}
 
 -- the frames behind the first ones, by their numbers from 1
 abbrev pub frames_behind : ℕ → (ℕ → PlainFrame) → ℕ → PlainFrame

@@ -5,8 +5,8 @@ use Rattle.serde_json.specs.Written.{has_float}
 use Rattle.scene_rules.specs.Parts.{Json, Name, Part, is_among}
 use Rattle.scene_rules.specs.Rulebook.{Book}
 use Rattle.scene_rules.specs.Scenes.{PlainScene, IdsFit, RefsLive, PartsOwned}
-use Rattle.scene_document.specs.Drafts.{Draft, DraftEntry, DraftCommand}
-use Rattle.scene_document.specs.Texts.{scene_json}
+use Rattle.scene_draft.specs.Drafts.{Draft, DraftEntry, DraftCommand}
+use Rattle.scene_draft.specs.Texts.{scene_json}
 use Rattle.scene_laws.specs.References.{StandUnder}
 
 -- ids fit; parts stand at living ids, under the rules' kinds, and are read back from what is written for them; so are the values
@@ -18,6 +18,10 @@ pub record CanBeRead (book : Book) (scene : PlainScene) : Type 0 where
   pub parts : (id : ℕ) (kind : Name) (held : Part) → scene.part id kind ≡ Some held → book.read_part kind held.json ≡ Some held
   pub named : (name : Name) (value : Json) → scene.global name ≡ Some value → is_among name book.global_names ≡ true
   pub globals : (name : Name) (value : Json) → scene.global name ≡ Some value → book.read_global name value ≡ Some value
+
+-- the value of each global is read under its name
+abbrev pub GlobalsAreRead : Book → PlainScene → Type 0
+GlobalsAreRead book scene = (name : Name) (value : Json) → is_among name book.global_names ≡ true → scene.global name ≡ Some value → (found : Json) × (book.read_global name value ≡ Some found)
 
 -- no float is written for a scene, and its references live
 pub record CanBeLoaded (scene : PlainScene) : Type 0 where

@@ -2,7 +2,7 @@
 ghost use Rattle.std.specs.Prelude.{◌≡◌, ℕ, List, Ok};
 ghost use Rattle.scene_rules.specs.Scenes.{PlainScene};
 ghost use Rattle.scene_rules.specs.declared.refusals.Report.{Report};
-ghost use Rattle.scene_document.specs.Drafts.{Draft};
+ghost use Rattle.scene_draft.specs.Drafts.{Draft};
 ghost use Rattle.scene_document.specs.Documents.{document_of};
 ghost use Rattle.scene.specs.Runs.{Ran};
 ghost use Rattle.scene.specs.Outcomes.{Bounds, IsRunOf};

@@ -3,9 +3,9 @@ ghost use Rattle.std.specs.Prelude.{◌≡◌, ◌+◌, ◌++◌, ℕ, List, Non
 ghost use Rattle.scene_rules.specs.Scenes.{PlainScene, PlainFrame};
 ghost use Rattle.scene_rules.specs.declared.refusals.Report.{Report};
 ghost use Rattle.scene_rules.specs.declared.refusals.Skip.{Skip};
-ghost use Rattle.scene_document.specs.Drafts.{Draft};
+ghost use Rattle.scene_draft.specs.Drafts.{Draft};
 ghost use Rattle.scene_document.specs.Openings.{first_scene};
-ghost use Rattle.scene_document.specs.Texts.{text_of};
+ghost use Rattle.scene_draft.specs.Texts.{text_of};
 ghost use Rattle.scene.specs.Frames.{Reaches};
 ghost use Rattle.scene.specs.Runs.{Ran};
 ghost use Rattle.scene_laws.specs.OneOutcome.{OneOutcome, HadMemory};

@@ -1,18 +1,22 @@
-//! A printed scene is read again.
-ghost use Rattle.std.specs.Prelude.{◌≡◌, ◌≤◌, ℕ, List, length, Some, Ok};
+//! A printed scene is read again, and loaded again.
+ghost use Rattle.std.specs.Prelude.{◌≡◌, ◌≤◌, ℕ, List, length, Some, Ok, IfOk, IfErr};
 ghost use Rattle.scene_rules.specs.Parts.{Json};
 ghost use Rattle.scene_rules.specs.Scenes.{PlainScene};
-ghost use Rattle.scene_document.specs.Drafts.{Draft, DraftEntry, DraftCommand, draft_from, entries_from, whole_32, commands_from};
-ghost use Rattle.scene_document.specs.Documents.{document_from, json_of, document_of};
+ghost use Rattle.scene_draft.specs.Drafts.{Draft, DraftEntry, DraftCommand, draft_from, entries_from, whole_32, commands_from};
+ghost use Rattle.scene_document.specs.Documents.{document_from, document_of};
 ghost use Rattle.scene_document.specs.Openings.{first_scene};
-ghost use Rattle.scene_document.specs.Texts.{scene_json, text_of};
-ghost use Rattle.scene_laws.specs.Printed.{CanBeRead, CanBeLoaded, document_json, HasCourse};
+ghost use Rattle.scene_draft.specs.Texts.{scene_json, text_of, ReadsBack};
+ghost use Rattle.scene.specs.Limits.{AreLimits};
+ghost use Rattle.scene.specs.Outcomes.{IsNoDocument, bounds_of};
+ghost use Rattle.scene.specs.Turns.{shown_of, rules_of, IsReady};
+ghost use Rattle.scene_laws.specs.Printed.{CanBeRead, CanBeLoaded, GlobalsAreRead, document_json, HasCourse};
 
-use scene_rules::Rules;
+use scene::{Limits, LoadError, Rules, Scene};
+use std::alloc::Global;
 
 /// The JSON of a sound scene has the shape of a document, and the scene that this document gives is the scene; where no
 /// float is written and references live, and there are not too many entities, no refusal of the document stands. So is it
-/// with systems, frames and commands put in, and of a text that reads as the JSON it was written for.
+/// with systems, frames and commands put in. A text that was printed for a scene, and that is a document, gives the scene.
 pub fn a_printed_scene_is_read_again<R: Rules>(rules: &R)
     ensures read { (scene : PlainScene) → CanBeRead (R.book rules.now) scene → (draft : Draft)
         × (draft_from (R.book rules.now) (scene_json (R.book rules.now) scene) ≡ Some draft)
@@ -27,9 +31,46 @@ pub fn a_printed_scene_is_read_again<R: Rules>(rules: &R)
         → commands_from (R.book rules.now) commands ≡ Some lists → (draft : Draft)
         × (draft_from (R.book rules.now) (document_json (R.book rules.now) scene systems frames commands) ≡ Some draft)
         × (first_scene draft ≡ scene) × HasCourse entries asked lists draft }
-    ensures text { (indices : ℕ) (scene : PlainScene) → CanBeRead (R.book rules.now) scene → CanBeLoaded scene
-        → length scene.ids ≤ indices
-        → json_of (text_of (R.book rules.now) scene) ≡ Some (scene_json (R.book rules.now) scene) → (draft : Draft)
-        × (document_of (R.book rules.now) indices (text_of (R.book rules.now) scene) ≡ Ok draft)
-        × (first_scene draft ≡ scene) }
+    ensures text { (indices : ℕ) (scene : PlainScene) (text : List ℕ) (draft : Draft) → CanBeRead (R.book rules.now) scene
+        → ReadsBack text (scene_json (R.book rules.now) scene)
+        → document_of (R.book rules.now) indices text ≡ Ok draft → first_scene draft ≡ scene }
 {}
+
+/// A scene that can run can be read again from what is printed for it, where the values of its globals are read.
+pub fn a_ready_scene_can_be_read<R: Rules + Drop>(scene: &Scene<R>)
+    requires { IsReady R.part_of R.global_of R.kind_of R.config_of R.book scene.now }
+    ensures { GlobalsAreRead (R.book (rules_of scene.now))
+        (shown_of R.part_of R.global_of R.kind_of R.config_of R.book scene.now).scene
+        → CanBeRead (R.book (rules_of scene.now))
+        (shown_of R.part_of R.global_of R.kind_of R.config_of R.book scene.now).scene }
+{}
+
+/// Prints a scene, reads the text and loads it under the same rules: what is loaded is the scene, before any frame.
+///
+/// The limits are at most the greatest ones, and `generation` is at least 1.
+///
+/// Errors: `Document` where the text is refused, with the least refusal that stands: a part that nests deeper than the
+/// reader of JSON allows, the value of a global that the rules do not read, more entities than the limits allow; `Memory`.
+pub fn print_and_load<R: Rules + Drop>(
+    alloc: Global,
+    scene: &Scene<R>,
+    rules: R,
+    limits: Limits,
+) -> Result<Scene<R>, LoadError>
+    requires ready { IsReady R.part_of R.global_of R.kind_of R.config_of R.book scene.now }
+    requires rules { rules ≡ rules_of scene.now }
+    requires limits { AreLimits limits }
+    ensures same { IfOk result (λ again. (shown_of R.part_of R.global_of R.kind_of R.config_of R.book again).scene
+        ≡ (shown_of R.part_of R.global_of R.kind_of R.config_of R.book scene.now).scene) }
+    ensures ready { IfOk result (λ again. IsReady R.part_of R.global_of R.kind_of R.config_of R.book again) }
+    ensures rules { IfOk result (λ again. rules_of again ≡ rules_of scene.now) }
+    ensures err { IfErr result (IsNoDocument (R.book (rules_of scene.now)) (bounds_of limits)
+        (text_of (R.book (rules_of scene.now))
+        (shown_of R.part_of R.global_of R.kind_of R.config_of R.book scene.now).scene)) }
+{
+    let text = match scene.snapshot(alloc) {
+        Ok(text) => text,
+        Err(_) => return Err(LoadError::Memory),
+    };
+    Scene::open(alloc, rules, limits, text.as_slice())
+}

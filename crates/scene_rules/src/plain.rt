@@ -1,5 +1,5 @@
 //! Small owned values that contracts see as lists.
-ghost use Rattle.std.specs.Prelude.{◌≡◌, ℕ, [], List, IfOk, string_bytes};
+ghost use Rattle.std.specs.Prelude.{◌≡◌, ℕ, [], List, Some, IfOk, string_bytes};
 
 use crate::refusals::Skip;
 use std::alloc::{AllocError, Global};
@@ -42,9 +42,10 @@ impl Text {
 }
 
 impl fmt::Display for Text {
+    ghost output = { λ text. Some text };
+
     fn fmt<W: fmt::Write>(&self, f: &mut fmt::Formatter<W>) -> fmt::Result {
-        let text = self.as_str();
-        write!(f, "{text}")
+        f.write_str(self.as_str())
     }
 }
 

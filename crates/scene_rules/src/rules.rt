@@ -224,6 +224,10 @@ pub trait Rules {
         → (book rules).admits kind (part_of datum) ≡ true
         → (book rules).read_part kind (part_of datum).json ≡ Some (part_of datum) };
 
+    /// What is written for a global is read back as it was, where it is read at all.
+    ghost global_reads_back: { (rules : Self) (name : Name) (global : Self.Global) (read : Json)
+        → (book rules).read_global name (global_of global) ≡ Some read → read ≡ global_of global };
+
     /// No float is written for a datum.
     ghost no_float: { (datum : Self.Data) → has_float (part_of datum).json ≡ false };
 

@@ -17,7 +17,8 @@ use Rattle.scenerun.specs.Asks.{asked_for, asked_of, death_by, newborn, birth_at
 use Rattle.scene_rules.specs.Laws.{IsKnownPart, IsLawful}
 use Rattle.scenerun.specs.Names.{number_kinds, pos_kind, vel_kind, hp_kind, g_name}
 use Rattle.scenerun.specs.Numbers.{counting, admits}
-use Rattle.scenerun.specs.Gains.{Gains, sum_at, number_at, global_number, Overflows, SameFragment}
+use Rattle.scenerun.specs.Gains.{Gains, sum_at, number_at, global_number, Overflows}
+use Rattle.scene_laws.specs.OneOutcome.{SameFragment}
 use Rattle.scenerun.specs.Systems.{basics, Makes}
 use Rattle.scenerun.specs.RuleLaws.{admits-counting}
 

@@ -59,9 +59,3 @@ Gaining kind gain old (fills commands) = ⊥
 abbrev pub gain_in : Gain → Fragment → ℕ → Option ℤ
 gain_in (Under kind) fragment id = number_at fragment kind.now id
 gain_in (Each by) fragment id = by
-
--- two fragments hold the same: the same ids, the same part of each id under each kind, the same globals
-pub record SameFragment (one other : Fragment) : Type 0 where
-  pub ids : one.ids ≡ other.ids
-  pub parts : (id : ℕ) (kind : Name) → one.part id kind ≡ other.part id kind
-  pub globals : (name : Name) → one.global name ≡ other.global name

@@ -22,7 +22,7 @@ use Rattle.scenerun.specs.declared.data.Datum.TheVariants.{Whole, Owner}
 use Rattle.scenerun.specs.declared.data.BasicSystem.{BasicSystem}
 use Rattle.scenerun.specs.declared.data.BasicSystem.TheVariants.{Drift, Pull, Decay, Reap, Bud}
 use Rattle.scenerun.specs.Names.{hp_kind, owner_kind, pos_kind, vel_kind, g_name, drift_kind, pull_kind, decay_kind, reap_kind, bud_kind, part_kinds, number_kinds}
-use Rattle.scenerun.specs.Numbers.{json_of, counting, referring, part_of, whole_in, is_signed, if_signed, signed_in, id_in, refers_once, refers_never, read_part, admits}
+use Rattle.scenerun.specs.Numbers.{json_of, counting, referring, part_of, whole_in, is_signed, if_signed, signed_in, id_in, refers_once, refers_never, read_part, read_global, admits}
 use Rattle.scenerun.specs.Systems.{kind_of, system_named, access_of, facts_of, configured, basics}
 
 -- a whole number is read back as it was written
@@ -135,6 +135,14 @@ law-reads_back kind (Owner id) admitted = here (bytes_eq kind owner_kind) (is_am
     here false true true e = absurd (false≢true e)
     here false true false e = absurd (false≢true e)
     here false false d e = absurd (false≢true e)
+
+-- a global's value is read back as it was written, where it is read
+pub law-global_reads_back : (name : Name) (z : ℤ) (read : Json) → read_global name (json_of z) ≡ Some read → read ≡ json_of z
+law-global_reads_back name z read e = found (signed_in (json_of z)) (λ other is. (if_signed-some z other (sym (ap (option_and_then if_signed) (whole_in-json_of z)) ∙ is)).1) e
+  where
+    found : (o : Option ℤ) → ((other : ℤ) → o ≡ Some other → z ≡ other) → option_map json_of o ≡ Some read → read ≡ json_of z
+    found None same is = absurd (none-some read is)
+    found (Some other) same is = sym (same_Some (json_of other) read is) ∙ ap json_of (sym (same other refl))
 
 -- no float is written for a whole number, and none for a datum
 pub law-no_global_float : (z : ℤ) → has_float (json_of z) ≡ false

@@ -56,7 +56,7 @@ fn is_number_kind(kind: &str) -> bool
 }
 
 impl Rules for Basics {
-    ghost use Rattle.scenerun.specs.RuleLaws.{law-reads_admitted, law-reads_back, law-no_float, law-no_global_float, law-kinds_ascend, law-globals_ascend, law-declares_known};
+    ghost use Rattle.scenerun.specs.RuleLaws.{law-reads_admitted, law-reads_back, law-global_reads_back, law-no_float, law-no_global_float, law-kinds_ascend, law-globals_ascend, law-declares_known};
 
     type Data = Datum;
 
@@ -201,6 +201,8 @@ impl Rules for Basics {
     ghost reads_admitted = { λ _. law-reads_admitted };
 
     ghost reads_back = { λ _. law-reads_back };
+
+    ghost global_reads_back = { λ _. law-global_reads_back };
 
     ghost no_float = { law-no_float };
 

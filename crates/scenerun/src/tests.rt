@@ -1,6 +1,7 @@
 //! Rows of the scene document: documents with the status, the text and the line that they give.
 mod devices;
 mod frames;
+mod laws;
 mod orders;
 
 use crate::program::program;
@@ -10,7 +11,41 @@ use scene::{Counted, DocRefusal, FrameRefusal, Limits, RunError, run, run_with};
 use std::process::Abort;
 use std::test::Fail;
 
-/// What the program makes of a document that a slice gives.
+/// What a run in memory answers for a document, and whether just this text goes out.
+///
+/// The status is the program's: 0 where all frames are accepted, 1 where the document is refused, 2 where a frame is; and the line
+/// begins with what is told of it.
+fn check_run<H: AllocGlobal + Abort>(
+    rt: &H,
+    document: &str,
+    status: u8,
+    text: &str,
+    line: &str,
+) -> Result<(), Fail> {
+    let mut reader = Counted::new(document.as_bytes());
+    let mut out = Counted::new(Vec::new(rt.alloc()));
+    let outcome = run(rt, Basics, &mut reader, &mut out);
+    assert_eq!(rt; out.get_ref().as_slice(), text.as_bytes(), "{document}");
+    let (told, begins) = match outcome {
+        Ok(report) => match report.refused {
+            None => (0, format!(in rt.alloc(); "")?),
+            Some((frame, _)) => (2, format!(in rt.alloc(); "frame {frame} refused: ")?),
+        },
+        Err(RunError::Document(refusal)) => (
+            1,
+            format!(in rt.alloc(); "document refused: {refusal:?}\n")?,
+        ),
+        Err(_) => (3, format!(in rt.alloc(); "")?),
+    };
+    assert_eq!(rt; told, status, "{document}");
+    assert!(rt;
+        line.as_bytes().starts_with(begins.as_bytes()),
+        "{document}"
+    );
+    Ok(())
+}
+
+/// What a run and the program make of a document that a slice gives.
 pub(crate) fn check<H: AllocGlobal + Abort>(
     rt: &H,
     document: &str,
@@ -21,6 +56,7 @@ pub(crate) fn check<H: AllocGlobal + Abort>(
     let mut reader = Counted::new(document.as_bytes());
     let mut out = Counted::new(Vec::new(rt.alloc()));
     let mut err = Counted::new(Vec::new(rt.alloc()));
+    check_run(rt, document, status, text, line)?;
     let told = program(rt, &mut reader, &mut out, &mut err);
     assert_eq!(rt; told, status, "{document}");
     assert_eq!(rt; out.get_ref().as_slice(), text.as_bytes(), "{document}");
@@ -84,6 +120,18 @@ fn documents_give_their_scenes(rt: HostRuntime) -> Result<(), Fail> {
     Ok(())
 }
 
+/// Each document is refused by the name beside it, and nothing is written.
+pub(crate) fn check_refused<H: AllocGlobal + Abort>(
+    rt: &H,
+    rows: &[(&str, &str)],
+) -> Result<(), Fail> {
+    for (document, name) in rows {
+        let line = format!(in rt.alloc(); "document refused: {name}\n")?;
+        check(rt, document, 1, "", line.as_str())?;
+    }
+    Ok(())
+}
+
 #[test]
 fn documents_are_refused_by_name(rt: HostRuntime) -> Result<(), Fail> {
     let rows = [
@@ -106,6 +154,13 @@ fn documents_are_refused_by_name(rt: HostRuntime) -> Result<(), Fail> {
             "{\"next\":0,\"entities\":[],\"systems\":[{\"kind\":\"pull\"}]}",
             "MissingGlobal",
         ),
+    ];
+    check_refused(&rt, &rows[..])
+}
+
+#[test]
+fn odd_documents_are_refused_by_name(rt: HostRuntime) -> Result<(), Fail> {
+    let rows = [
         ("[]", "WrongShape"),
         ("{\"next\":0,\"entities\":[],\"x\":1}", "WrongShape"),
         ("{\"next\":-1,\"entities\":[]}", "WrongShape"),
@@ -161,11 +216,7 @@ fn documents_are_refused_by_name(rt: HostRuntime) -> Result<(), Fail> {
             "UnknownKind",
         ),
     ];
-    for (document, name) in rows {
-        let line = format!(in rt.alloc(); "document refused: {name}\n")?;
-        check(&rt, document, 1, "", line.as_str())?;
-    }
-    Ok(())
+    check_refused(&rt, &rows[..])
 }
 
 #[test]
@@ -186,42 +237,88 @@ fn refused_frames_leave_the_text_before(rt: HostRuntime) -> Result<(), Fail> {
     )
 }
 
+/// Documents whose frames are all accepted, and the texts of the scenes that they reach: none but frames, a system, a death, the
+/// document's commands, a birth.
+fn accepted_documents() -> [(&'static str, &'static str); 5] {
+    [
+        (
+            "{\"next\":0,\"entities\":[],\"frames\":3}",
+            "{\"entities\":[],\"globals\":{},\"next\":0}",
+        ),
+        (
+            "{\"next\":2,\"entities\":[{\"id\":0,\"parts\":{\"pos\":5,\"vel\":2}},{\"id\":1,\"parts\":{\"pos\":1}}],\"systems\":[{\"kind\":\"drift\"}],\"frames\":3}",
+            "{\"entities\":[{\"id\":0,\"parts\":{\"pos\":11,\"vel\":2}},{\"id\":1,\"parts\":{\"pos\":1}}],\"globals\":{},\"next\":2}",
+        ),
+        (
+            "{\"next\":8,\"entities\":[{\"id\":3,\"parts\":{\"hp\":2}},{\"id\":7,\"parts\":{\"hp\":5}}],\"systems\":[{\"kind\":\"decay\",\"name\":\"d\"},{\"kind\":\"reap\",\"after\":[\"d\"]}],\"frames\":2}",
+            "{\"entities\":[{\"id\":7,\"parts\":{\"hp\":3}}],\"globals\":{},\"next\":8}",
+        ),
+        (
+            "{\"next\":2,\"entities\":[{\"id\":0,\"parts\":{\"owner\":1}},{\"id\":1,\"parts\":{}}],\"frames\":1,\"commands\":[[{\"kill\":1},{\"spawn\":{\"pos\":3}},{\"put\":{\"id\":0,\"kind\":\"owner\",\"value\":2}}]]}",
+            "{\"entities\":[{\"id\":0,\"parts\":{\"owner\":2}},{\"id\":2,\"parts\":{\"pos\":3}}],\"globals\":{},\"next\":3}",
+        ),
+        (
+            "{\"next\":1,\"entities\":[{\"id\":0,\"parts\":{\"hp\":11,\"pos\":5,\"vel\":2}}],\"systems\":[{\"kind\":\"decay\"},{\"kind\":\"bud\"},{\"kind\":\"drift\"}],\"frames\":1}",
+            "{\"entities\":[{\"id\":0,\"parts\":{\"hp\":10,\"pos\":7,\"vel\":2}},{\"id\":1,\"parts\":{\"hp\":1,\"pos\":7}}],\"globals\":{},\"next\":2}",
+        ),
+    ]
+}
+
+/// What a run and the program make of a document, where the writer takes so many bytes a call and so many in all.
+fn check_write<H: AllocGlobal + Abort>(
+    rt: &H,
+    document: &str,
+    text: &str,
+    step: usize,
+    room: usize,
+    fails: bool,
+) -> Result<(), Fail> {
+    let short = room < text.len();
+    let mut reader = Counted::new(document.as_bytes());
+    let mut out = Counted::new(Narrow::new(rt.alloc(), step, room, fails));
+    let error = run(rt, Basics, &mut reader, &mut out).err();
+    let told = if short {
+        Some(RunError::Write(room as u64))
+    } else {
+        None
+    };
+    assert_eq!(rt; error, told, "{document}, {room} bytes, {step} a call");
+    let sent = out.get_ref().taken.as_slice();
+    assert_eq!(rt;
+        sent,
+        &text.as_bytes()[..room],
+        "{document}, {room} bytes, {step} a call"
+    );
+    let mut again = Counted::new(document.as_bytes());
+    let mut narrow = Counted::new(Narrow::new(rt.alloc(), step, room, fails));
+    let mut err = Counted::new(Vec::new(rt.alloc()));
+    let status = program(rt, &mut again, &mut narrow, &mut err);
+    let line = if short {
+        format!(in rt.alloc(); "write failed after {room} bytes\n")?
+    } else {
+        String::new(rt.alloc())
+    };
+    assert_eq!(rt;
+        status,
+        if short { 3 } else { 0 },
+        "{document}, {room} bytes, {step} a call"
+    );
+    assert_eq!(rt;
+        err.get_ref().as_slice(),
+        line.as_bytes(),
+        "{document}, {room} bytes, {step} a call"
+    );
+    Ok(())
+}
+
 #[test]
 fn failed_writes_tell_the_bytes_that_went_out(rt: HostRuntime) -> Result<(), Fail> {
-    let document = "{\"next\":0,\"entities\":[],\"frames\":3}";
-    let text = "{\"entities\":[],\"globals\":{},\"next\":0}";
-    for (step, fails) in [(64usize, true), (64, false), (1, true), (1, false)] {
-        for room in 0..37usize {
-            let mut reader = Counted::new(document.as_bytes());
-            let mut out = Counted::new(Narrow::new(rt.alloc(), step, room, fails));
-            let mut err = Counted::new(Vec::new(rt.alloc()));
-            let told = program(&rt, &mut reader, &mut out, &mut err);
-            let line = format!(in rt.alloc(); "write failed after {room} bytes\n")?;
-            assert_eq!(rt; told, 3, "{room} bytes, {step} a call");
-            assert_eq!(rt;
-                out.get_ref().taken.as_slice(),
-                &text.as_bytes()[..room],
-                "{room} bytes, {step} a call"
-            );
-            assert_eq!(rt;
-                err.get_ref().as_slice(),
-                line.as_bytes(),
-                "{room} bytes, {step} a call"
-            );
+    for (document, text) in accepted_documents() {
+        for (step, fails) in [(64usize, true), (64, false), (1, true), (1, false)] {
+            for room in 0..text.len() + 1 {
+                check_write(&rt, document, text, step, room, fails)?;
+            }
         }
-        let mut reader = Counted::new(document.as_bytes());
-        let mut out = Counted::new(Narrow::new(rt.alloc(), step, 37, fails));
-        let mut err = Counted::new(Vec::new(rt.alloc()));
-        assert_eq!(rt;
-            program(&rt, &mut reader, &mut out, &mut err),
-            0,
-            "{step} a call"
-        );
-        assert_eq!(rt;
-            out.get_ref().taken.as_slice(),
-            text.as_bytes(),
-            "{step} a call"
-        );
     }
     Ok(())
 }
@@ -256,28 +353,39 @@ fn a_failed_flush_comes_before_a_refused_frame(rt: HostRuntime) -> Result<(), Fa
 
 #[test]
 fn failed_reads_write_nothing(rt: HostRuntime) -> Result<(), Fail> {
-    let document = "{\"next\":0,\"entities\":[],\"frames\":3}";
-    let text = "{\"entities\":[],\"globals\":{},\"next\":0}";
-    for calls in 0..40u32 {
-        let mut reader = Counted::new(Slow {
-            bytes: document.as_bytes(),
-            calls,
-        });
-        let mut out = Counted::new(Vec::new(rt.alloc()));
-        let mut err = Counted::new(Vec::new(rt.alloc()));
-        let told = program(&rt, &mut reader, &mut out, &mut err);
-        // 35 bytes, one a call, and a call that tells the end.
-        if calls < 36 {
-            assert_eq!(rt; told, 3, "{calls} calls");
-            assert_eq!(rt; out.get_ref().len(), 0, "{calls} calls");
+    for (document, text) in accepted_documents() {
+        // One byte a call, and a call that tells the end.
+        for calls in 0..document.len() + 2 {
+            let sound = calls > document.len();
+            let mut reader = Counted::new(Slow::new(document, calls as u32));
+            let mut out = Counted::new(Vec::new(rt.alloc()));
+            let error = run(&rt, Basics, &mut reader, &mut out).err();
+            let mut again = Counted::new(Slow::new(document, calls as u32));
+            let mut sent = Counted::new(Vec::new(rt.alloc()));
+            let mut err = Counted::new(Vec::new(rt.alloc()));
+            let status = program(&rt, &mut again, &mut sent, &mut err);
+            let (told, wanted, bytes, line) = if sound {
+                (None, 0, text, "")
+            } else {
+                (Some(RunError::Read), 3, "", "read failed\n")
+            };
+            assert_eq!(rt; error, told, "{document}, {calls} calls");
+            assert_eq!(rt; status, wanted, "{document}, {calls} calls");
+            assert_eq!(rt;
+                out.get_ref().as_slice(),
+                bytes.as_bytes(),
+                "{document}, {calls} calls"
+            );
+            assert_eq!(rt;
+                sent.get_ref().as_slice(),
+                bytes.as_bytes(),
+                "{document}, {calls} calls"
+            );
             assert_eq!(rt;
                 err.get_ref().as_slice(),
-                "read failed\n".as_bytes(),
-                "{calls} calls"
+                line.as_bytes(),
+                "{document}, {calls} calls"
             );
-        } else {
-            assert_eq!(rt; told, 0, "{calls} calls");
-            assert_eq!(rt; out.get_ref().as_slice(), text.as_bytes(), "{calls} calls");
         }
     }
     Ok(())
@@ -302,6 +410,27 @@ fn each_front_of_a_document_is_unreadable(rt: HostRuntime) -> Result<(), Fail> {
             "document refused: Unreadable\n".as_bytes(),
             "{len} bytes"
         );
+    }
+    Ok(())
+}
+
+#[test]
+fn deep_lists_are_unreadable(rt: HostRuntime) -> Result<(), Fail> {
+    // An array is read down to 127 of them, and then its shape is told.
+    for (depth, name) in [
+        (127usize, "WrongShape"),
+        (128, "Unreadable"),
+        (200, "Unreadable"),
+    ] {
+        let mut document = String::new(rt.alloc());
+        for _ in 0..depth {
+            document.push('[')?;
+        }
+        for _ in 0..depth {
+            document.push(']')?;
+        }
+        let line = format!(in rt.alloc(); "document refused: {name}\n")?;
+        check(&rt, document.as_str(), 1, "", line.as_str())?;
     }
     Ok(())
 }

@@ -9,6 +9,15 @@ pub struct Slow<'a> {
     pub calls: u32,
 }
 
+impl<'a> Slow<'a> {
+    pub fn new(text: &'a str, calls: u32) -> Slow<'a> {
+        Slow {
+            bytes: text.as_bytes(),
+            calls,
+        }
+    }
+}
+
 impl Read for Slow<'_> {
     fn read(&mut self, buf: &mut [u8]) -> Result<usize> {
         if self.calls == 0 {

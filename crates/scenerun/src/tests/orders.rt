@@ -1,6 +1,6 @@
 //! Refusals of documents with commands and lists of systems, and runs under smaller limits.
 use crate::rules::Basics;
-use crate::tests::check;
+use crate::tests::check_refused;
 use scene::{Counted, FrameRefusal, Limits, Skip, run, run_with};
 use std::test::Fail;
 
@@ -88,11 +88,7 @@ fn commands_and_lists_are_refused_by_name(rt: HostRuntime) -> Result<(), Fail> {
             "WrongShape",
         ),
     ];
-    for (document, name) in rows {
-        let line = format!(in rt.alloc(); "document refused: {name}\n")?;
-        check(&rt, document, 1, "", line.as_str())?;
-    }
-    Ok(())
+    check_refused(&rt, &rows[..])
 }
 
 #[test]

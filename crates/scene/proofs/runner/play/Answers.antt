@@ -1,6 +1,5 @@
 use Rattle.std.proofs.Common.{◌≡◌, ◌∙◌, subst}
-use Rattle.serde_json.specs.View.{view}
-use Rattle.scene_document.specs.Texts.{text_of}
+use Rattle.scene_draft.specs.Texts.{scene_json, text_of, ReadsBack}
 use Rattle.scene.specs.Outcomes.{bounds_of}
 use Rattle.scene.specs.Turns.{shown_of, rules_of, RunsOut}
 use Rattle.scene.proofs.OutcomeLemmas.{run_of}
@@ -8,10 +7,12 @@ use Rattle.scene.proofs.runner.play.Goals as goal
 
 pub returns : goal.returns
 returns g c =
-    let opened = c.in-Ok-load.ensures in
+    let from = c.in-Ok.ensures in
+    let opened = from.2 in
     let same : rules_of c.run_to_end.new.scene ≡ c.args.rules = c.run_to_end.ensures.rules ∙ opened.same_rules in
-    run_of (g.R.Rules.book c.args.rules) (bounds_of c.args.limits) c.args.bytes.now (view c.in-Ok.value) opened.document.0 (shown_of g.R.Rules.part_of g.R.Rules.global_of g.R.Rules.kind_of g.R.Rules.config_of g.R.Rules.book c.in-Ok-load.scene) (shown_of g.R.Rules.part_of g.R.Rules.global_of g.R.Rules.kind_of g.R.Rules.config_of g.R.Rules.book c.run_to_end.new.scene) c.into_report.result c.in-Ok-snapshot.text.items
-    c.in-Ok.ensures opened.document.1 opened.document.2
-    (subst (λ one. RunsOut (g.R.Rules.book one) (shown_of g.R.Rules.part_of g.R.Rules.global_of g.R.Rules.kind_of g.R.Rules.config_of g.R.Rules.book c.in-Ok-load.scene) (shown_of g.R.Rules.part_of g.R.Rules.global_of g.R.Rules.kind_of g.R.Rules.config_of g.R.Rules.book c.run_to_end.new.scene)) opened.same_rules c.run_to_end.ensures.end)
+    run_of (g.R.Rules.book c.args.rules) (bounds_of c.args.limits) c.args.bytes.now from.0 opened.document.0 (shown_of g.R.Rules.part_of g.R.Rules.global_of g.R.Rules.kind_of g.R.Rules.config_of g.R.Rules.book c.in-Ok.scene) (shown_of g.R.Rules.part_of g.R.Rules.global_of g.R.Rules.kind_of g.R.Rules.config_of g.R.Rules.book c.run_to_end.new.scene) c.into_report.result c.in-Ok-snapshot.text.items
+    from.1 opened.document.1 opened.document.2
+    (subst (λ one. RunsOut (g.R.Rules.book one) (shown_of g.R.Rules.part_of g.R.Rules.global_of g.R.Rules.kind_of g.R.Rules.config_of g.R.Rules.book c.in-Ok.scene) (shown_of g.R.Rules.part_of g.R.Rules.global_of g.R.Rules.kind_of g.R.Rules.config_of g.R.Rules.book c.run_to_end.new.scene)) opened.same_rules c.run_to_end.ensures.end)
     c.into_report.ensures
-    (subst (λ one. c.in-Ok-snapshot.text.items ≡ text_of (g.R.Rules.book one) (shown_of g.R.Rules.part_of g.R.Rules.global_of g.R.Rules.kind_of g.R.Rules.config_of g.R.Rules.book c.run_to_end.new.scene).scene) same c.in-Ok-snapshot.ensures)
+    (subst (λ one. c.in-Ok-snapshot.text.items ≡ text_of (g.R.Rules.book one) (shown_of g.R.Rules.part_of g.R.Rules.global_of g.R.Rules.kind_of g.R.Rules.config_of g.R.Rules.book c.run_to_end.new.scene).scene) same c.in-Ok-snapshot.ensures.text)
+    (subst (λ one. ReadsBack c.in-Ok-snapshot.text.items (scene_json (g.R.Rules.book one) (shown_of g.R.Rules.part_of g.R.Rules.global_of g.R.Rules.kind_of g.R.Rules.config_of g.R.Rules.book c.run_to_end.new.scene).scene)) same c.in-Ok-snapshot.ensures.reads)

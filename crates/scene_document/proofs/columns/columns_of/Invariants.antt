@@ -1,5 +1,5 @@
 use Rattle.std.proofs.Common.{◌≡◌, ℕ, ◌<◌, ◌++◌, List, vec_len}
-use Rattle.scene_document.specs.declared.draft.EntityDraft.{EntityDraft}
+use Rattle.scene_draft.specs.declared.draft.EntityDraft.{EntityDraft}
 use Rattle.scene_document.specs.Columns.{stored, datum_among}
 use Rattle.scene_document.proofs.columns.columns_of.Given as goal
 

@@ -2,7 +2,7 @@ use Rattle.std.proofs.Common.{◌≡◌, false, None, ap, sym, ◌∙◌, if◌t
 use Rattle.serde_json.specs.View.{view}
 use Rattle.serde_json.specs.Written.{has_float}
 use Rattle.scene_rules.specs.declared.refusals.DocRefusal.TheVariants.{NotWhole}
-use Rattle.scene_document.specs.Drafts.{draft_from}
+use Rattle.scene_draft.specs.Drafts.{draft_from}
 use Rattle.scene_document.specs.Documents.{of_shape, unless_refused, refusal_of}
 use Rattle.scene_document.proofs.LoadedLemmas.{few-entries}
 use Rattle.scene_document.proofs.load.load_document.Goals as goal

@@ -1,7 +1,7 @@
 use Rattle.std.proofs.Common.{◌≡◌, ◌∷◌, [], ap, sym, ◌∙◌}
 use Rattle.std.specs.List.{fold, filter_map}
 use Rattle.scene_rules.specs.Lent.{texts}
-use Rattle.scene_document.specs.DraftViews.{plain_entry}
+use Rattle.scene_draft.specs.DraftViews.{plain_entry}
 use Rattle.scene_document.specs.Openings.{same_resource, staged}
 use Rattle.scene_document.specs.Placing.{kept_place, told_of}
 use Rattle.shred_plan.specs.Plan.{added, placing}

@@ -1,6 +1,6 @@
 use Rattle.std.proofs.Common.{◌≡◌, ◌≤◌, ◌++◌, map, ap, sym, subst, ◌∙◌, arith}
 use Rattle.std.specs.List.{filter_map}
-use Rattle.scene_document.specs.DraftViews.{plain_entry}
+use Rattle.scene_draft.specs.DraftViews.{plain_entry}
 use Rattle.scene_document.specs.Openings.{same_resource, staged}
 use Rattle.scene_document.specs.Placing.{times_in, slot_at, slots_from}
 use Rattle.shred_plan.specs.Plan.{order}

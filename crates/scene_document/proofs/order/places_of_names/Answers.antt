@@ -1,5 +1,5 @@
 use Rattle.std.proofs.Common.{◌≡◌, suc, ◌+◌, ◌-◌, ◌∷◌, cond, Some, drop, map, ap, sym, ◌∙◌, arith}
-use Rattle.scene_document.specs.DraftViews.{plain_entry}
+use Rattle.scene_draft.specs.DraftViews.{plain_entry}
 use Rattle.scene_document.specs.Names.{has_name}
 use Rattle.scene_document.specs.Openings.{place_named}
 use Rattle.scene_document.specs.Placing.{kept_place}

@@ -1,6 +1,6 @@
 use Rattle.std.proofs.Common.{◌≡◌, suc, drop, map}
 use Rattle.scene_rules.specs.Parts.{Name}
-use Rattle.scene_document.specs.DraftViews.{plain_entry}
+use Rattle.scene_draft.specs.DraftViews.{plain_entry}
 use Rattle.scene_document.specs.Openings.{place_named}
 use Rattle.scene_document.specs.Placing.{kept_place}
 use Rattle.scene_document.proofs.order.places_of_names.Given as goal

@@ -2,7 +2,7 @@ use Rattle.std.proofs.Common.{◌≡◌, ◌+◌, ◌∷◌, ◌++◌, [], take,
 use Rattle.std.specs.List.{fold}
 use Rattle.std.proofs.lemmas.List.{take_more, map-append, length-map}
 use Rattle.std.proofs.lemmas.List.Sums.{fold-append}
-use Rattle.scene_document.specs.DraftViews.{plain_entry}
+use Rattle.scene_draft.specs.DraftViews.{plain_entry}
 use Rattle.scene_document.specs.Openings.{Resource, same_resource, staged}
 use Rattle.shred_plan.specs.Plan.{Planning, added}
 use Rattle.scene_document.proofs.PlacingLemmas.{staged-append, length-take}

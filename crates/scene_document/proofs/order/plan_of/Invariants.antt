@@ -1,6 +1,6 @@
 use Rattle.std.proofs.Common.{◌≡◌, [], take, map}
 use Rattle.std.specs.List.{fold}
-use Rattle.scene_document.specs.DraftViews.{plain_entry}
+use Rattle.scene_draft.specs.DraftViews.{plain_entry}
 use Rattle.scene_document.specs.Openings.{same_resource, staged}
 use Rattle.shred_plan.specs.Plan.{added}
 use Rattle.scene_document.proofs.order.plan_of.Given as goal

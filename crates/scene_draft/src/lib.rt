@@ -1,0 +1,11 @@
+//! Scene documents as they read: bytes as JSON, JSON as a draft under the caller's rules, which nothing has tested yet; and the
+//! text of a scene.
+#![tactic(auto)]
+
+mod draft;
+mod shape;
+mod text;
+
+pub use draft::{CommandDraft, DocumentDraft, EntityDraft, EntryDraft, MadeDraft, SystemDraft};
+pub use shape::read_draft;
+pub use text::{JsonError, has_float, read_json, scene_text};
