@@ -7,7 +7,8 @@ ghost use Rattle.hibitset.specs.Cut.{IsExact};
 use crate::atomic::AtomicBitSet;
 use hibitset_sets::BitSet;
 pub use hibitset_sets::laws::{
-    complement_of_a_union, equal_sets_hold_each_other, walks_read_few_words,
+    a_dropped_drain_took_what_it_gave, complement_of_a_union, equal_sets_hold_each_other,
+    two_members_far_apart_cost_seven_words, walk_to_the_end, walks_read_few_words,
     xor_twice_changes_nothing,
 };
 

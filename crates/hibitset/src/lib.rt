@@ -14,10 +14,10 @@ pub mod producer;
 pub use atomic::AtomicBitSet;
 pub use flat::map_indices;
 pub use hibitset_sets::average_ones::average_ones;
-pub use hibitset_sets::count::{Counter, Uncounted};
+pub use hibitset_sets::count::{Counter, Steps, Uncounted};
 pub use hibitset_sets::util::{BITS, LAYERS, MAX, Row, SHIFT0, SHIFT1, SHIFT2, SHIFT3, offsets};
 pub use hibitset_sets::{
-    BitIter, BitSet, BitSetAll, BitSetAnd, BitSetLike, BitSetNot, BitSetOr, BitSetXor,
+    BitIter, BitSet, BitSetAll, BitSetAnd, BitSetIter, BitSetLike, BitSetNot, BitSetOr, BitSetXor,
     DrainBitIter, DrainableBitSet, Index, KeptMasks, MAX_EID,
 };
 pub use par_iter::BitParIter;

@@ -234,7 +234,11 @@ fn an_atomic_set_has_no_needless_summary(rt: HostRuntime) -> Result<(), Fail> {
 fn an_atomic_set_is_made_of_indices(rt: HostRuntime) -> Result<(), Fail> {
     let mut set = AtomicBitSet::from_indices(rt.alloc(), 3..6)?;
     set.extend_indices(5..8)?;
+    set.extend_indices_by_ref(&[9u32, 3])?;
     let walk = walk_of(rt.alloc(), &set)?;
-    assert_eq!(rt; walk.as_slice(), [3, 4, 5, 6, 7].as_slice());
+    assert_eq!(rt; walk.as_slice(), [3, 4, 5, 6, 7, 9].as_slice());
+    let lent = AtomicBitSet::from_indices_by_ref(rt.alloc(), &[9u32, 3])?;
+    let walk = walk_of(rt.alloc(), &lent)?;
+    assert_eq!(rt; walk.as_slice(), [3, 9].as_slice());
     Ok(())
 }

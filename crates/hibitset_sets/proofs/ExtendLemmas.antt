@@ -1,5 +1,5 @@
 -- One index more at the end of a list that is put into a set.
-use Rattle.std.proofs.Common.{◌≡◌, ℕ, List, [], ◌∷◌, ◌++◌, refl, map}
+use Rattle.std.proofs.Common.{◌≡◌, ℕ, suc, List, [], ◌∷◌, ◌++◌, refl, map, subst, arith}
 use Rattle.std.specs.Ordering.{nat_cmp}
 use Rattle.std.specs.FinSet as set
 use Rattle.std.specs.Iterator.{Yields}
@@ -8,7 +8,9 @@ use Rattle.std.specs.declared.option.Option.{Option}
 use Rattle.std.specs.declared.option.Option.TheVariants.{Some}
 use Rattle.std.proofs.lemmas.List.Elements.{All-nil, All-cons}
 use Rattle.std.specs.Borrow.{Bor}
-use Rattle.hibitset_sets.specs.Extend.{with_all}
+use Rattle.std.specs.Slice.Iter.{iter_steps, iter_rest}
+use Rattle.std.specs.declared.slice.Iter.{Iter}
+use Rattle.hibitset_sets.specs.Extend.{with_all, IsIndex, IsIndexRef}
 
 pub with_all-last : (members : set.FinSet nat_cmp) (indices : List ℕ) (i : ℕ) → with_all members (indices ++ i ∷ []) ≡ set.insert (with_all members indices) i
 with_all-last members [] i = refl
@@ -24,3 +26,11 @@ pub ruleset with_last = (with_all-last, with_refs-last)
 pub All_yielded : {S A : Type 0} (steps : S → Option A → S → Type 0) (I : S → Type 0) (P : A → Type 0) → ((s : S) (x : A) (u : S) → I s → steps s (Some x) u → P x × I u) → (s : S) (xs : List A) (t : S) → I s → Yields steps s xs t → All P xs
 All_yielded steps I P f s [] t i y = All-nil P
 All_yielded steps I P f s (x ∷ xs) t i y = let h = f s x y.0 i y.1 in All-cons P x xs h.0 (All_yielded steps I P f y.0 xs t h.1 y.2)
+
+first-rest : (x : ℕ) (rest : List ℕ) → All IsIndex (x ∷ rest) → IsIndex x × All IsIndex rest
+first-rest x rest all = (all 0 0 (omega arith), λ k d low. all (suc k) d (omega arith))
+
+-- a walk over a slice of indices that a set can have gives references to such
+pub refs-yielded : (s : Iter ℕ) → All IsIndex (iter_rest s) → (xs : List (Bor ℕ)) (t : Iter ℕ) → Yields iter_steps s xs t → All IsIndexRef xs
+refs-yielded s all xs t y =
+    All_yielded iter_steps (λ s. All IsIndex (iter_rest s)) IsIndexRef (λ s x u i p. first-rest x.now (iter_rest u) (subst (All IsIndex) p i)) s xs t all y

@@ -6,4 +6,6 @@ pub mod CountLemmas
 pub mod IterLemmas
 pub mod LayoutLemmas
 pub mod ExtendLemmas
+pub mod LawLemmas
+pub mod CostLemmas
 pub mod AssignLemmas

@@ -92,11 +92,11 @@ members_under members zero number = cond (members number) 1 0
 members_under members (suc layer) number = sum_below 64 (λ i. members_under members layer (64 * number + i))
 
 -- a bit of a layer's word is a bit of the layer
-bit-layer : (members : ℕ → Bool) (layer number i : ℕ) → i < 64 → has_bit (word_of members layer number) i ≡ layer_bits members layer (64 * number + i)
+pub bit-layer : (members : ℕ → Bool) (layer number i : ℕ) → i < 64 → has_bit (word_of members layer number) i ≡ layer_bits members layer (64 * number + i)
 unfolding word_of
 bit-layer members layer number i low = has_bit-word_at (layer_bits members layer) number i low
 
-word-some : (members : ℕ → Bool) (layer number : ℕ) → layer_bits members (suc layer) number ≡ true → word_of members layer number ≢ 0
+pub word-some : (members : ℕ → Bool) (layer number : ℕ) → layer_bits members (suc layer) number ≡ true → word_of members layer number ≢ 0
 word-some members layer number set zeroed = true≢false (sym set ∙ layer_bits-above members layer number ∙ ap (λ w. not (eqb w 0)) zeroed)
 
 one-if : (b : Bool) → b ≡ true → 1 ≤ cond b 1 0

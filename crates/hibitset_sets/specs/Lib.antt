@@ -7,6 +7,7 @@ pub mod Drain
 pub mod Operators
 pub mod BitLemmas
 pub mod WordLemmas
+pub mod TickLemmas
 pub mod OperatorLemmas
 pub mod Layout
 pub mod Edits

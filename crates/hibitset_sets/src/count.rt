@@ -1,5 +1,8 @@
 //! Counts of the words that a walk reads.
-ghost use Rattle.std.specs.Prelude.{◌≡◌, ℕ, ◌+◌};
+ghost use Rattle.std.specs.Prelude.{◌≡◌, ℕ, ◌+◌, ◌<◌};
+
+use std::marker::Model;
+use std::sync::ledger::{Blank, Book, Ledger, Share};
 
 /// What is told of each word that a walk reads from a kept set.
 ///
@@ -32,4 +35,48 @@ impl Counter for Uncounted {
     ghost ticked_both = { λ _ _ _ _ _ _ _. tt };
 
     fn tick(&mut self) {}
+}
+
+/// How many words were read. It takes no bytes, and only `tick` changes it.
+///
+/// One that counts for a caller is lent on: `set.iter_counted(steps)`, then `next_counted(steps)`.
+#[derive(Drop)]
+pub struct Steps<L: Ledger> {
+    book: Book<L>,
+    share: Share<L>,
+}
+
+impl<L: Ledger> Model for Steps<L> {
+    ghost Value = { ℕ };
+
+    ghost view = { λ s. s.book.total };
+
+    ghost invariant = { λ s. 0 < s.share.parts };
+}
+
+impl<L: Ledger> Steps<L> {
+    /// No word was read. The blank is the ledger's own, in at least one part.
+    pub fn new(blank: Blank) -> Self
+        requires name { blank.name ≡ L.name }
+        requires parts { blank.parts ≡ L.parts }
+        requires some { 0 < blank.parts }
+        ensures { result ≡ 0 }
+    {
+        let (book, share) = blank.open::<L>();
+        Steps { book, share }
+    }
+}
+
+impl<L: Ledger> Counter for Steps<L> {
+    ghost use Rattle.hibitset_sets.specs.TickLemmas.{ticked-none, ticked-both};
+
+    ghost ticked = { λ before words after. after ≡ before + words };
+
+    ghost ticked_none = { ticked-none };
+
+    ghost ticked_both = { ticked-both };
+
+    fn tick(&mut self) {
+        self.book.add(&mut self.share, 1);
+    }
 }

@@ -11,9 +11,24 @@ use crate::ops::{BitSetAnd, BitSetOr};
 use crate::util::{Index, LAYERS};
 
 /// A walk that takes each item out of the set. Dropped, it has taken out those that it gave.
-#[derive(Drop)]
 pub struct DrainBitIter<'a, T> {
-    iter: BitIter<&'a mut T>,
+    set: &'a mut T,
+    masks: [u64; LAYERS],
+    prefix: [u32; 3],
+    ghost placed: { IsPlaced masks prefix },
+}
+
+impl<T> Drop for DrainBitIter<'_, T> {
+    /// Leaves the set as it is.
+    fn drop(self)
+        ensures { self.exit.0.now ≡ self.entry.set.now }
+    {
+        let DrainBitIter {
+            set: _,
+            masks: _,
+            prefix: _,
+        } = self;
+    }
 }
 
 impl<'a, T: DrainableBitSet> DrainBitIter<'a, T> {
@@ -22,27 +37,11 @@ impl<'a, T: DrainableBitSet> DrainBitIter<'a, T> {
     /// A drain that goes on from these masks and prefixes, under the condition of `BitIter::new`.
     pub fn new(set: &'a mut T, masks: [u64; LAYERS], prefix: [u32; 3]) -> Self
         requires { IsPlaced masks prefix }
-        ensures same_reference { result.iter.set.ghost_name ≡ set.entry.ghost_name }
-        ensures set { result.iter.set.now ≡ set.old }
+        ensures same_reference { result.set.ghost_name ≡ set.entry.ghost_name }
+        ensures set { result.set.now ≡ set.old }
         ensures items { drained_of T.members result ≡ walk (is_pending (T.members set.old) masks prefix) }
     {
-        DrainBitIter {
-            iter: BitIter::new(set, masks, prefix),
-        }
-    }
-}
-
-impl<'a, T: DrainableBitSet> BitIter<&'a mut T> {
-    ghost use Rattle.hibitset_sets.specs.Drain.{Without};
-
-    /// Takes an index out of the set that is walked.
-    fn take_from_set(&mut self, i: Index)
-        ensures same_reference { self.new.set.ghost_name ≡ self.old.set.ghost_name }
-        ensures masks { self.new.masks ≡ self.old.masks }
-        ensures prefix { self.new.prefix ≡ self.old.prefix }
-        ensures members { Without (T.members self.old.set.now) i (T.members self.new.set.now) }
-    {
-        let _ = self.set.remove(i);
+        DrainBitIter { set, masks, prefix }
     }
 }
 
@@ -59,8 +58,8 @@ pub trait DrainableBitSet: BitSetLike {
     final fn drain<'a>(&'a mut self) -> DrainBitIter<'a, Self>
     where
         Self: Sized,
-        ensures same_reference { result.iter.set.ghost_name ≡ self.entry.ghost_name }
-        ensures set { result.iter.set.now ≡ self.old }
+        ensures same_reference { result.set.ghost_name ≡ self.entry.ghost_name }
+        ensures set { result.set.now ≡ self.old }
         ensures items { drained_of Self.members result ≡ walk (Self.members self.old) }
     {
         let layer3 = self.layer3();
@@ -79,9 +78,13 @@ impl<'a, T: DrainableBitSet> Iterator for DrainBitIter<'a, T> {
     ghost remaining = { item_count (drained_of T.members) };
 
     fn next(&mut self) -> Option<Index> {
-        let next = self.iter.next_counted(&mut Uncounted);
+        let mut iter = BitIter::new(&*self.set, self.masks, self.prefix);
+        let next = iter.next_counted(&mut Uncounted);
+        let (_, masks, prefix) = iter.into_parts();
+        self.masks = masks;
+        self.prefix = prefix;
         if let Some(i) = next {
-            self.iter.take_from_set(i);
+            let _ = self.set.remove(i);
         }
         next
     }

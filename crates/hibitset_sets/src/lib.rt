@@ -24,7 +24,7 @@ pub use bit_set_like::BitSetLike;
 pub use drain::{DrainBitIter, DrainableBitSet};
 pub use iter::BitIter;
 pub use kept_masks::KeptMasks;
-pub use ops::{BitSetAll, BitSetAnd, BitSetNot, BitSetOr, BitSetXor};
+pub use ops::{BitSetAll, BitSetAnd, BitSetIter, BitSetNot, BitSetOr, BitSetXor};
 pub use util::{Index, MAX_EID};
 
 #[cfg(test)]

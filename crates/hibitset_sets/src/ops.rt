@@ -4,6 +4,7 @@ ghost use Rattle.hibitset_sets.specs.Operators.{members_of_and, members_of_or, m
 ghost use Rattle.hibitset_sets.specs.OperatorLemmas.{and-over, and-agree, and-fit, or-over, or-agree, or-fit, xor-over, xor-agree, xor-fit, not-over, not-agree, not-fit, all-over, all-agree, all-fit};
 
 mod and_sets;
+mod kept_walks;
 mod not_sets;
 mod or_sets;
 mod walks;
@@ -12,6 +13,7 @@ mod xor_sets;
 use crate::bit_set_like::BitSetLike;
 use crate::count::Counter;
 use crate::util::Index;
+pub use kept_walks::BitSetIter;
 
 /// The indices that are in both sets.
 #[derive(Clone, Drop)]

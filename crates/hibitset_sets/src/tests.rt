@@ -1,17 +1,22 @@
 //! Rows whose values come from outside, and one call of each function that takes memory.
+ghost use Rattle.std.specs.Prelude.{◌≡◌, ◌<◌};
+
 use crate::average_ones::average_ones;
 use crate::bit_set::BitSet;
 use crate::bit_set_like::BitSetLike;
-use crate::count::Counter;
+use crate::count::{Counter, Steps};
 use crate::drain::{DrainBitIter, DrainableBitSet};
 use crate::iter::BitIter;
 use crate::laws::{
-    complement_of_a_union, equal_sets_hold_each_other, walks_read_few_words,
+    a_dropped_drain_took_what_it_gave, complement_of_a_union, equal_sets_hold_each_other,
+    two_members_far_apart_cost_seven_words, walk_to_the_end, walks_read_few_words,
     xor_twice_changes_nothing,
 };
 use crate::ops::{BitSetAll, BitSetAnd, BitSetNot, BitSetOr, BitSetXor};
 use crate::util::{Index, MAX_EID, Row, offsets};
 use std::alloc::{AllocError, Global};
+use std::marker::Brand;
+use std::sync::ledger::{Blank, Ledger};
 use std::test::Fail;
 
 /// The set of the indices, those past the end left out.
@@ -70,6 +75,17 @@ fn words_read<T: BitSetLike + Drop>(set: T) -> u64 {
         }
     }
     told.0
+}
+
+/// Walks over two sets and what both have, with a ledger that counts.
+fn walk_with_a_ledger<L: Ledger>(blank: Blank, one: &BitSet, other: &BitSet)
+    requires name { blank.name ≡ L.name }
+    requires parts { blank.parts ≡ L.parts }
+    requires some { 0 < blank.parts }
+{
+    let mut steps = Steps::<L>::new(blank);
+    two_members_far_apart_cost_seven_words(one, &mut steps);
+    walk_to_the_end(BitSetAnd(one, other), &mut steps);
 }
 
 #[test]
@@ -173,6 +189,19 @@ fn a_drain_takes_out_what_it_gave(rt: HostRuntime) -> Result<(), Fail> {
 }
 
 #[test]
+fn a_dropped_drain_has_taken_the_first_of_the_walk(rt: HostRuntime) -> Result<(), Fail> {
+    let mut set = set_of(rt.alloc(), &[9, 70, 5000])?;
+    let mut given = [1u32, 1];
+    assert_eq!(rt; a_dropped_drain_took_what_it_gave(&mut set, &mut given), 2);
+    assert_eq!(rt; given, [9, 70]);
+    assert_eq!(rt; walk_of(rt.alloc(), &set)?.as_slice(), [5000].as_slice());
+    assert_eq!(rt; a_dropped_drain_took_what_it_gave(&mut set, &mut given), 1);
+    assert_eq!(rt; given, [5000, 70]);
+    assert!(rt; set.is_empty());
+    Ok(())
+}
+
+#[test]
 fn assignments_are_the_operators(rt: HostRuntime) -> Result<(), Fail> {
     let mut set = set_of(rt.alloc(), &[1, 2])?;
     let other = set_of(rt.alloc(), &[2, 3])?;
@@ -229,6 +258,7 @@ fn a_walk_reads_three_words_a_member_and_one_more(rt: HostRuntime) -> Result<(),
     assert_eq!(rt; words_read(BitSetAnd(&two, &near)), 8);
     assert_eq!(rt; words_read(BitSetAll), 0);
     walks_read_few_words(&BitSetAnd(&two, &near));
+    walk_with_a_ledger::<Brand>(Blank::new(1), &two, &near);
     equal_sets_hold_each_other(&two, &near);
     xor_twice_changes_nothing(&two, &near);
     complement_of_a_union(&two, &near);
@@ -278,9 +308,16 @@ fn a_set_is_made_of_indices(rt: HostRuntime) -> Result<(), Fail> {
     let mut set = BitSet::from_indices(rt.alloc(), 3..6)?;
     assert_eq!(rt; walk_of(rt.alloc(), &set)?.as_slice(), [3, 4, 5].as_slice());
     set.extend_indices(5..8)?;
+    set.extend_indices_by_ref(&[9u32, 3])?;
     assert_eq!(rt;
         walk_of(rt.alloc(), &set)?.as_slice(),
-        [3, 4, 5, 6, 7].as_slice()
+        [3, 4, 5, 6, 7, 9].as_slice()
     );
+    let lent = BitSet::from_indices_by_ref(rt.alloc(), &[9u32, 3])?;
+    let mut items = Vec::new(rt.alloc());
+    for i in lent {
+        items.push(i)?;
+    }
+    assert_eq!(rt; items.as_slice(), [3, 9].as_slice());
     Ok(())
 }

@@ -1,9 +1,9 @@
 -- A text that was written for a value is read as that value, where it is read at all.
-use Rattle.std.proofs.Common.{◌≡◌, ℕ, zero, suc, ◌+◌, ◌≤◌, List, [], ◌∷◌, ◌++◌, length, Option, Some, None, option_map, option_and_then, Result, Ok, Err, Bool, true, false, cond, refl, sym, ap, ◌∙◌, subst, arith, append-nil}
+use Rattle.std.proofs.Common.{◌≡◌, ℕ, zero, suc, ◌+◌, ◌≤◌, List, [], ◌∷◌, ◌++◌, length, Option, Some, None, option_and_then, Result, Ok, Err, cond, refl, sym, ap, ◌∙◌, subst, arith, append-nil}
 use Rattle.std.proofs.lemmas.Option.{none-some}
 use Rattle.std.specs.Option.{unwrap_or}
 use Rattle.std.specs.Result.{IfOk}
-use Rattle.std.specs.Str.{IsUtf8, is_utf8}
+use Rattle.std.specs.Str.{IsUtf8}
 use Rattle.std.proofs.lemmas.Str.{is_utf8-from_IsUtf8}
 use Rattle.json.specs.Token.{Token}
 use Rattle.json.specs.Lex.{tokens}
@@ -137,7 +137,7 @@ ReadsBack-written text d utf8 order shallow =
     let known : json_of text ≡ read text = ap (λ b. cond b (read text) None) (is_utf8-from_IsUtf8 text utf8) in
     record {
       only = λ found is. here (read text) refl found (sym known ∙ is);
-      shallow = λ fits. known ∙ shallow fits
+      shallow = λ fits. known ∙ shallow fits;
     }
   where
     here : (o : Option Data) → read text ≡ o → (found : Data) → o ≡ Some found → found ≡ d

@@ -1,8 +1,7 @@
 -- Lemmas on a scene that can run: what is printed for it is read again as it.
 use Rattle.std.proofs.Common.{◌≡◌, ℕ, Bool, true, false, ◌||◌, cond, List, [], ◌∷◌, map, Option, Some, None, option_map, option_and_then, is_some, slice_get, refl, sym, ◌∙◌, ap, subst}
-use Rattle.std.specs.List.{filter_map, cons_option}
+use Rattle.std.specs.List.{cons_option}
 use Rattle.std.specs.Str.{bytes_eq}
-use Rattle.std.specs.BTreeMap.{BTreeMap}
 use Rattle.std.proofs.lemmas.Bool.{false≢true}
 use Rattle.std.proofs.lemmas.Option.{none-some, same_Some, option_and_then_some}
 use Rattle.std.proofs.lemmas.Slice.Eq.{bytes_eq-Decides}
@@ -11,12 +10,12 @@ use Rattle.serde_json.specs.View.{items_of}
 use Rattle.serde_json.specs.Written.{has_float}
 use Rattle.scene_rules.specs.declared.view.Columns.{Columns}
 use Rattle.scene_rules.specs.declared.refusals.DocRefusal.{DocRefusal}
-use Rattle.scene_rules.specs.declared.refusals.DocRefusal.TheVariants.{NotWhole, WrongShape}
+use Rattle.scene_rules.specs.declared.refusals.DocRefusal.TheVariants.{NotWhole}
 use Rattle.scene_rules.specs.Parts.{Json, Name, Part, is_among, place_of}
 use Rattle.scene_rules.specs.Rulebook.{Book}
 use Rattle.scene_rules.specs.Scenes.{PlainScene, lives}
 use Rattle.scene_rules.specs.Lent.{datum, value}
-use Rattle.scene_rules.specs.Slots.{in_column, filled, HoldsOnly}
+use Rattle.scene_rules.specs.Slots.{in_column, filled}
 use Rattle.scene_rules.specs.Laws.{Ascend}
 use Rattle.scene_rules.specs.Lending.{scene_in, IsSound}
 use Rattle.scene_draft.specs.Drafts.{Draft, each, members_list, items_list, global_under, entity_from, draft_from}
@@ -25,7 +24,7 @@ use Rattle.scene_draft.proofs.ShapeLemmas.{is_some-place_of}
 use Rattle.scene_document.specs.Documents.{document_from, document_of, of_reading, of_shape, unless_refused, refusal_of}
 use Rattle.scene_document.specs.Openings.{first_scene}
 use Rattle.scene_laws.specs.Printed.{CanBeRead, GlobalsAreRead}
-use Rattle.scene_laws.proofs.PrintLemmas.{Ordered, pairs_of, members-pairs, ordered-pairs, draft_read, draft-back, scene-back}
+use Rattle.scene_laws.proofs.PrintLemmas.{pairs_of, members-pairs, ordered-pairs, draft_read, draft-back, scene-back}
 
 -- what follows of what was opened
 pub if_opened : {V E : Type 0} (r : Result V E) (Opened Then : V → Type 0) (Not : E → Type 0) → ((v : V) → Opened v → Then v) → MatchResult r Opened Not → IfOk r Then
@@ -137,9 +136,9 @@ module _ {D G : Type 0} (part_of : D → Part) (global_of : G → Json) (book : 
     parts = parts-back;
     named = named;
     globals = λ name one is. from_map global_of (value book.global_names columns name) one is (λ kept stood made.
-      let read = known name one (named name one is) is in
-      let same : read.0 ≡ one = global_back name kept read.0 (ap (book.read_global name) made ∙ read.1) ∙ made in
-      read.1 ∙ ap Some same)
+        let read = known name one (named name one is) is in
+        let same : read.0 ≡ one = global_back name kept read.0 (ap (book.read_global name) made ∙ read.1) ∙ made in
+        read.1 ∙ ap Some same);
   }
 
   -- a document that is read of what is printed for it begins with it

@@ -283,11 +283,14 @@ fn check_write<H: AllocGlobal + Abort>(
         None
     };
     assert_eq!(rt; error, told, "{document}, {room} bytes, {step} a call");
-    let sent = out.get_ref().taken.as_slice();
     assert_eq!(rt;
-        sent,
-        &text.as_bytes()[..room],
-        "{document}, {room} bytes, {step} a call"
+        out.get_ref().taken.len(),
+        room,
+        "{document}, {step} a call"
+    );
+    assert!(rt;
+        text.as_bytes().starts_with(out.get_ref().taken.as_slice()),
+        "{document}"
     );
     let mut again = Counted::new(document.as_bytes());
     let mut narrow = Counted::new(Narrow::new(rt.alloc(), step, room, fails));
@@ -315,7 +318,7 @@ fn check_write<H: AllocGlobal + Abort>(
 fn failed_writes_tell_the_bytes_that_went_out(rt: HostRuntime) -> Result<(), Fail> {
     for (document, text) in accepted_documents() {
         for (step, fails) in [(64usize, true), (64, false), (1, true), (1, false)] {
-            for room in 0..text.len() + 1 {
+            for room in 0..text.len().saturating_add(1) {
                 check_write(&rt, document, text, step, room, fails)?;
             }
         }
@@ -355,12 +358,12 @@ fn a_failed_flush_comes_before_a_refused_frame(rt: HostRuntime) -> Result<(), Fa
 fn failed_reads_write_nothing(rt: HostRuntime) -> Result<(), Fail> {
     for (document, text) in accepted_documents() {
         // One byte a call, and a call that tells the end.
-        for calls in 0..document.len() + 2 {
+        for calls in 0..document.len().saturating_add(2) {
             let sound = calls > document.len();
-            let mut reader = Counted::new(Slow::new(document, calls as u32));
+            let mut reader = Counted::new(Slow::new(document, calls));
             let mut out = Counted::new(Vec::new(rt.alloc()));
             let error = run(&rt, Basics, &mut reader, &mut out).err();
-            let mut again = Counted::new(Slow::new(document, calls as u32));
+            let mut again = Counted::new(Slow::new(document, calls));
             let mut sent = Counted::new(Vec::new(rt.alloc()));
             let mut err = Counted::new(Vec::new(rt.alloc()));
             let status = program(&rt, &mut again, &mut sent, &mut err);

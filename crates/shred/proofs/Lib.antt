@@ -3,3 +3,8 @@ pub mod ViewLemmas
 pub mod RunLemmas
 pub mod StagingLemmas
 pub mod CallerLemmas
+pub mod NameLemmas
+pub mod LeaveLemmas
+pub mod SetupLemmas
+pub mod BatchLemmas
+pub mod DisposeLemmas

@@ -7,7 +7,6 @@ use Rattle.std.proofs.Math.ListN.{set}
 use Rattle.std.proofs.lemmas.List.{map-set, drop_all}
 use Rattle.std.proofs.lemmas.Option.{slice_get-map, slice_get_within, slice_get-get_or}
 use Rattle.shred_world.specs.declared.resource_id.ResourceId.{ResourceId}
-use Rattle.shred_world.specs.Worlds.{Slots}
 use Rattle.shred_world.specs.Bundles.{Holding}
 use Rattle.shred_plan.specs.Plan.{Placing, Group, Stage}
 use Rattle.shred.specs.declared.stop.Stop.{Stop}
@@ -61,14 +60,14 @@ module _ {V S : Type 0} where
   seats-read staged one n x y seated number same = seats-set staged n (get_or staged n x) y (read-there staged one n x seated number) same
 
   module _ (meets : S → Holding V → Option Stop → S → Holding V → Type 0) where
-    pub turn-set : (staged : List (Staged V S)) (one : Placing ResourceId) (x y : Staged V S) (w w2 : Slots V) (refused : Option Stop) → slice_get staged one.number ≡ Some x
+    pub turn-set : (staged : List (Staged V S)) (one : Placing ResourceId) (x y : Staged V S) (w w2 : Holding V) (refused : Option Stop) → slice_get staged one.number ≡ Some x
         → Step meets one.reads one.writes x.system w refused y.system w2 → Turn meets one (state_of staged w) refused (state_of (set staged one.number y) w2)
     turn-set staged one x y w w2 refused e step =
         let P : Option S → Type 0 = λ o. MatchOption o ⊥ (λ system. Step meets one.reads one.writes system w refused y.system w2) in
         let at : slice_get (map (λ s. s.system) staged) one.number ≡ Some x.system = slice_get-map (λ s. s.system) staged one.number ∙ ap (option_map (λ s. s.system)) e in
         (y.system, subst P (sym at) step, map-set (λ s. s.system) staged one.number y)
 
-    pub turn-read : (staged : List (Staged V S)) (one : Placing ResourceId) (n : ℕ) (x y : Staged V S) (w w2 : Slots V) (refused : Option Stop) (reads writes : List ResourceId)
+    pub turn-read : (staged : List (Staged V S)) (one : Placing ResourceId) (n : ℕ) (x y : Staged V S) (w w2 : Holding V) (refused : Option Stop) (reads writes : List ResourceId)
         → IsSeated staged one → n ≡ one.number → reads ≡ one.reads → writes ≡ one.writes
         → Step meets reads writes (get_or staged n x).system w refused y.system w2 → Turn meets one (state_of staged w) refused (state_of (set staged n y) w2)
     turn-read staged one n x y w w2 refused reads writes seated number is_reads is_writes step =
@@ -103,11 +102,11 @@ module _ {V S : Type 0} where
         known None now (subst P (sym (from-end group i h)) (refl, refl))
 
     -- the loop over a stage
-    or-assoc : (a b c : Option (ℕ × Stop)) → option_or a (option_or b c) ≡ option_or (option_or a b) c
+    pub or-assoc : (a b c : Option (ℕ × Stop)) → option_or a (option_or b c) ≡ option_or (option_or a b) c
     or-assoc None b c = refl
     or-assoc (Some x) b c = refl
 
-    or-none : (a : Option (ℕ × Stop)) → option_or a None ≡ a
+    pub or-none : (a : Option (ℕ × Stop)) → option_or a None ≡ a
     or-none None = refl
     or-none (Some x) = refl
 

@@ -39,10 +39,10 @@ module _ {V : Type 0} where
       by true is =
           let P : ResourceId → Type 0 = λ r. get after r ≡ Some None in
           subst P (sym (same_id-is q id is)) (at (get seat id) (is_listed done id) refl (seated id) made)
-          ∙ choose {V = V} (is_listed done q) (same_id q id) None (Some None) is
+          ∙ choose {A = Option (Option V)} (is_listed done q) (same_id q id) None (Some None) is
           ∙ ap (λ b. if b then Some None else None) (sym (listed-more done id q))
       by false is =
-          other (get seat id) is made ∙ seated q ∙ keep {V = V} (is_listed done q) (same_id q id) None (Some None) is
+          other (get seat id) is made ∙ seated q ∙ keep {A = Option (Option V)} (is_listed done q) (same_id q id) None (Some None) is
           ∙ ap (λ b. if b then Some None else None) (sym (listed-more done id q))
 
   pub seat-loop : (ids : List ResourceId) (k : ℕ) (id : ResourceId) (seat after : Slots V) → k < length ids → id ≡ get_or ids k id → IsSeat (take k ids) seat

@@ -8,7 +8,7 @@ use Rattle.std.proofs.lemmas.Bool.{false≢true}
 use Rattle.shred_world.specs.declared.resource_id.ResourceId.{ResourceId}
 use Rattle.shred_world.specs.ResourceIds.{same_id}
 use Rattle.shred_world.specs.Worlds.{Slots, value_at}
-use Rattle.shred_world.specs.Bundles.{Slot, absent, out, shared, owned, Holding, is_listed, with_slot}
+use Rattle.shred_world.specs.Bundles.{Slot, absent, out, shared, owned, Holding, readable, takable, slot_of, holding_of, is_listed, with_slot}
 use Rattle.shred_world.proofs.IdLemmas.{ids_total, same_id-is, same_id-itself}
 use Rattle.shred.specs.Views.{shared_of, owned_of, reading, cut, view_slots, FitsSeat, IsLeft, Leaves, merged}
 use Rattle.shred.specs.declared.stop.Stop.{Stop}
@@ -23,7 +23,7 @@ module _ {V : Type 0} where
   insert-other seat id q x e = get-insert ids_total seat id x q ∙ ap (λ b. cond b (Some x) (get seat q)) e
 
   -- a slot that is there gets another value
-  view-insert : (reads writes : List ResourceId) (w seat : Slots V) (id : ResourceId) (x : Option V) → is_listed writes id ≡ true
+  view-insert : (reads writes : List ResourceId) (w : Holding V) (seat : Slots V) (id : ResourceId) (x : Option V) → is_listed writes id ≡ true
       → view_slots reads writes w (insert seat id x) ≡ with_slot (view_slots reads writes w seat) id (owned_of x)
   view-insert reads writes w seat id x listed = fun_ext (λ q. by q (same_id q id) refl)
     where
@@ -58,7 +58,7 @@ module _ {V : Type 0} where
   take-fits writes seat after id None fits e some none q = ap (λ m. is_some (get m q)) none ∙ fits q
   take-fits writes seat after id (Some v) fits e some none q = ap (λ m. is_some (get m q)) some ∙ seat-insert seat id None (value-there (get seat id) v (sym e)) q ∙ fits q
 
-  pub take-slots : (reads writes : List ResourceId) (w seat after : Slots V) (id : ResourceId) (value : Option V) → FitsSeat writes seat → value ≡ value_at seat id
+  pub take-slots : (reads writes : List ResourceId) (w : Holding V) (seat after : Slots V) (id : ResourceId) (value : Option V) → FitsSeat writes seat → value ≡ value_at seat id
       → IfSome value (λ _. after ≡ insert seat id None) → IfSome value (λ _. view_slots reads writes w after ≡ with_slot (view_slots reads writes w seat) id out)
   take-slots reads writes w seat after id None fits e some = tt
   take-slots reads writes w seat after id (Some v) fits e some =
@@ -71,8 +71,8 @@ module _ {V : Type 0} where
   IsReading (shared v) = Unit {0}
   IsReading (owned v) = ⊥
 
-  reads-so : (reads : List ResourceId) (w : Slots V) (q : ResourceId) → IsReading (reading reads w q)
-  reads-so reads w q = by (is_listed reads q) (value_at w q)
+  reads-so : (reads : List ResourceId) (w : Holding V) (q : ResourceId) → IsReading (reading reads w q)
+  reads-so reads w q = by (is_listed reads q) (readable (w q))
     where
       by : (b : Bool) (value : Option V) → IsReading (if b then shared_of value else absent)
       by true None = tt
@@ -83,40 +83,71 @@ module _ {V : Type 0} where
   not-reading slot other is e = subst IsReading e is
 
   -- putting a value back
-  out-listed : (reads writes : List ResourceId) (w seat : Slots V) (id : ResourceId) → view_slots reads writes w seat id ≡ out → is_listed writes id ≡ true
+  out-listed : (reads writes : List ResourceId) (w : Holding V) (seat : Slots V) (id : ResourceId) → view_slots reads writes w seat id ≡ out → is_listed writes id ≡ true
   out-listed reads writes w seat id e = by (is_listed writes id) e
     where
       by : (b : Bool) → (if b then owned_of (value_at seat id) else reading reads w id) ≡ out → b ≡ true
       by true q = refl
       by false q = absurd (not-reading _ out (reads-so reads w id) q)
 
-  pub put-fits : (reads writes : List ResourceId) (w seat after : Slots V) (id : ResourceId) (v : V) → FitsSeat writes seat → view_slots reads writes w seat id ≡ out → after ≡ insert seat id (Some v) → FitsSeat writes after
+  pub put-fits : (reads writes : List ResourceId) (w : Holding V) (seat after : Slots V) (id : ResourceId) (v : V) → FitsSeat writes seat → view_slots reads writes w seat id ≡ out → after ≡ insert seat id (Some v) → FitsSeat writes after
   put-fits reads writes w seat after id v fits is e q =
       ap (λ m. is_some (get m q)) e ∙ seat-insert seat id (Some v) (fits id ∙ out-listed reads writes w seat id is) q ∙ fits q
 
-  pub put-slots : (reads writes : List ResourceId) (w seat after : Slots V) (id : ResourceId) (v : V) → view_slots reads writes w seat id ≡ out → after ≡ insert seat id (Some v)
+  pub put-slots : (reads writes : List ResourceId) (w : Holding V) (seat after : Slots V) (id : ResourceId) (v : V) → view_slots reads writes w seat id ≡ out → after ≡ insert seat id (Some v)
       → view_slots reads writes w after ≡ with_slot (view_slots reads writes w seat) id (owned v)
   put-slots reads writes w seat after id v is e = ap (view_slots reads writes w) e ∙ view-insert reads writes w seat id (Some v) (out-listed reads writes w seat id is)
 
-  -- one slot of the world, of the seat and of the view, before and after a run
-  abbrev ComesBack : (l l2 : Bool) (start seat : Option (Option V)) → Slot V → Type 0
-  ComesBack l l2 start seat read2 =
-      ((if l then filled seat (if l then emptied start else start) else (if l then emptied start else start)) ≡ merged (if l2 then owned_of (option_flatten seat) else read2) start)
-      × ((if l then emptied seat else seat) ≡ (if l then Some None else None))
-      × (l ≡ true → IsSome (option_flatten seat) → (if l then emptied start else start) ≡ Some None)
+  -- the content of a world's slot, and its slot
+  flat-slot : (o : Option (Option V)) → option_flatten o ≡ takable (slot_of o)
+  flat-slot None = refl
+  flat-slot (Some None) = refl
+  flat-slot (Some (Some v)) = refl
 
-  back : (l l2 : Bool) (start seat : Option (Option V)) (read read2 : Slot V) → IsReading read → IsReading read2 → is_some seat ≡ l2
-      → IsLeft (if l then owned_of (option_flatten start) else read) (if l2 then owned_of (option_flatten seat) else read2) → ComesBack l l2 start seat read2
-  back true false None seat read read2 r r2 is e = absurd (not-reading read2 out r2 e)
-  back true false (Some None) seat read read2 r r2 is e = absurd (not-reading read2 out r2 e)
-  back true false (Some (Some v)) seat read read2 r r2 is e = absurd (not-reading read2 (owned e.0) r2 e.1)
+  abbrev is_slot : Slot V → Bool
+  is_slot absent = false
+  is_slot out = true
+  is_slot (shared v) = true
+  is_slot (owned v) = true
+
+  some-slot : (o : Option (Option V)) → is_some o ≡ is_slot (slot_of o)
+  some-slot None = refl
+  some-slot (Some None) = refl
+  some-slot (Some (Some v)) = refl
+
+  abbrev content : Slot V → Option (Option V)
+  content absent = None
+  content out = Some None
+  content (shared v) = None
+  content (owned v) = Some (Some v)
+
+  content-slot : (o : Option (Option V)) → content (slot_of o) ≡ o
+  content-slot None = refl
+  content-slot (Some None) = refl
+  content-slot (Some (Some v)) = refl
+
+  -- one slot of the world, of the seat and of the view, before and after a run
+  abbrev ComesBack : (l l2 : Bool) → Slot V → (seat : Option (Option V)) → Slot V → Type 0
+  ComesBack l l2 start seat read2 =
+      ((if l then filled (slot_of seat) (if l then emptied start else start) else (if l then emptied start else start)) ≡ merged (if l2 then owned_of (option_flatten seat) else read2) start)
+      × ((if l then emptied (slot_of seat) else slot_of seat) ≡ slot_of (if l then Some None else None))
+      × (l ≡ true → IsSome (takable (slot_of seat)) → (if l then emptied start else start) ≡ out)
+
+  back : (l l2 : Bool) (start : Slot V) (seat : Option (Option V)) (read read2 : Slot V) → IsReading read → IsReading read2 → is_some seat ≡ l2
+      → IsLeft (if l then owned_of (takable start) else read) (if l2 then owned_of (option_flatten seat) else read2) → ComesBack l l2 start seat read2
+  back true false absent seat read read2 r r2 is e = absurd (not-reading read2 out r2 e)
+  back true false out seat read read2 r r2 is e = absurd (not-reading read2 out r2 e)
+  back true false (shared v) seat read read2 r r2 is e = absurd (not-reading read2 out r2 e)
+  back true false (owned v) seat read read2 r r2 is e = absurd (not-reading read2 (owned e.0) r2 e.1)
   back true true start None read read2 r r2 is e = absurd (false≢true is)
-  back true true None (Some None) read read2 r r2 is e = (refl, refl, λ l there. absurd (false≢true there))
-  back true true (Some None) (Some None) read read2 r r2 is e = (refl, refl, λ l there. absurd (false≢true there))
-  back true true (Some (Some v)) (Some None) read read2 r r2 is e = cc
-  back true true None (Some (Some u)) read read2 r r2 is e = cc
-  back true true (Some None) (Some (Some u)) read read2 r r2 is e = cc
-  back true true (Some (Some v)) (Some (Some u)) read read2 r r2 is e = (refl, refl, λ l there. refl)
+  back true true absent (Some None) read read2 r r2 is e = (refl, refl, λ l there. absurd (false≢true there))
+  back true true out (Some None) read read2 r r2 is e = (refl, refl, λ l there. absurd (false≢true there))
+  back true true (shared v) (Some None) read read2 r r2 is e = (refl, refl, λ l there. absurd (false≢true there))
+  back true true (owned v) (Some None) read read2 r r2 is e = cc
+  back true true absent (Some (Some u)) read read2 r r2 is e = cc
+  back true true out (Some (Some u)) read read2 r r2 is e = cc
+  back true true (shared v) (Some (Some u)) read read2 r r2 is e = cc
+  back true true (owned v) (Some (Some u)) read read2 r r2 is e = (refl, refl, λ l there. refl)
   back false l2 start seat out read2 r r2 is e = absurd r
   back false l2 start seat (owned v) read2 r r2 is e = absurd r
   back false true start None absent read2 r r2 is e = cc
@@ -130,64 +161,72 @@ module _ {V : Type 0} where
   back false false start None absent read2 r r2 is e = (ap (λ slot. merged slot start) (sym e), refl, λ l there. absurd (false≢true l))
   back false false start None (shared v) read2 r r2 is e = (ap (λ slot. merged slot start) (sym e), refl, λ l there. absurd (false≢true l))
 
-  module _ (reads writes : List ResourceId) (start seat : Slots V) (seated : IsSeat writes seat) (lent lent_seat : Slots V)
-      (from : (q : ResourceId) → get lent q ≡ left_of writes start q) (to : (q : ResourceId) → get lent_seat q ≡ moved_to writes start seat q) where
+  module _ (reads writes : List ResourceId) (start : Holding V) (seat : Slots V) (seated : IsSeat writes seat) (lent : Holding V) (lent_seat : Slots V)
+      (from : (q : ResourceId) → lent q ≡ left_of writes start q) (to : (q : ResourceId) → holding_of lent_seat q ≡ moved_to writes start (holding_of seat) q) where
     -- the seat has what it needs
-    pub first-slots : HasSlots writes start seat
-    first-slots q listed there = seated q ∙ ap (λ b. if b then Some None else None) listed
+    pub first-slots : HasSlots writes start (holding_of seat)
+    first-slots q listed there = ap slot_of (seated q ∙ ap (λ b. if b then Some None else None) listed)
+
+    lent-slot : (q : ResourceId) → holding_of lent_seat q ≡ (if is_listed writes q then filled (start q) (slot_of (if is_listed writes q then Some None else None)) else slot_of (if is_listed writes q then Some None else None))
+    lent-slot q = to q ∙ ap (λ slot. if is_listed writes q then filled (start q) (slot_of slot) else slot_of slot) (seated q)
 
     pub lent-fits : FitsSeat writes lent_seat
-    lent-fits q = ap is_some (to q ∙ ap (λ slot. if is_listed writes q then filled (get start q) slot else slot) (seated q)) ∙ by (is_listed writes q) (get start q)
+    lent-fits q = some-slot (get lent_seat q) ∙ ap is_slot (lent-slot q) ∙ by (is_listed writes q) (start q)
       where
-        by : (l : Bool) (slot : Option (Option V)) → is_some (if l then filled slot (if l then Some None else None) else (if l then Some None else None)) ≡ l
-        by true None = refl
-        by true (Some None) = refl
-        by true (Some (Some v)) = refl
+        by : (l : Bool) (slot : Slot V) → is_slot (if l then filled slot (slot_of (if l then Some None else None)) else slot_of (if l then Some None else None)) ≡ l
+        by true absent = refl
+        by true out = refl
+        by true (shared v) = refl
+        by true (owned v) = refl
         by false slot = refl
 
-    -- the view shows the world, cut to what is declared
+    -- the view shows what is held, cut to what is declared
     pub lent-view : view_slots reads writes lent lent_seat ≡ cut reads writes start
     lent-view = fun_ext (λ q.
-        ap (λ slot. if is_listed writes q then owned_of (option_flatten slot) else reading reads lent q) (to q ∙ ap (λ slot. if is_listed writes q then filled (get start q) slot else slot) (seated q))
-        ∙ ap (λ slot. if is_listed writes q then owned_of (option_flatten (if is_listed writes q then filled (get start q) (if is_listed writes q then Some None else None) else (if is_listed writes q then Some None else None))) else (if is_listed reads q then shared_of (option_flatten slot) else absent)) (from q)
-        ∙ by (is_listed writes q) (get start q) (is_listed reads q))
+        ap (λ value. if is_listed writes q then owned_of value else reading reads lent q) (flat-slot (get lent_seat q) ∙ ap takable (lent-slot q))
+        ∙ ap (λ slot. if is_listed writes q then owned_of (takable (if is_listed writes q then filled (start q) (slot_of (if is_listed writes q then Some None else None)) else slot_of (if is_listed writes q then Some None else None))) else (if is_listed reads q then shared_of (readable slot) else absent)) (from q)
+        ∙ by (is_listed writes q) (start q) (is_listed reads q))
       where
-        by : (l : Bool) (slot : Option (Option V)) (b : Bool)
-            → (if l then owned_of (option_flatten (if l then filled slot (if l then Some None else None) else (if l then Some None else None))) else (if b then shared_of (option_flatten (if l then emptied slot else slot)) else absent))
-            ≡ (if l then owned_of (option_flatten slot) else (if b then shared_of (option_flatten slot) else absent))
-        by true None b = refl
-        by true (Some None) b = refl
-        by true (Some (Some v)) b = refl
+        by : (l : Bool) (slot : Slot V) (b : Bool)
+            → (if l then owned_of (takable (if l then filled slot (slot_of (if l then Some None else None)) else slot_of (if l then Some None else None))) else (if b then shared_of (readable (if l then emptied slot else slot)) else absent))
+            ≡ (if l then owned_of (takable slot) else (if b then shared_of (readable slot) else absent))
+        by true absent b = refl
+        by true out b = refl
+        by true (shared v) b = refl
+        by true (owned v) b = refl
         by false slot b = refl
 
-    module _ (reads2 writes2 : List ResourceId) (world2 seat2 : Slots V) (fits : FitsSeat writes2 seat2)
+    module _ (reads2 writes2 : List ResourceId) (world2 : Holding V) (seat2 : Slots V) (fits : FitsSeat writes2 seat2)
         (leaves : Leaves (view_slots reads writes lent lent_seat) (view_slots reads2 writes2 world2 seat2)) where
       pub cut-leaves : Leaves (cut reads writes start) (view_slots reads2 writes2 world2 seat2)
       cut-leaves = let P : Holding V → Type 0 = λ before. Leaves before (view_slots reads2 writes2 world2 seat2) in subst P lent-view leaves
 
-      comes : (q : ResourceId) → ComesBack (is_listed writes q) (is_listed writes2 q) (get start q) (get seat2 q) (reading reads2 world2 q)
-      comes q = back (is_listed writes q) (is_listed writes2 q) (get start q) (get seat2 q) (reading reads start q) (reading reads2 world2 q) (reads-so reads start q) (reads-so reads2 world2 q) (fits q) (cut-leaves q)
+      comes : (q : ResourceId) → ComesBack (is_listed writes q) (is_listed writes2 q) (start q) (get seat2 q) (reading reads2 world2 q)
+      comes q = back (is_listed writes q) (is_listed writes2 q) (start q) (get seat2 q) (reading reads start q) (reading reads2 world2 q) (reads-so reads start q) (reads-so reads2 world2 q) (fits q) (cut-leaves q)
 
       -- what comes back finds its slots
-      pub second-slots : HasSlots writes seat2 lent
+      pub second-slots : HasSlots writes (holding_of seat2) lent
       second-slots q listed there = from q ∙ (comes q).2 listed there
 
-      module _ (last last_seat : Slots V) (from2 : (q : ResourceId) → get last_seat q ≡ left_of writes seat2 q) (to2 : (q : ResourceId) → get last q ≡ moved_to writes seat2 lent q) where
-        pub world-back : (q : ResourceId) → get last q ≡ merged (view_slots reads2 writes2 world2 seat2 q) (get start q)
-        world-back q = to2 q ∙ ap (λ slot. if is_listed writes q then filled (get seat2 q) slot else slot) (from q) ∙ (comes q).0
+      module _ (last : Holding V) (last_seat : Slots V) (from2 : (q : ResourceId) → holding_of last_seat q ≡ left_of writes (holding_of seat2) q)
+          (to2 : (q : ResourceId) → last q ≡ moved_to writes (holding_of seat2) lent q) where
+        pub world-back : (q : ResourceId) → last q ≡ merged (view_slots reads2 writes2 world2 seat2 q) (start q)
+        world-back q = to2 q ∙ ap (λ slot. if is_listed writes q then filled (holding_of seat2 q) slot else slot) (from q) ∙ (comes q).0
 
         pub seat-back : (q : ResourceId) → get last_seat q ≡ get seat q
-        seat-back q = from2 q ∙ (comes q).1 ∙ sym (seated q)
+        seat-back q =
+            sym (content-slot (get last_seat q)) ∙ ap content (from2 q ∙ (comes q).1) ∙ content-slot (if is_listed writes q then Some None else None) ∙ sym (seated q)
 
 -- a turn of a system, from what its parts say
-module _ {V S : Type 0} (meets : S → Holding V → Option Stop → S → Holding V → Type 0) (reads writes : List ResourceId) (start seat lent lent_seat seat2 last last_seat : Slots V)
+module _ {V S : Type 0} (meets : S → Holding V → Option Stop → S → Holding V → Type 0) (reads writes : List ResourceId) (start : Holding V) (seat : Slots V) (lent : Holding V)
+    (lent_seat seat2 : Slots V) (last : Holding V) (last_seat : Slots V)
     (system : S) (refused : Option Stop) (system2 : S) (seated : IsSeat writes seat)
-    (from : (q : ResourceId) → get lent q ≡ left_of writes start q) (to : (q : ResourceId) → get lent_seat q ≡ moved_to writes start seat q)
+    (from : (q : ResourceId) → lent q ≡ left_of writes start q) (to : (q : ResourceId) → holding_of lent_seat q ≡ moved_to writes start (holding_of seat) q)
     (run : RunsInView meets system (view_slots reads writes lent lent_seat) refused system2 seat2) where
-  pub turn-slots : HasSlots writes seat2 lent
+  pub turn-slots : HasSlots writes (holding_of seat2) lent
   turn-slots = second-slots reads writes start seat seated lent lent_seat from to run.reads_after run.writes_after run.world_after seat2 run.fits run.leaves
 
-  module _ (from2 : (q : ResourceId) → get last_seat q ≡ left_of writes seat2 q) (to2 : (q : ResourceId) → get last q ≡ moved_to writes seat2 lent q) where
+  module _ (from2 : (q : ResourceId) → holding_of last_seat q ≡ left_of writes (holding_of seat2) q) (to2 : (q : ResourceId) → last q ≡ moved_to writes (holding_of seat2) lent q) where
     pub turn-seat : (q : ResourceId) → get last_seat q ≡ get seat q
     turn-seat = seat-back reads writes start seat seated lent lent_seat from to run.reads_after run.writes_after run.world_after seat2 run.fits run.leaves last last_seat from2 to2
 

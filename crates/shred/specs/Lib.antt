@@ -1,5 +1,14 @@
+pub mod Accesses
 pub mod Views
 pub mod Moves
 pub mod Runs
 pub mod Seats
 pub mod Staging
+pub mod Names
+pub mod Building
+pub mod Setups
+pub mod Works
+pub mod Locals
+pub mod Dispatching
+pub mod Dispatchers
+pub mod Batches

@@ -1,7 +1,6 @@
 -- What a run of a plan does, system after system.
 use Rattle.std.specs.Prelude.{◌≡◌, ℕ, Option, None, Some, List, [], ◌∷◌, slice_get, slice_set}
 use Rattle.std.specs.Option.{MatchOption, option_or}
-use Rattle.std.specs.FinMap as map
 use Rattle.shred_world.specs.declared.resource_id.ResourceId.{ResourceId}
 use Rattle.shred_world.specs.Worlds.{Slots}
 use Rattle.shred_world.specs.Bundles.{Holding}
@@ -14,23 +13,23 @@ pub record RunsInView {V S : Type 0} (meets : S → Holding V → Option Stop �
     (system : S) (seen : Holding V) (refused : Option Stop) (system_after : S) (seat_after : Slots V) : Type 0 where
   pub reads_after : List ResourceId
   pub writes_after : List ResourceId
-  pub world_after : Slots V
+  pub world_after : Holding V
   pub fits : FitsSeat writes_after seat_after
   pub runs : meets system seen refused system_after (view_slots reads_after writes_after world_after seat_after)
   pub leaves : Leaves seen (view_slots reads_after writes_after world_after seat_after)
 
--- a system runs over what it declares of a world, and the world then has what it left
+-- a system runs over what it declares of what is held, and what it left is then held
 pub record Step {V S : Type 0} (meets : S → Holding V → Option Stop → S → Holding V → Type 0) (reads writes : List ResourceId)
-    (system : S) (w : Slots V) (refused : Option Stop) (system_after : S) (w_after : Slots V) : Type 0 where
+    (system : S) (w : Holding V) (refused : Option Stop) (system_after : S) (w_after : Holding V) : Type 0 where
   pub after : Holding V
   pub runs : meets system (cut reads writes w) refused system_after after
   pub leaves : Leaves (cut reads writes w) after
-  pub comes_back : (id : ResourceId) → map.get w_after id ≡ merged (after id) (map.get w id)
+  pub comes_back : (id : ResourceId) → w_after id ≡ merged (after id) (w id)
 
--- the systems by their numbers, and the world
+-- the systems by their numbers, and what is held
 pub record State (V S : Type 0) : Type 0 where
   pub systems : List S
-  pub held : Slots V
+  pub held : Holding V
 
 module _ {V S : Type 0} (meets : S → Holding V → Option Stop → S → Holding V → Type 0) where
   -- a system of the plan takes its turn

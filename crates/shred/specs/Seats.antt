@@ -1,9 +1,9 @@
 -- The systems that are staged, each with its seat.
-use Rattle.std.specs.Prelude.{ℕ, List, map, Option, Some, None, Result, Ok, Err, slice_get}
+use Rattle.std.specs.Prelude.{ℕ, ◌≤◌, length, List, map, Option, Some, None, Result, Ok, Err, slice_get}
 use Rattle.std.specs.List.{All}
 use Rattle.std.specs.Option.{MatchOption}
 use Rattle.shred_world.specs.declared.resource_id.ResourceId.{ResourceId}
-use Rattle.shred_world.specs.Worlds.{Slots}
+use Rattle.shred_world.specs.Bundles.{Holding}
 use Rattle.shred_plan.specs.Plan.{Placing, Group, Stage}
 use Rattle.shred.specs.declared.stop.Stop.{Stop}
 use Rattle.shred.specs.declared.turn.Staged.{Staged}
@@ -11,8 +11,8 @@ use Rattle.shred.specs.declared.run.Refusal.{Refusal}
 use Rattle.shred.specs.Moves.{IsSeat}
 use Rattle.shred.specs.Runs.{State}
 
--- the systems by number, and the world
-abbrev pub state_of : {V S : Type 0} → List (Staged V S) → Slots V → State V S
+-- the systems by number, and what is held
+abbrev pub state_of : {V S : Type 0} → List (Staged V S) → Holding V → State V S
 state_of staged w = record { systems = map (λ one. one.system) staged; held = w }
 
 -- which system refused, and why
@@ -41,3 +41,8 @@ StagesAreSeated stages staged = All (λ stage. StageIsSeated stage staged) stage
 -- each system has the seat that it had
 abbrev pub SeatsKept : {V S : Type 0} → (before after : List (Staged V S)) → Type 0
 SeatsKept before after = (one : Placing ResourceId) → IsSeated before one → IsSeated after one
+
+-- all systems of the stages have their seats, and there are no more than may be staged
+pub record IsStaged {V S : Type 0} (stages : List (Stage ResourceId)) (staged : List (Staged V S)) : Type 0 where
+  pub seated : StagesAreSeated stages staged
+  pub few : length staged ≤ 65536

@@ -5,6 +5,7 @@ use Rattle.shred_world.specs.Worlds.{Slots}
 use Rattle.shred_world.specs.Bundles.{Holding}
 use Rattle.shred_plan.specs.Plan.{Planning}
 use Rattle.shred.specs.Runs.{StagesRun}
+use Rattle.shred.specs.Setups.{DisposesEach}
 use Rattle.shred.specs.declared.stop.Stop.{Stop}
 use Rattle.shred.specs.declared.error.DispatchError.{DispatchError}
 use Rattle.shred.specs.declared.error.DispatchError.TheVariants.{System, Local, Memory, Threads}
@@ -23,7 +24,11 @@ Tells (Err Memory) refused = ⊥
 Tells (Err Threads) refused = ⊥
 
 -- the stages run, and the answer tells the first refusal in the order of the plan
-abbrev pub Runs : {V S A : Type 0} → (S → Holding V → Option Stop → S → Holding V → Type 0) → Staging S → Slots V → Result A DispatchError → Staging S → Slots V → Type 0
+abbrev pub Runs : {V S A : Type 0} → (S → Holding V → Option Stop → S → Holding V → Type 0) → Staging S → Holding V → Result A DispatchError → Staging S → Holding V → Type 0
 Runs {V} {S} meets before held result after held_after =
     (refused : Option (ℕ × Stop)) × Tells result refused
     × StagesRun meets before.planning.stages (record { systems = before.systems; held = held }) refused (record { systems = after.systems; held = held_after })
+
+-- systems are let go, and the answer tells the first refusal
+abbrev pub DisposesAll : {V S A : Type 0} → (S → Option Stop → Slots V → Slots V → Type 0) → List S → Result A DispatchError → Slots V → Slots V → Type 0
+DisposesAll disposes systems result w w_after = (refused : Option (ℕ × Stop)) × Tells result refused × DisposesEach disposes 0 systems refused w w_after

@@ -3,27 +3,27 @@ use Rattle.std.specs.Prelude.{◌≡◌, Option, None, Some, List, Result, Ok, E
 use Rattle.std.specs.FinMap as map
 use Rattle.shred_world.specs.declared.resource_id.ResourceId.{ResourceId}
 use Rattle.shred_world.specs.Worlds.{Slots, value_at}
-use Rattle.shred_world.specs.Bundles.{Slot, absent, out, shared, owned, Holding, is_listed}
+use Rattle.shred_world.specs.Bundles.{Slot, absent, out, shared, owned, Holding, readable, takable, is_listed}
 
--- a value that the world holds is lent for reading, where its id is declared
+-- a value that can be read is lent for reading, where its id is declared
 abbrev pub shared_of : {V : Type 0} → Option V → Slot V
 shared_of None = absent
 shared_of (Some v) = shared v
 
-abbrev pub reading : {V : Type 0} → List ResourceId → Slots V → Holding V
-reading reads w id = if is_listed reads id then shared_of (value_at w id) else absent
+abbrev pub reading : {V : Type 0} → List ResourceId → Holding V → Holding V
+reading reads w id = if is_listed reads id then shared_of (readable (w id)) else absent
 
--- a value that the world holds is lent for taking out
+-- a value that can be taken out is lent for that
 abbrev pub owned_of : {V : Type 0} → Option V → Slot V
 owned_of None = out
 owned_of (Some v) = owned v
 
--- a world cut to the ids that a system reads and writes
-abbrev pub cut : {V : Type 0} → (reads writes : List ResourceId) → Slots V → Holding V
-cut reads writes w id = if is_listed writes id then owned_of (value_at w id) else reading reads w id
+-- what is held, cut to the ids that a system reads and writes
+abbrev pub cut : {V : Type 0} → (reads writes : List ResourceId) → Holding V → Holding V
+cut reads writes w id = if is_listed writes id then owned_of (takable (w id)) else reading reads w id
 
--- the slots of a view: the values that were moved into a seat for it, and those that it reads in the world
-abbrev pub view_slots : {V : Type 0} → (reads writes : List ResourceId) → (w seat : Slots V) → Holding V
+-- the slots of a view: the values that were moved into a seat for it, and those that it reads where they are
+abbrev pub view_slots : {V : Type 0} → (reads writes : List ResourceId) → Holding V → (seat : Slots V) → Holding V
 view_slots reads writes w seat id = if is_listed writes id then owned_of (value_at seat id) else reading reads w id
 
 -- a seat has a slot for each id that is written, and no other
@@ -41,12 +41,12 @@ IsLeft {V} (owned v) after = (left : V) × (after ≡ owned left)
 abbrev pub Leaves : {V : Type 0} → (before after : Holding V) → Type 0
 Leaves before after = (id : ResourceId) → IsLeft (before id) (after id)
 
--- the value that a world has, once what was taken out comes back
-abbrev pub merged : {V : Type 0} → Slot V → Option (Option V) → Option (Option V)
-merged absent slot = slot
-merged out slot = slot
-merged (shared v) slot = slot
-merged (owned v) slot = Some (Some v)
+-- what is held at an id, once what was taken out comes back
+abbrev pub merged : {V : Type 0} → (after before : Slot V) → Slot V
+merged absent before = before
+merged out before = before
+merged (shared v) before = before
+merged (owned v) before = owned v
 
 -- why it was refused
 abbrev pub error_of : {A E : Type 0} → Result A E → Option E

@@ -6,7 +6,7 @@ ghost use Rattle.shred.specs.Seats.{IsSeated, AreSeated, StageIsSeated, StagesAr
 
 use crate::turn::{Staged, run_system};
 use crate::{Adding, Group, Stage, Stop, System, SystemId};
-use shred_world::{ResourceId, World};
+use shred_world::{Holder, ResourceId};
 
 /// A system that refused, and why.
 #[derive(Debug, PartialEq, Eq, Drop)]
@@ -16,14 +16,14 @@ pub(crate) struct Refusal {
 }
 
 /// Lets a system of the plan take its turn.
-fn run_turn<V: Drop, S: System<V>, H: AllocGlobal>(
+fn run_turn<V: Drop, S: System<V>, H: AllocGlobal, W: Holder<V>>(
     rt: &H,
-    world: &mut World<V>,
+    world: &mut W,
     staged: &mut [Staged<V, S>],
     adding: &Adding<ResourceId>,
 ) -> Result<(), Refusal>
     requires seated { IsSeated staged.old adding.now }
-    ensures runs { Turn S.meets adding.now (state_of staged.old world.old) (stop_of result) (state_of staged.new world.new) }
+    ensures runs { Turn S.meets adding.now (state_of staged.old (W.slots world.old)) (stop_of result) (state_of staged.new (W.slots world.new)) }
     ensures number { IfErr result (λ refusal. refusal.system.0 ≡ adding.now.number) }
     ensures seats { SeatsKept staged.old staged.new }
 {
@@ -41,14 +41,14 @@ fn run_turn<V: Drop, S: System<V>, H: AllocGlobal>(
 }
 
 /// Runs the systems of a group, one after the other, up to the first that refuses.
-pub(crate) fn run_group<V: Drop, S: System<V>, H: AllocGlobal>(
+pub(crate) fn run_group<V: Drop, S: System<V>, H: AllocGlobal, W: Holder<V>>(
     rt: &H,
-    world: &mut World<V>,
+    world: &mut W,
     staged: &mut [Staged<V, S>],
     group: &[Adding<ResourceId>],
 ) -> Result<(), Refusal>
     requires seated { AreSeated group.now staged.old }
-    ensures runs { GroupRuns S.meets group.now (state_of staged.old world.old) (refusal_of result) (state_of staged.new world.new) }
+    ensures runs { GroupRuns S.meets group.now (state_of staged.old (W.slots world.old)) (refusal_of result) (state_of staged.new (W.slots world.new)) }
     ensures seats { SeatsKept staged.old staged.new }
 {
     for adding in group {
@@ -61,7 +61,7 @@ pub(crate) fn run_group<V: Drop, S: System<V>, H: AllocGlobal>(
 }
 
 /// The first of two refusals.
-fn first_of(one: Result<(), Refusal>, other: Result<(), Refusal>) -> Result<(), Refusal>
+pub(crate) fn first_of(one: Result<(), Refusal>, other: Result<(), Refusal>) -> Result<(), Refusal>
     ensures { refusal_of result ≡ option_or (refusal_of one) (refusal_of other) }
 {
     match one {
@@ -71,14 +71,14 @@ fn first_of(one: Result<(), Refusal>, other: Result<(), Refusal>) -> Result<(), 
 }
 
 /// Runs the groups of a stage, each to its end, and tells the first refusal.
-pub(crate) fn run_stage<V: Drop, S: System<V>, H: AllocGlobal>(
+pub(crate) fn run_stage<V: Drop, S: System<V>, H: AllocGlobal, W: Holder<V>>(
     rt: &H,
-    world: &mut World<V>,
+    world: &mut W,
     staged: &mut [Staged<V, S>],
     stage: &[Group<ResourceId>],
 ) -> Result<(), Refusal>
     requires seated { StageIsSeated stage.now staged.old }
-    ensures runs { StageRuns S.meets stage.now (state_of staged.old world.old) (refusal_of result) (state_of staged.new world.new) }
+    ensures runs { StageRuns S.meets stage.now (state_of staged.old (W.slots world.old)) (refusal_of result) (state_of staged.new (W.slots world.new)) }
     ensures seats { SeatsKept staged.old staged.new }
 {
     let mut outcome = Ok(());
@@ -89,14 +89,14 @@ pub(crate) fn run_stage<V: Drop, S: System<V>, H: AllocGlobal>(
 }
 
 /// Runs the stages, one after the other, up to the first in which a system refuses.
-pub(crate) fn run_stages<V: Drop, S: System<V>, H: AllocGlobal>(
+pub(crate) fn run_stages<V: Drop, S: System<V>, H: AllocGlobal, W: Holder<V>>(
     rt: &H,
-    world: &mut World<V>,
+    world: &mut W,
     staged: &mut [Staged<V, S>],
     stages: &[Stage<ResourceId>],
 ) -> Result<(), Refusal>
     requires seated { StagesAreSeated stages.now staged.old }
-    ensures runs { StagesRun S.meets stages.now (state_of staged.old world.old) (refusal_of result) (state_of staged.new world.new) }
+    ensures runs { StagesRun S.meets stages.now (state_of staged.old (W.slots world.old)) (refusal_of result) (state_of staged.new (W.slots world.new)) }
     ensures seats { SeatsKept staged.old staged.new }
 {
     for stage in stages {

@@ -1,15 +1,21 @@
 //! Systems that are planned as they are added, and run in the order of their plan.
-ghost use Rattle.std.specs.Prelude.{◌≡◌, ◌<◌, ◌++◌, ◌∷◌, [], length, string_bytes, OnOk, OnErr, IfOk, IfErr};
+ghost use Rattle.std.specs.Prelude.{◌≡◌, ◌<◌, ◌++◌, ◌∷◌, [], length, string_bytes, OnOk, OnErr, IfOk, IfErr, is_ok};
 ghost use Rattle.shred_plan.specs.Plan.{added, fence, placing, most_groups};
 ghost use Rattle.shred_plan.specs.PlanText.{plan_text};
+ghost use Rattle.shred.specs.Views.{Leaves};
 ghost use Rattle.shred.specs.Moves.{IsSeat};
-ghost use Rattle.shred.specs.Staging.{Runs, Tells};
+ghost use Rattle.shred.specs.Runs.{StagesRun};
+ghost use Rattle.shred.specs.Staging.{Runs, Tells, DisposesAll};
 ghost use Rattle.shred.specs.Seats.{StagesAreSeated, refusal_of};
+ghost use Rattle.shred.specs.Setups.{SetsUpEach, DisposesEach};
+ghost use Rattle.shred.specs.Batches.{all_reads, all_writes};
 
+use crate::access::{Access, ids_in_stages};
 use crate::run::{Refusal, run_stages};
+use crate::setup::{dispose_staged, set_up_staged};
 use crate::turn::Staged;
 use crate::{Adding, DispatchError, Planner, System, SystemId};
-use shred_world::{ResourceId, World};
+use shred_world::{Holder, ResourceId, World};
 use std::alloc::{AllocError, AllocFailed, Global};
 use std::marker::Model;
 use std::string::String;
@@ -76,14 +82,14 @@ pub struct StagesBuilder<V, S> {
 
 impl<V, S> Model for StagesBuilder<V, S> {
     ghost use Rattle.std.specs.Prelude.{map};
-    ghost use Rattle.shred.specs.Seats.{StagesAreSeated};
+    ghost use Rattle.shred.specs.Seats.{IsStaged};
     ghost use Rattle.shred.specs.Staging.{Staging};
 
     ghost Value = { Staging S };
 
     ghost view = { λ builder. record { planning = builder.planner; systems = map (λ one. one.system) builder.staged.items } };
 
-    ghost invariant = { λ builder. StagesAreSeated builder.planner.stages builder.staged.items };
+    ghost invariant = { λ builder. IsStaged builder.planner.stages builder.staged.items };
 }
 
 impl<V: Drop, S: System<V> + Drop> StagesBuilder<V, S> {
@@ -112,12 +118,10 @@ impl<V: Drop, S: System<V> + Drop> StagesBuilder<V, S> {
         ensures handed_back { IfErr result (λ refused. refused.value ≡ system) }
     {
         let number = self.staged.len() as u32;
-        let Ok(reads) = system.reads(self.alloc) else {
+        let Ok(access) = system.accessor(self.alloc) else {
             return Err(AllocFailed { value: system });
         };
-        let Ok(writes) = system.writes(self.alloc) else {
-            return Err(AllocFailed { value: system });
-        };
+        let (reads, writes) = access.into_lists();
         let Ok(seat) = seat_for(self.alloc, &writes) else {
             return Err(AllocFailed { value: system });
         };
@@ -131,6 +135,13 @@ impl<V: Drop, S: System<V> + Drop> StagesBuilder<V, S> {
                 },
             ) => { Err(AllocFailed { value: system }) }
         }
+    }
+
+    /// How many systems there are.
+    pub fn len(&self) -> usize
+        ensures { result ≡ length self.now.systems }
+    {
+        self.staged.len()
     }
 
     /// What is added from now on runs in later stages than what was added so far.
@@ -149,6 +160,34 @@ impl<V: Drop, S: System<V> + Drop> StagesBuilder<V, S> {
         self.planner.print_par_seq(alloc)
     }
 
+    /// The ids that the systems read, in the order of the plan.
+    ///
+    /// Errors: want of memory.
+    pub fn fetch_all_reads(&self, alloc: Global) -> Result<Vec<ResourceId>, AllocError>
+        ensures { IfOk result (λ ids. ids.items ≡ all_reads self.now.planning.stages) }
+    {
+        ids_in_stages(alloc, Access::Reads, self.planner.stages())
+    }
+
+    /// The ids that the systems write, in the order of the plan.
+    ///
+    /// Errors: want of memory.
+    pub fn fetch_all_writes(&self, alloc: Global) -> Result<Vec<ResourceId>, AllocError>
+        ensures { IfOk result (λ ids. ids.items ≡ all_writes self.now.planning.stages) }
+    {
+        ids_in_stages(alloc, Access::Writes, self.planner.stages())
+    }
+
+    /// Sets the systems up in the order in which they were added, up to the first that finds no memory.
+    ///
+    /// Errors: want of memory; the systems before the refused one are set up.
+    pub fn setup(&mut self, world: &mut World<V>) -> Result<(), AllocError>
+        ensures plan { self.new.planning ≡ self.old.planning }
+        ensures sets_up { SetsUpEach S.sets_up self.old.systems (is_ok result) world.old self.new.systems world.new }
+    {
+        set_up_staged(self.staged.as_mut_slice(), world)
+    }
+
     /// The greatest number of groups in a stage.
     pub fn max_threads(&self) -> usize
         ensures { result ≡ most_groups self.now.planning.stages }
@@ -161,14 +200,53 @@ impl<V: Drop, S: System<V> + Drop> StagesBuilder<V, S> {
     /// A system that refuses ends its group; the stage's other groups run to their ends, and no later stage runs.
     ///
     /// Errors: `System`, with the first refusal in the order of the plan.
-    pub fn execute_seq<H: AllocGlobal>(
+    pub fn execute_seq<H: AllocGlobal, W: Holder<V>>(
         &mut self,
         rt: &H,
-        world: &mut World<V>,
+        world: &mut W,
     ) -> Result<(), DispatchError>
         ensures plan { self.new.planning ≡ self.old.planning }
-        ensures runs { Runs S.meets self.old world.old result self.new world.new }
+        ensures runs { Runs S.meets self.old (W.slots world.old) result self.new (W.slots world.new) }
+
+        // The same ids have values as before.
+        ensures leaves { Leaves (W.slots world.old) (W.slots world.new) }
     {
-        told(run_stages(rt, world, self.staged.as_mut_slice(), self.planner.stages()))
+        told(self.run(rt, world))
+    }
+
+    /// Runs the systems on the caller's thread, and tells the first that refuses.
+    pub(crate) fn run<H: AllocGlobal, W: Holder<V>>(
+        &mut self,
+        rt: &H,
+        world: &mut W,
+    ) -> Result<(), Refusal>
+        ensures plan { self.new.planning ≡ self.old.planning }
+        ensures runs { StagesRun S.meets self.old.planning.stages (record { systems = self.old.systems; held = W.slots world.old }) (refusal_of result)
+            (record { systems = self.new.systems; held = W.slots world.new }) }
+        ensures leaves { Leaves (W.slots world.old) (W.slots world.new) }
+    {
+        run_stages(rt, world, self.staged.as_mut_slice(), self.planner.stages())
+    }
+
+    /// Lets the systems go in the order in which they were added, each also where an earlier one refused.
+    ///
+    /// Errors: `System`, with the first refusal.
+    pub fn dispose(self, world: &mut World<V>) -> Result<(), DispatchError>
+        ensures { DisposesAll S.disposes self.systems result world.old world.new }
+    {
+        told(self.let_go(world))
+    }
+
+    /// Lets the systems go, and tells the first that refuses.
+    pub(crate) fn let_go(self, world: &mut World<V>) -> Result<(), Refusal>
+        ensures { DisposesEach S.disposes 0 self.systems (refusal_of result) world.old world.new }
+    {
+        let StagesBuilder {
+            alloc: _,
+            planner,
+            staged,
+        } = self;
+        drop(planner);
+        dispose_staged(staged, world)
     }
 }

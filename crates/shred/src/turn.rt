@@ -9,7 +9,7 @@ ghost use Rattle.shred.specs.Runs.{Step};
 use crate::moves::move_values;
 use crate::view::run_in_view;
 use crate::{Stop, System};
-use shred_world::{ResourceId, World};
+use shred_world::{Holder, ResourceId, World};
 use std::mem;
 
 /// A system, and an empty slot for each value that it writes.
@@ -20,15 +20,15 @@ pub(crate) struct Staged<V, S> {
 }
 
 /// Runs a system over what it declares of a world; what it wrote comes back into the world.
-pub(crate) fn run_system<V: Drop, S: System<V>, H: AllocGlobal>(
+pub(crate) fn run_system<V: Drop, S: System<V>, H: AllocGlobal, W: Holder<V>>(
     rt: &H,
-    world: &mut World<V>,
+    world: &mut W,
     staged: &mut Staged<V, S>,
     reads: &[ResourceId],
     writes: &[ResourceId],
 ) -> Result<(), Stop>
     requires seat { IsSeat writes.now staged.old.seat }
-    ensures step { Step S.meets reads.now writes.now staged.old.system world.old (error_of result) staged.new.system world.new }
+    ensures step { Step S.meets reads.now writes.now staged.old.system (W.slots world.old) (error_of result) staged.new.system (W.slots world.new) }
     ensures seat { (id : Id) → map.get staged.new.seat id ≡ map.get staged.old.seat id }
 {
     move_values(world, &mut staged.seat, writes);

@@ -4,3 +4,4 @@ pub mod IdLemmas
 pub mod LeastLemmas
 pub mod MetaLemmas
 pub mod WorldLemmas
+pub mod TurnLemmas

@@ -1,8 +1,43 @@
 -- Facts on walks over kinds.
-use Rattle.std.proofs.Common.{◌≡◌, ℕ, Bool, List, sym, ap, ◌∙◌}
+use Rattle.std.proofs.Common.{◌≡◌, ℕ, ◌+◌, ◌-◌, ◌<◌, Bool, false, cond, List, [], ◌∷◌, ◌++◌, length, get_or, map, Some, None, is_some, inl, inr, refl, sym, ap, ◌∙◌, arith, length-append}
+use Rattle.std.proofs.lemmas.Bool.{cases_lt, true≢false, eq-eqb}
+use Rattle.std.proofs.lemmas.List.{get_or_append_left, get_or-append_right}
+use Rattle.std.proofs.lemmas.List.Folds.{list_any_at}
+use Rattle.std.specs.Borrow.{Bor}
+use Rattle.std.specs.Option.{option_map_or}
+use Rattle.shred_world.specs.ResourceIds.{id_of}
+use Rattle.shred_world.specs.Worlds.{Slots, value_at, held_kinds, AreDistinct, values_of_kinds}
 use Rattle.std.specs.Prelude.{◌==◌}
 use Rattle.std.specs.List.{list_any}
 
 -- whether a kind is registered, by another name of the kind
 pub listed_by : (kinds : List ℕ) {k kind : ℕ} {b : Bool} → k ≡ kind → list_any (λ x. x == k) kinds ≡ b → list_any (λ x. x == kind) kinds ≡ b
 listed_by kinds e h = ap (λ n. list_any (λ x. x == n) kinds) (sym e) ∙ h
+
+-- a kind that isn't listed stands behind the others, and none stands twice
+pub distinct-push : (kinds : List ℕ) (kind : ℕ) → AreDistinct kinds → list_any (λ k. k == kind) kinds ≡ false → AreDistinct (kinds ++ kind ∷ [])
+distinct-push kinds kind distinct fresh i j before within same =
+    let long : length (kinds ++ kind ∷ []) ≡ length kinds + 1 = length-append kinds (kind ∷ []) in
+    let low : i < length kinds = omega arith in
+    let here : get_or (kinds ++ kind ∷ []) i 0 ≡ get_or kinds i 0 = get_or_append_left kinds (kind ∷ []) 0 i low in
+    elim (cases_lt j (length kinds)) [
+      | inl inside ↦ distinct i j before inside (sym here ∙ same ∙ get_or_append_left kinds (kind ∷ []) 0 j inside)
+      | inr last ↦
+          let at : j ≡ length kinds = omega arith in
+          let there : get_or (kinds ++ kind ∷ []) j 0 ≡ kind = ap (λ n. get_or (kinds ++ kind ∷ []) n 0) at ∙ get_or-append_right kinds (kind ∷ []) (length kinds) (length kinds) 0 refl (omega arith) ∙ ap (λ n. get_or (kind ∷ []) n 0) (let e : length kinds - length kinds ≡ 0 = omega arith in e) in
+          true≢false (sym (list_any_at (λ k. k == kind) kinds i 0 low (eq-eqb _ _ (sym here ∙ same ∙ there))) ∙ fresh)
+    ]
+
+-- the values of the kinds that are held, each found under its kind
+pub values-are-held : {V : Type 0} (w : Slots V) (kinds : List ℕ) → map (λ v. Some v) (values_of_kinds w kinds) ≡ map (λ kind. value_at w (id_of kind 0)) (held_kinds w kinds)
+values-are-held w [] = refl
+values-are-held {V} w (kind ∷ kinds) =
+    let rest = values-are-held w kinds in
+    elim (value_at w (id_of kind 0)) as (λ o. value_at w (id_of kind 0) ≡ o → map (λ v. Some v) (option_map_or (λ v. v ∷ values_of_kinds w kinds) o (values_of_kinds w kinds)) ≡ map (λ k. value_at w (id_of k 0)) (cond (is_some o) (kind ∷ held_kinds w kinds) (held_kinds w kinds))) [
+      | None ↦ λ is. rest
+      | Some v ↦ λ is. (λ j. sym is j ∷ rest j)
+    ] refl
+
+pub map-some : {V : Type 0} (refs : List (Bor V)) → map (λ v. Some v.now) refs ≡ map (λ v. Some v) (map (λ v. v.now) refs)
+map-some [] = refl
+map-some (v ∷ refs) = ap (λ rest. Some v.now ∷ rest) (map-some refs)

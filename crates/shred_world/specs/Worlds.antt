@@ -1,5 +1,5 @@
 -- A world: a finite map from resource ids to slots. A slot holds a value, or its value is out and comes back.
-use Rattle.std.specs.Prelude.{◌≡◌, ◌==◌, ◌≤◌, ◌<◌, ℕ, Option, None, List, [], ◌∷◌, ◌++◌, IsSome, is_some, if◌then◌else◌}
+use Rattle.std.specs.Prelude.{◌≡◌, ◌≢◌, ◌==◌, ◌≤◌, ◌<◌, ℕ, Bool, ◌&&◌, Some, filter, length, slice_index, Option, None, List, [], ◌∷◌, ◌++◌, IsSome, is_some, if◌then◌else◌}
 use Rattle.std.specs.Option.{option_flatten, option_and_then, option_map_or, MatchOption}
 use Rattle.std.specs.List.{list_any}
 use Rattle.std.specs.FinMap as map
@@ -31,6 +31,14 @@ abbrev pub values_of_kinds : {V : Type 0} → Slots V → List ℕ → List V
 values_of_kinds w [] = []
 values_of_kinds w (kind ∷ kinds) = option_map_or (λ v. v ∷ values_of_kinds w kinds) (value_at w (id_of kind 0)) (values_of_kinds w kinds)
 
+-- those of the kinds whose value the world holds under the dynamic number 0, in order
+abbrev pub held_kinds : {V : Type 0} → Slots V → List ℕ → List ℕ
+held_kinds w kinds = filter (λ kind. is_some (value_at w (id_of kind 0))) kinds
+
+-- no kind stands twice
+abbrev pub AreDistinct : List ℕ → Type 0
+AreDistinct kinds = (i j : ℕ) → i < j → j < length kinds → slice_index kinds i ≢ slice_index kinds j
+
 -- the kinds from the first one on whose value the world holds under the dynamic number 0
 abbrev pub from_first_held : {V : Type 0} → Slots V → List ℕ → List ℕ
 from_first_held w [] = []
@@ -43,3 +51,13 @@ with_kind kinds kind = if list_any (λ k. k == kind) kinds then kinds else kinds
 -- a value at the id, where there is one, is of the resource's kind
 abbrev pub HasKind : {V R : Type 0} → (V → Option R) → Slots V → ResourceId → Type 0
 HasKind part w id = is_some (value_at w id) ≡ is_some (resource_at part w id)
+
+-- for each of these kinds in turn, the value that the world holds under the dynamic number 0 is changed
+abbrev pub ChangesInTurn : {V : Type 0} → (V → V → Type 0) → Slots V → List ℕ → Slots V → Type 0
+ChangesInTurn change w [] w' = w' ≡ w
+ChangesInTurn change w (kind ∷ kinds) w' =
+    MatchOption (value_at w (id_of kind 0)) (ChangesInTurn change w kinds w') (λ was. (now : _) × change was now × ChangesInTurn change (map.insert w (id_of kind 0) (Some now)) kinds w')
+
+-- the ids of these kinds under the dynamic number 0
+abbrev pub is_of_kinds : List ℕ → ResourceId → Bool
+is_of_kinds kinds id = (id.dynamic == 0) && list_any (λ kind. id.kind == kind) kinds

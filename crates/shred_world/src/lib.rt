@@ -7,6 +7,7 @@ mod dynamic;
 mod entry;
 mod holder;
 mod intersection;
+pub mod laws;
 mod meta;
 mod resource;
 mod resource_id;

@@ -5,7 +5,7 @@ ghost use Rattle.std.specs.List.{list_any};
 ghost use Rattle.std.specs.Borrow.{sem};
 ghost use Rattle.shred_world.specs.Lending.{LendsValue};
 ghost use Rattle.std.specs.Iterator.{YieldsFirstRef, item_count};
-ghost use Rattle.shred_world.specs.Worlds.{values_of_kinds, with_kind, value_at, from_first_held};
+ghost use Rattle.shred_world.specs.Worlds.{values_of_kinds, with_kind, value_at, from_first_held, AreDistinct};
 ghost use Rattle.shred_world.specs.ResourceIds.{id_of};
 
 use crate::{Resource, ResourceId, World};
@@ -24,6 +24,10 @@ impl Model for MetaTable {
     ghost Value = { List ℕ };
 
     ghost view = { λ table. table.kinds.items };
+
+    ghost use Rattle.shred_world.specs.Worlds.{AreDistinct};
+
+    ghost invariant = { λ table. AreDistinct table.kinds.items };
 }
 
 impl MetaTable {
@@ -92,6 +96,7 @@ impl MetaTable {
     pub fn iter_mut(&self) -> MetaIterMut<'_>
         ensures kinds { result.kinds.now ≡ self.now }
         ensures start { result.current ≡ None }
+        ensures once { AreDistinct self.now }
     {
         MetaIterMut {
             kinds: self.kinds.as_slice(),
@@ -103,6 +108,7 @@ impl MetaTable {
     pub fn iter<'w, V>(&'w self, world: &'w World<V>) -> MetaIter<'w, V>
         ensures world { result.world.now ≡ world.now }
         ensures kinds { result.kinds.now ≡ self.now }
+        ensures once { AreDistinct self.now }
     {
         MetaIter {
             world,

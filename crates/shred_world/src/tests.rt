@@ -3,11 +3,14 @@ ghost use Rattle.std.specs.Prelude.{◌≡◌, Option, Some, None, refl};
 ghost use Rattle.std.proofs.Common.{rules};
 ghost use Rattle.shred_world.specs.declared.tests.Value.TheVariants.{HealthValue, SpeedValue, ScoreValue, Idle};
 
+use crate::laws::{a_table_walks_each_kind_once, a_walk_for_writing_leaves_what_was_written};
 use crate::{
-    DefaultProvider, DynamicSystemData, ExecError, Holder, MetaTable, Missing, PanicHandler, Read,
-    ReadExpect, Resource, ResourceId, SetupHandler, SystemData, World, Write, WriteAccessor,
-    WriteExpect, check_intersection,
+    Accessor, DefaultProvider, DynamicSystemData, ExecError, Holder, MetaIterMut, MetaTable,
+    Missing, PanicHandler, Read, ReadAccessor, ReadExpect, Resource, ResourceId, SetupHandler,
+    SystemData, World, Write, WriteAccessor, WriteExpect, check_intersection,
 };
+use std::alloc::{AllocError, Global};
+use std::marker::PhantomData;
 use std::test::Fail;
 
 /// Points of health.
@@ -360,6 +363,191 @@ fn a_closure_is_handed_a_bundle(rt: HostRuntime) -> Result<(), Fail> {
     assert!(rt; world.insert(Health(7)).is_ok());
     assert_eq!(rt; tire(&mut world), Ok(6));
     assert_eq!(rt; world.try_fetch::<Health>().copied(), Some(Health(6)));
+    Ok(())
+}
+
+/// The number of each kind that a bundle reads, and of each that it writes, as two decimal numbers.
+fn kinds_of<D: SystemData<Value>>(alloc: Global) -> Result<(u64, u64), AllocError> {
+    Ok((digits_of(&D::reads(alloc)?), digits_of(&D::writes(alloc)?)))
+}
+
+/// The kinds of the ids, as the digits of a number.
+fn digits_of(ids: &Vec<ResourceId>) -> u64 {
+    let mut digits = 0u64;
+    for id in ids {
+        digits = digits.wrapping_mul(10).wrapping_add(id.kind as u64);
+    }
+    digits
+}
+
+type Three = (Write<Health>, ReadExpect<Speed>, WriteExpect<Score>);
+
+type Four = (Read<Health>, (), Write<Score>, Read<Speed>);
+
+type Five = (Read<Health>, Read<Speed>, Read<Score>, PhantomData<u8>, ());
+
+type Six = ((), (), Write<Health>, Write<Speed>, (), Write<Score>);
+
+type Seven = (
+    Read<Score>,
+    (),
+    (),
+    Write<Health>,
+    (),
+    (),
+    Option<Write<Speed>>,
+);
+
+type Eight = (
+    Option<Read<Health>>,
+    Read<Health>,
+    (),
+    Write<Score>,
+    PhantomData<u8>,
+    Read<Speed>,
+    Option<Write<Score>>,
+    (Read<Speed>, Read<Health>),
+);
+
+#[test]
+fn bundles_tell_their_ids_in_order(rt: HostRuntime) -> Result<(), Fail> {
+    let mut world = World::empty(rt.alloc());
+    assert!(rt; world.insert(Health(7)).is_ok());
+    assert!(rt; world.insert(Speed(3)).is_ok());
+    assert!(rt; world.insert(Score(1)).is_ok());
+    assert_eq!(rt; kinds_of::<()>(rt.alloc())?, (0, 0));
+    assert_eq!(rt;
+        kinds_of::<(Read<Score>, Write<Health>)>(rt.alloc())?,
+        (3, 1)
+    );
+    assert_eq!(rt; kinds_of::<Three>(rt.alloc())?, (2, 13));
+    assert_eq!(rt; kinds_of::<Four>(rt.alloc())?, (12, 3));
+    assert_eq!(rt; kinds_of::<Five>(rt.alloc())?, (123, 0));
+    assert_eq!(rt; kinds_of::<Six>(rt.alloc())?, (0, 123));
+    assert_eq!(rt; kinds_of::<Seven>(rt.alloc())?, (3, 12));
+    assert_eq!(rt; kinds_of::<Eight>(rt.alloc())?, (11221, 33));
+    assert_eq!(rt; missing_of::<Three>(&mut world), None);
+    assert_eq!(rt; missing_of::<Four>(&mut world), None);
+    assert_eq!(rt; missing_of::<Five>(&mut world), None);
+    assert_eq!(rt; missing_of::<Six>(&mut world), None);
+    assert_eq!(rt; missing_of::<Seven>(&mut world), None);
+    assert_eq!(rt; world.remove::<Score>(), Some(Score(1)));
+    let id = ResourceId::from_type_id(3);
+    assert_eq!(rt; missing_of::<Four>(&mut world), Some(Missing { id }));
+    assert_eq!(rt; missing_of::<Six>(&mut world), Some(Missing { id }));
+    assert_eq!(rt; world.try_fetch::<Speed>().copied(), Some(Speed(3)));
+    let id = ResourceId::from_type_id(9);
+    assert_eq!(rt; digits_of(&().reads(rt.alloc())?), 0);
+    assert_eq!(rt; digits_of(&PhantomData::<u8>.writes(rt.alloc())?), 0);
+    assert_eq!(rt; digits_of(&ReadAccessor { id }.reads(rt.alloc())?), 9);
+    assert_eq!(rt; digits_of(&ReadAccessor { id }.writes(rt.alloc())?), 0);
+    assert_eq!(rt; digits_of(&WriteAccessor { id }.reads(rt.alloc())?), 0);
+    assert_eq!(rt; digits_of(&WriteAccessor { id }.writes(rt.alloc())?), 9);
+    Ok(())
+}
+
+#[test]
+fn a_slot_stays_while_its_value_is_out(rt: HostRuntime) -> Result<(), Fail> {
+    let mut world = World::empty(rt.alloc());
+    let id = ResourceId::from_type_id_and_dynamic_id(1, 4);
+    world.make_slot(id)?;
+    world.make_slot(id)?;
+    assert!(rt; world.take_raw(id).is_none());
+    assert!(rt; world.insert_by_id(id, Health(7)).is_ok());
+    if let Some(value) = world.take_raw(id) {
+        assert!(rt; !world.has_value_raw(id));
+        world.put_back(id, value);
+    }
+    assert_eq!(rt;
+        health_under(&mut world, ReadAccessor { id }),
+        Ok(Health(7))
+    );
+    if let Some(health) = world.try_fetch_mut_by_id::<Health>(id) {
+        health.0 = 9;
+    }
+    assert_eq!(rt;
+        health_under(&mut world, ReadAccessor { id }),
+        Ok(Health(9))
+    );
+    assert!(rt; world.insert(Speed(3)).is_ok());
+    if world.try_fetch::<Speed>().is_some() {
+        world.fetch_mut::<Speed>().0 = 4;
+    }
+    if world.try_fetch::<Speed>().is_some() {
+        assert_eq!(rt; *world.fetch::<Speed>(), Speed(4));
+    }
+    assert_eq!(rt; quicken(&mut world), Ok(()));
+    assert_eq!(rt; world.try_fetch::<Speed>().copied(), Some(Speed(5)));
+    Ok(())
+}
+
+/// The health under the id of an accessor.
+fn health_under(world: &mut World<Value>, access: ReadAccessor) -> Result<Health, Missing> {
+    let read = <Read<Health> as DynamicSystemData<Value>>::fetch(&access, world)?;
+    let health = *read.get_under(world, &access);
+    <Read<Health> as DynamicSystemData<Value>>::give_back(read, &access, world);
+    Ok(health)
+}
+
+/// Adds one to the speed, through the bundle as if it were the speed.
+fn quicken(world: &mut World<Value>) -> Result<(), Missing> {
+    let mut speed = <Write<Speed> as SystemData<Value>>::fetch(world)?;
+    let steps = (*speed).0;
+    *speed = Speed(steps.saturating_add(1));
+    <Write<Speed> as SystemData<Value>>::give_back(speed, world);
+    Ok(())
+}
+
+/// The value with one more.
+fn one_more(value: &Value) -> Value {
+    match value {
+        Value::HealthValue(health) => Value::HealthValue(Health(health.0.saturating_add(1))),
+        Value::SpeedValue(speed) => Value::SpeedValue(Speed(speed.0.saturating_add(1))),
+        Value::ScoreValue(score) => Value::ScoreValue(Score(score.0.saturating_add(1))),
+        Value::Idle => Value::Idle,
+    }
+}
+
+#[test]
+fn a_written_walk_changes_each_value_once(rt: HostRuntime) -> Result<(), Fail> {
+    let mut world = World::empty(rt.alloc());
+    let mut table = MetaTable::new(rt.alloc());
+    table.register::<Value, Speed>()?;
+    table.register::<Value, Health>()?;
+    assert!(rt; table.is_registered::<Value, Speed>());
+    assert!(rt; !table.is_registered::<Value, Score>());
+    assert!(rt; world.insert(Health(7)).is_ok());
+    assert!(rt; world.insert(Speed(3)).is_ok());
+    assert!(rt; world.insert(Score(1)).is_ok());
+    a_walk_for_writing_leaves_what_was_written(&mut world, &table, one_more);
+    let mut walked = Vec::new(rt.alloc());
+    for value in a_table_walks_each_kind_once(rt.alloc(), &table, &world)? {
+        walked.push(*value)?;
+    }
+    assert_eq!(rt;
+        walked.as_slice(),
+        [Value::SpeedValue(Speed(4)), Value::HealthValue(Health(8))].as_slice()
+    );
+    assert_eq!(rt; world.try_fetch::<Score>().copied(), Some(Score(1)));
+    if table.is_registered::<Value, Speed>() {
+        if let Some(value) = MetaTable::get_mut::<Value, Speed>(&mut world, &table) {
+            *value = Value::SpeedValue(Speed(9));
+        }
+    }
+    assert_eq!(rt;
+        table.get::<Value, Speed>(&world).copied(),
+        Some(Value::SpeedValue(Speed(9)))
+    );
+    let mut walk = table.iter_mut();
+    if walk.advance(&world) {
+        if let Some(value) = MetaIterMut::value(&mut world, &walk) {
+            *value = Value::Idle;
+        }
+    }
+    assert_eq!(rt;
+        table.get::<Value, Speed>(&world).copied(),
+        Some(Value::Idle)
+    );
     Ok(())
 }
 

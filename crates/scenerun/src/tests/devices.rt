@@ -6,11 +6,11 @@ use std::io::{Error, ErrorKind, Read, Result, Write};
 #[derive(Drop)]
 pub struct Slow<'a> {
     pub bytes: &'a [u8],
-    pub calls: u32,
+    pub calls: usize,
 }
 
 impl<'a> Slow<'a> {
-    pub fn new(text: &'a str, calls: u32) -> Slow<'a> {
+    pub fn new(text: &'a str, calls: usize) -> Slow<'a> {
         Slow {
             bytes: text.as_bytes(),
             calls,

@@ -13,11 +13,11 @@ returns-clause-same g c =
     let indices = c.args.limits.indices in
     let scene = loaded_scene g.R.Rules.part_of g.R.Rules.global_of book loaded in
     if_opened c.open.result _ _ _ (λ again opened.
-      let text : json_of c.in-Ok.text.items ≡ Some opened.0 = ap json_of (sym c.as_slice.ensures.value) ∙ opened.1 in
-      let json : opened.0 ≡ scene_json book scene = c.in-Ok.ensures.reads.only opened.0 text in
-      let document = opened.2.document in
-      let made : document_from book indices (scene_json book scene) ≡ Ok document.0 =
-        subst (λ one. document_from (g.R.Rules.book one) indices (scene_json book scene) ≡ Ok document.0) c.requires.rules (ap (document_from (g.R.Rules.book c.args.rules) indices) (sym json) ∙ document.1) in
-      ap (λ shown. shown.scene) document.2
-      ∙ read-again g.R.Rules.part_of g.R.Rules.global_of book loaded.next loaded.ids.items loaded.columns c.requires.ready.sound (g.met.R.Rules.reads_back rules) (g.met.R.Rules.global_reads_back rules) (g.met.R.Rules.kinds_ascend rules) (g.met.R.Rules.globals_ascend rules) indices document.0 made)
+    let text : json_of c.in-Ok.text.items ≡ Some opened.0 = ap json_of (sym c.as_slice.ensures.value) ∙ opened.1 in
+    let json : opened.0 ≡ scene_json book scene = c.in-Ok.ensures.reads.only opened.0 text in
+    let document = opened.2.document in
+    let made : document_from book indices (scene_json book scene) ≡ Ok document.0 =
+    subst (λ one. document_from (g.R.Rules.book one) indices (scene_json book scene) ≡ Ok document.0) c.requires.rules (ap (document_from (g.R.Rules.book c.args.rules) indices) (sym json) ∙ document.1) in
+    ap (λ shown. shown.scene) document.2
+    ∙ read-again g.R.Rules.part_of g.R.Rules.global_of book loaded.next loaded.ids.items loaded.columns c.requires.ready.sound (g.met.R.Rules.reads_back rules) (g.met.R.Rules.global_reads_back rules) (g.met.R.Rules.kinds_ascend rules) (g.met.R.Rules.globals_ascend rules) indices document.0 made)
     c.open.ensures

@@ -1,11 +1,10 @@
 use Rattle.std.proofs.Common.{◌≡◌, take}
-use Rattle.std.specs.FinMap as map
 use Rattle.shred_world.specs.declared.resource_id.ResourceId.{ResourceId}
 use Rattle.shred.specs.Moves.{left_of, moved_to}
 use Rattle.shred.proofs.moves.move_values.Given as goal
 
 abbrev pub invariant-loop-id : goal.invariant-loop-id
 invariant-loop-id g l = record {
-  from : (q : ResourceId) → map.get l.from q ≡ left_of (take l.id-index l.ids) l.initial.from q;
-  to : (q : ResourceId) → map.get l.to q ≡ moved_to (take l.id-index l.ids) l.initial.from l.initial.to q;
+  from : (q : ResourceId) → g.A.Holder.slots l.from q ≡ left_of (take l.id-index l.ids) (g.A.Holder.slots l.initial.from) q;
+  to : (q : ResourceId) → g.B.Holder.slots l.to q ≡ moved_to (take l.id-index l.ids) (g.A.Holder.slots l.initial.from) (g.B.Holder.slots l.initial.to) q;
 }

@@ -1,4 +1,4 @@
-use Rattle.std.proofs.Common.{◌≡◌, ◌∷◌, ap, sym, ◌∙◌, rules, not, eqb, ◌&&◌}
+use Rattle.std.proofs.Common.{◌≡◌, ◌∷◌, false, ap, sym, refl, ◌∙◌, rules}
 use Rattle.hibitset_sets.specs.Walk.{walk, is_pending}
 use Rattle.hibitset_sets.proofs.TakeLemmas.{walk-without}
 use Rattle.hibitset_sets.proofs.drain.DrainBitIterIterator.next.Goals as goal
@@ -6,19 +6,20 @@ use Rattle.hibitset_sets.proofs.drain.DrainBitIterIterator.next.Goals as goal
 pub returns-in-Some-clause-steps : goal.returns-in-Some-clause-steps
 returns-in-Some-clause-steps g c =
     let M = g.T.BitSetLike.members in
-    let before = c.args.self.now.iter in
+    let old = c.args.self.now.set.now in
     let between = c.next_counted-next.new.self in
-    let after = c.take_from_set.new.self in
-    let same = c.in-Some.ensures.set in
-    let out = c.take_from_set.ensures.members in
-    let old : between.set.now ≡ before.set.now = ap (λ s. s.now) same in
-    let rest = walk-without (M between.set.now) (M after.set.now) between.masks between.prefix c.in-Some.i (ap (λ m. is_pending (M m) between.masks between.prefix c.in-Some.i) old ∙ c.in-Some.ensures.gone) out in
-    let placed : walk (is_pending (M after.set.now) after.masks after.prefix) ≡ walk (is_pending (M after.set.now) between.masks between.prefix) =
-    (λ j. walk (is_pending (M after.set.now) (c.take_from_set.ensures.masks j) (c.take_from_set.ensures.prefix j))) in (
-      c.take_from_set.ensures.same_reference ∙ ap (λ s. s.ghost_name) same,
+    let i = c.in-Some.i in
+    let made : c.new-iter.result.set.now ≡ old = ap (λ s. s.now) c.new-iter.ensures.set in
+    let kept : between.set.now ≡ old = ap (λ s. s.now) c.in-Some.ensures.set ∙ made in
+    let masks = c.into_parts.ensures.masks in
+    let prefix = c.into_parts.ensures.prefix in
+    let gone : is_pending (M old) c.into_parts.result.1 c.into_parts.result.2 i ≡ false =
+    (λ j. is_pending (M (sym made j)) (masks j) (prefix j) i) ∙ c.in-Some.ensures.gone in
+    let rest = walk-without (M old) (M c.remove.new.self) c.into_parts.result.1 c.into_parts.result.2 i gone c.remove.ensures.members in (
+      refl,
       (
-        c.in-Some.ensures.item ∙ ap (λ xs. c.in-Some.i ∷ xs) (sym rest ∙ sym placed),
-        λ j. out j ∙ ap (λ m. not (eqb j c.in-Some.i) && M m j) old,
+        sym c.new-iter.ensures.items ∙ c.in-Some.ensures.item ∙ ap (λ xs. i ∷ xs) ((λ j. walk (is_pending (M (kept j)) (sym masks j) (sym prefix j))) ∙ sym rest),
+        c.remove.ensures.members,
       ),
     )
 

@@ -1,0 +1,144 @@
+//! Dispatches and plans, with their checksums and times.
+ghost use Rattle.std.specs.Prelude.{◌≡◌};
+
+use crate::load::{Mixer, Number, Value, mixed};
+use shred::{ResourceId, RunningTime, StagesBuilder, World};
+use std::alloc::{AllocError, Global};
+use std::io;
+use std::time::{Clock, Instant};
+
+/// How many systems are planned.
+const PLANNED: u32 = 4096;
+
+/// The time that is said of a system.
+fn time_of(number: u32) -> RunningTime {
+    match number % 5 {
+        0 => RunningTime::VeryShort,
+        1 => RunningTime::Short,
+        2 => RunningTime::Average,
+        3 => RunningTime::Long,
+        _ => RunningTime::VeryLong,
+    }
+}
+
+/// The id that a system writes, one of so many.
+fn id_of(number: u32, ids: u32) -> ResourceId
+    ensures { result.kind ≡ 1 }
+{
+    ResourceId::new_with_dynamic_id::<Value, Number>(u64::from(number % ids.max(1)))
+}
+
+/// So many systems, each of which writes one of so many ids.
+fn stages_of(
+    alloc: Global,
+    systems: u32,
+    ids: u32,
+) -> Result<StagesBuilder<Value, Mixer>, AllocError> {
+    let mut stages = StagesBuilder::new(alloc);
+    for number in 0..systems {
+        if stages.len() < 65_536 {
+            let mixer = Mixer {
+                id: id_of(number, ids),
+                amount: u64::from(number) + 1,
+                time: time_of(number),
+            };
+            let _ = stages.insert(mixer, Vec::new(alloc))?;
+        }
+    }
+    Ok(stages)
+}
+
+/// A world with a 0 under each of so many ids.
+fn world_of(alloc: Global, ids: u32) -> Result<World<Value>, AllocError> {
+    let mut world = World::empty(alloc);
+    for number in 0..ids {
+        world.insert_by_id(id_of(number, ids), Number(0))?;
+    }
+    Ok(world)
+}
+
+/// The checksum of the numbers under so many ids.
+fn checksum_of(world: &World<Value>, ids: u32) -> u64 {
+    let mut checksum = 0;
+    for number in 0..ids {
+        if let Some(Number(value)) = world.try_fetch_by_id::<Number>(id_of(number, ids)) {
+            checksum = mixed(checksum, *value);
+        }
+    }
+    checksum
+}
+
+/// The checksum of a text.
+fn checksum_of_text(text: &str) -> u64 {
+    let mut checksum = 0;
+    for byte in text.as_bytes() {
+        checksum = mixed(checksum, u64::from(*byte));
+    }
+    checksum
+}
+
+/// Prints what dispatches of so many systems leave, each of which writes one of so many ids.
+fn print_dispatch<R: Print + AllocGlobal>(rt: &R, systems: u32, ids: u32) -> io::Result<()> {
+    let mut stages = stages_of(rt.alloc(), systems, ids)?;
+    let mut world = world_of(rt.alloc(), ids)?;
+    let mut accepted = 0u32;
+    for _ in 0..3 {
+        if stages.execute_seq(rt, &mut world).is_ok() {
+            accepted = accepted.saturating_add(1);
+        }
+    }
+    let groups = stages.max_threads();
+    let checksum = checksum_of(&world, ids);
+    println!(rt;
+        "dispatch of {systems} systems over {ids} ids: {accepted} of 3, {groups} groups at most, sum {checksum}"
+    )?;
+    Ok(())
+}
+
+/// The checksums.
+pub(crate) fn checksums<R: Print + AllocGlobal>(rt: &R) -> io::Result<()> {
+    for systems in [1, 10, 100, 1000] {
+        print_dispatch(rt, systems, 1)?;
+        print_dispatch(rt, systems, systems)?;
+    }
+    let stages = stages_of(rt.alloc(), PLANNED, 64)?;
+    let text = stages.write_par_seq(rt.alloc())?;
+    let groups = stages.max_threads();
+    let checksum = checksum_of_text(text.as_str());
+    println!(rt;
+        "plan of {PLANNED} systems over 64 ids: {groups} groups at most, text {checksum}"
+    )?;
+    Ok(())
+}
+
+/// Prints the time of a dispatch of so many systems, each of which writes one of so many ids.
+fn print_time<R: Print + AllocGlobal + Clock>(rt: &R, systems: u32, ids: u32) -> io::Result<()> {
+    let mut stages = stages_of(rt.alloc(), systems, ids)?;
+    let mut world = world_of(rt.alloc(), ids)?;
+    let rounds = 100_000 / systems.max(1);
+    let start = Instant::now(rt)?;
+    for _ in 0..rounds {
+        let _ = stages.execute_seq(rt, &mut world);
+    }
+    let taken = start.elapsed(rt)?.as_nanos() / u128::from(rounds.max(1));
+    println!(rt; "dispatch of {systems} systems over {ids} ids: {taken} ns")?;
+    Ok(())
+}
+
+/// The times.
+pub(crate) fn times<R: Print + AllocGlobal + Clock>(rt: &R) -> io::Result<()> {
+    for systems in [1, 10, 100, 1000] {
+        print_time(rt, systems, 1)?;
+        print_time(rt, systems, systems)?;
+    }
+    for ids in [1, 64, 4096] {
+        let start = Instant::now(rt)?;
+        let stages = stages_of(rt.alloc(), PLANNED, ids)?;
+        let taken = start.elapsed(rt)?.as_micros();
+        let groups = stages.max_threads();
+        println!(rt;
+            "plan of {PLANNED} systems over {ids} ids: {taken} us, {groups} groups at most"
+        )?;
+    }
+    Ok(())
+}
