@@ -1,5 +1,5 @@
 -- Lemmas on what becomes of a system's turn: one outcome, and references that live.
-use Rattle.std.proofs.Common.{◌≡◌, ℕ, ℤ, negsuc, List, Option, Some, None, refl, sym, ◌∙◌, ap, subst, All}
+use Rattle.std.proofs.Common.{◌≡◌, ℕ, ℤ, negsuc, List, Option, Some, None, sym, ◌∙◌, subst, All}
 use Rattle.std.proofs.lemmas.Option.{same_Some}
 use Rattle.std.proofs.lemmas.List.Elements.{All-nil}
 use Rattle.scene_rules.specs.Parts.{Name, Part}

@@ -8,3 +8,5 @@ pub mod Systems
 pub mod RuleLaws
 pub mod Lines
 pub mod Program
+pub mod Founders
+pub mod FounderLaws

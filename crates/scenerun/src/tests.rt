@@ -1,5 +1,6 @@
 //! Rows of the scene document: documents with the status, the text and the line that they give.
 mod devices;
+mod founders;
 mod frames;
 mod laws;
 mod orders;

@@ -3,8 +3,8 @@ use Rattle.std.proofs.Common.{◌≡◌, ℕ, ◌<◌, ◌+◌, ◌-◌, suc, Li
 use Rattle.shred_world.specs.declared.resource_id.ResourceId.{ResourceId}
 use Rattle.shred_world.specs.Bundles.{Holding}
 use Rattle.shred_plan.specs.Plan.{Stage}
-use Rattle.shred.specs.declared.stop.Stop.{Stop}
-use Rattle.shred.specs.Runs.{State, StagesRun}
+use Rattle.shred_stages.specs.declared.stop.Stop.{Stop}
+use Rattle.shred_stages.specs.Runs.{State, StagesRun}
 use Rattle.shred.specs.Batches.{TimesRun}
 
 module _ {V S : Type 0} (meets : S → Holding V → Option Stop → S → Holding V → Type 0) (stages : List (Stage ResourceId)) (times i : ℕ) (below : i < times)

@@ -1,10 +1,4 @@
-pub mod MoveLemmas
-pub mod ViewLemmas
-pub mod RunLemmas
-pub mod StagingLemmas
-pub mod CallerLemmas
 pub mod NameLemmas
-pub mod LeaveLemmas
-pub mod SetupLemmas
+pub mod LocalLemmas
 pub mod BatchLemmas
-pub mod DisposeLemmas
+pub mod HistoryLemmas

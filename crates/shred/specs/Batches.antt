@@ -1,26 +1,14 @@
 -- Batches: stages of their own, run as often as a controller plans.
 use Rattle.std.specs.Prelude.{◌≡◌, ℕ, zero, suc, Bool, false, Option, None, Some, List}
 use Rattle.std.specs.Option.{MatchOption, option_map}
-use Rattle.std.specs.List.{flat_map}
 use Rattle.shred_world.specs.declared.resource_id.ResourceId.{ResourceId}
 use Rattle.shred_world.specs.Worlds.{Slots}
 use Rattle.shred_world.specs.Bundles.{Holding}
-use Rattle.shred_plan.specs.Plan.{Placing, Stage}
-use Rattle.shred.specs.declared.stop.Stop.{Stop}
-use Rattle.shred.specs.Runs.{State, StagesRun}
-use Rattle.shred.specs.Setups.{WhenAccepted, SetsUpEach, DisposesEach}
-use Rattle.shred.specs.Staging.{Staging}
-
--- the ids of each system of some stages, in the order of the plan
-abbrev pub ids_in_stages : (Placing ResourceId → List ResourceId) → List (Stage ResourceId) → List ResourceId
-ids_in_stages ids stages = flat_map (λ stage. flat_map (λ group. flat_map ids group) stage) stages
-
--- the ids that they read, and those that they write
-abbrev pub all_reads : List (Stage ResourceId) → List ResourceId
-all_reads stages = ids_in_stages (λ one. one.reads) stages
-
-abbrev pub all_writes : List (Stage ResourceId) → List ResourceId
-all_writes stages = ids_in_stages (λ one. one.writes) stages
+use Rattle.shred_plan.specs.Plan.{Stage}
+use Rattle.shred_stages.specs.declared.stop.Stop.{Stop}
+use Rattle.shred_stages.specs.Runs.{State, StagesRun}
+use Rattle.shred_stages.specs.Setups.{WhenAccepted, SetsUpEach, DisposesEach}
+use Rattle.shred_stages.specs.Staging.{Staging}
 
 -- a controller, and the stages that it has
 pub record Batched (S C : Type 0) : Type 0 where

@@ -6,7 +6,7 @@ use Rattle.shred_plan.specs.Plan.{added, fence, placing}
 use Rattle.shred.specs.declared.error.AddError.{AddError}
 use Rattle.shred.specs.declared.error.AddError.TheVariants.{NoSuchSystem, NameTaken, SystemsFull, Memory}
 use Rattle.shred.specs.Names.{Named, number_under, numbers_under, lacks_one, with_name}
-use Rattle.shred.specs.Staging.{Staging}
+use Rattle.shred_stages.specs.Staging.{Staging}
 
 -- the systems that are staged, and the numbers of those that have names
 pub record Building (S : Type 0) : Type 0 where

@@ -2,14 +2,14 @@
 use Rattle.std.specs.Prelude.{◌≡◌, ℕ, Bool, false, Option, None, Some, List, Result, Ok, Err}
 use Rattle.shred_world.specs.Worlds.{Slots}
 use Rattle.shred_world.specs.Bundles.{Holding}
-use Rattle.shred.specs.declared.stop.Stop.{Stop}
-use Rattle.shred.specs.declared.stop.Stop.TheVariants as stop
+use Rattle.shred_stages.specs.declared.stop.Stop.{Stop}
+use Rattle.shred_stages.specs.declared.stop.Stop.TheVariants as stop
 use Rattle.shred.specs.declared.locals.LocalRefusal.{LocalRefusal}
-use Rattle.shred.specs.declared.error.DispatchError.{DispatchError}
-use Rattle.shred.specs.declared.error.DispatchError.TheVariants.{System, Local, Memory, Threads}
-use Rattle.shred.specs.Staging.{Staging, Runs}
+use Rattle.shred_stages.specs.declared.error.DispatchError.{DispatchError}
+use Rattle.shred_stages.specs.declared.error.DispatchError.TheVariants.{System, Local, Memory, Threads}
+use Rattle.shred_stages.specs.Staging.{Staging, Runs}
 use Rattle.shred.specs.Locals.{LocalsRun}
-use Rattle.shred.specs.Setups.{WhenAccepted, SetsUpEach, DisposesEach}
+use Rattle.shred_stages.specs.Setups.{WhenAccepted, SetsUpEach, DisposesEach}
 
 -- the systems that are staged, the local ones, and how many workers run a stage
 pub record Dispatching (S L : Type 0) : Type 0 where

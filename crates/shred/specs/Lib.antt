@@ -1,12 +1,6 @@
-pub mod Accesses
-pub mod Views
-pub mod Moves
-pub mod Runs
-pub mod Seats
-pub mod Staging
 pub mod Names
 pub mod Building
-pub mod Setups
+pub mod Histories
 pub mod Works
 pub mod Locals
 pub mod Dispatching

@@ -2,8 +2,8 @@
 use Rattle.std.specs.Prelude.{◌≡◌, ℕ, suc, Option, None, Some, List, [], ◌∷◌}
 use Rattle.std.specs.Option.{MatchOption}
 use Rattle.shred_world.specs.Bundles.{Holding}
-use Rattle.shred.specs.declared.stop.Stop.{Stop}
-use Rattle.shred.specs.Views.{Leaves}
+use Rattle.shred_stages.specs.declared.stop.Stop.{Stop}
+use Rattle.shred_stages.specs.Views.{Leaves}
 
 -- local systems run, each counted from a place on, up to the first that refuses; no id comes or goes
 abbrev pub LocalsRun : {V L : Type 0} → (L → Holding V → Option Stop → L → Holding V → Type 0) → (place : ℕ) → List L → Holding V → Option (ℕ × Stop) → List L → Holding V → Type 0

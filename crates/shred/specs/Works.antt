@@ -2,7 +2,7 @@
 use Rattle.std.specs.Prelude.{◌≡◌, Bool, Option}
 use Rattle.shred_world.specs.Worlds.{Slots}
 use Rattle.shred_world.specs.Bundles.{Holding}
-use Rattle.shred.specs.declared.stop.Stop.{Stop}
+use Rattle.shred_stages.specs.declared.stop.Stop.{Stop}
 use Rattle.shred.specs.declared.work.Work.{Work}
 use Rattle.shred.specs.declared.work.Work.TheVariants.{System, Batch}
 

@@ -3,13 +3,14 @@ ghost use Rattle.std.specs.Prelude.{◌≡◌, ◌++◌, is_ok, IfOk, OnOk, zero
 ghost use Rattle.std.specs.Option.{option_map};
 ghost use Rattle.shred_world.specs.declared.resource_id.ResourceId.{ResourceId as Id};
 ghost use Rattle.shred_plan.specs.Plan.{units_of};
-ghost use Rattle.shred.specs.Views.{Leaves, error_of};
-ghost use Rattle.shred.specs.Runs.{State};
-ghost use Rattle.shred.specs.Seats.{refusal_of};
-ghost use Rattle.shred.specs.Batches.{TimesRun, RunsAsPlanned, BatchSetsUp, BatchDisposes, all_reads, all_writes};
+ghost use Rattle.shred_stages.specs.Views.{Leaves, error_of};
+ghost use Rattle.shred_stages.specs.Runs.{State};
+ghost use Rattle.shred_stages.specs.Seats.{refusal_of};
+ghost use Rattle.shred.specs.Batches.{TimesRun, RunsAsPlanned, BatchSetsUp, BatchDisposes};
+ghost use Rattle.shred_stages.specs.Accesses.{all_reads, all_writes};
 
-use crate::run::Refusal;
 use crate::{BatchAccessor, RunningTime, StagesBuilder, Stop, System};
+use shred_stages::Refusal;
 use shred_world::{Holder, ResourceId, World};
 use std::alloc::{AllocError, Global};
 use std::marker::Model;
@@ -19,8 +20,8 @@ pub trait BatchController<V, S>: Sized {
     ghost use Rattle.std.specs.Prelude.{ℕ, Bool, Option, List};
     ghost use Rattle.shred_world.specs.Worlds.{Slots};
     ghost use Rattle.shred_world.specs.Bundles.{Holding};
-    ghost use Rattle.shred.specs.declared.stop.Stop.{Stop as Refusal};
-    ghost use Rattle.shred.specs.Staging.{Staging};
+    ghost use Rattle.shred_stages.specs.declared.stop.Stop.{Stop as Refusal};
+    ghost use Rattle.shred_stages.specs.Staging.{Staging};
 
     /// What a run may do, where a run of the stages' systems may do what is said first: the controller and the stages before, what they see, why it refuses, both after, and what they leave.
     ghost meets: { (S → Holding V → Option Refusal → S → Holding V → Type 0) → Self → Staging S → Holding V → Option Refusal → Self → Staging S → Holding V → Type 0 };

@@ -4,7 +4,7 @@ ghost use Rattle.shred_plan.specs.PlanText.{plan_text};
 ghost use Rattle.shred.specs.declared.work.Work.TheVariants.{System as OfSystem, Batch as OfBatch};
 ghost use Rattle.shred.specs.Names.{texts};
 ghost use Rattle.shred.specs.Building.{Building, nothing_built, refusal, Refuses, built_with, fenced};
-ghost use Rattle.shred.specs.Batches.{all_reads, all_writes};
+ghost use Rattle.shred_stages.specs.Accesses.{all_reads, all_writes};
 ghost use Rattle.shred.specs.Dispatchers.{Drafting, with_building, dispatcher_of};
 
 use crate::{

@@ -3,7 +3,7 @@ ghost use Rattle.std.specs.Prelude.{◌≡◌, ◌++◌, ◌∷◌, [], OnOk, If
 ghost use Rattle.shred.specs.declared.work.Work.TheVariants.{System as OfSystem, Batch as OfBatch};
 ghost use Rattle.shred.specs.Names.{texts};
 ghost use Rattle.shred.specs.Building.{refusal, Refuses, built_with, fenced};
-ghost use Rattle.shred.specs.Batches.{all_reads, all_writes};
+ghost use Rattle.shred_stages.specs.Accesses.{all_reads, all_writes};
 ghost use Rattle.shred.specs.Dispatchers.{with_building};
 
 use crate::{AddError, BatchController, DispatcherBuilder, RunNow, StagesBuilder, System};

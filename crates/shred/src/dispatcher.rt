@@ -2,13 +2,13 @@
 ghost use Rattle.std.specs.Prelude.{◌≡◌, is_ok};
 ghost use Rattle.shred_world.specs.Bundles.{holding_of};
 ghost use Rattle.shred_plan.specs.Plan.{most_groups};
-ghost use Rattle.shred.specs.Views.{Leaves};
+ghost use Rattle.shred_stages.specs.Views.{Leaves};
 ghost use Rattle.shred.specs.Dispatching.{Dispatching, Dispatches, DispatchesStaged, DispatchesLocals, local_refusal, TellsLocal, DispatcherSetsUp, DispatcherDisposes, TellsFirst, stop_in, MeetsAsLocal, DisposesAsLocal};
-ghost use Rattle.shred.specs.Seats.{refusal_of};
+ghost use Rattle.shred_stages.specs.Seats.{refusal_of};
 
 use crate::locals::{LocalRefusal, dispose_locals, run_locals, set_up_list};
-use crate::run::Refusal;
 use crate::{DispatchError, RunNow, StagesBuilder, Stop, System};
+use shred_stages::Refusal;
 use shred_world::{Holder, World};
 use std::alloc::AllocError;
 use std::marker::Model;

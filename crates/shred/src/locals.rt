@@ -1,9 +1,9 @@
 //! Runs of local systems.
 ghost use Rattle.std.specs.Prelude.{◌≡◌, ◌+◌, ◌<◌, ℕ, Option, length, is_ok, IfOk};
 ghost use Rattle.std.specs.Option.{option_or, option_map};
-ghost use Rattle.shred.specs.Views.{Leaves};
+ghost use Rattle.shred_stages.specs.Views.{Leaves};
 ghost use Rattle.shred.specs.Locals.{LocalsRun};
-ghost use Rattle.shred.specs.Setups.{SetsUpEach, DisposesEach};
+ghost use Rattle.shred_stages.specs.Setups.{SetsUpEach, DisposesEach};
 ghost use Rattle.shred.specs.Dispatching.{local_refusal, local_stop};
 
 use crate::{RunNow, Stop};

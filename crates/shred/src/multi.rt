@@ -1,15 +1,15 @@
 //! The controller that runs the stages of a batch a planned number of times.
 ghost use Rattle.std.specs.Prelude.{◌≡◌};
 ghost use Rattle.std.specs.Option.{option_map};
-ghost use Rattle.shred.specs.Views.{Leaves};
-ghost use Rattle.shred.specs.Seats.{stop_of, refusal_of};
+ghost use Rattle.shred_stages.specs.Views.{Leaves};
+ghost use Rattle.shred_stages.specs.Seats.{stop_of, refusal_of};
 ghost use Rattle.shred.specs.Batches.{TimesRun, RunsAsPlanned};
 
-use crate::run::Refusal;
 use crate::{
     BatchAccessor, BatchController, MultiDispatchController, RunningTime, StagesBuilder, Stop,
     System,
 };
+use shred_stages::Refusal;
 use shred_world::{Holder, World};
 use std::alloc::{AllocError, Global};
 

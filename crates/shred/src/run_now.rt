@@ -1,6 +1,6 @@
 //! What runs over all values that are held, on the caller's thread.
 ghost use Rattle.std.specs.Prelude.{◌≡◌, is_ok};
-ghost use Rattle.shred.specs.Views.{Leaves, error_of};
+ghost use Rattle.shred_stages.specs.Views.{Leaves, error_of};
 
 use crate::Stop;
 use shred_world::{Holder, World};
@@ -13,7 +13,7 @@ pub trait RunNow<V>: Sized {
     ghost use Rattle.std.specs.Prelude.{Bool, Option};
     ghost use Rattle.shred_world.specs.Worlds.{Slots};
     ghost use Rattle.shred_world.specs.Bundles.{Holding};
-    ghost use Rattle.shred.specs.declared.stop.Stop.{Stop as Refusal};
+    ghost use Rattle.shred_stages.specs.declared.stop.Stop.{Stop as Refusal};
 
     /// What a run may do: the state before, what is held, why it refuses, the state after, and what is then held.
     ghost meets: { Self → Holding V → Option Refusal → Self → Holding V → Type 0 };

@@ -1,7 +1,7 @@
 //! Examples of use: values of four kinds, systems that read and write them, a batch, local systems, systems that refuse.
 ghost use Rattle.std.specs.Prelude.{◌≡◌, [], ◌∷◌, Some, None, Option, IfOk, refl};
 ghost use Rattle.std.specs.Option.{option_to_list};
-ghost use Rattle.shred.specs.Views.{Leaves};
+ghost use Rattle.shred_stages.specs.Views.{Leaves};
 ghost use Rattle.shred_plan.specs.Plan.{units_of};
 
 mod values;

@@ -2,8 +2,8 @@ use Rattle.std.proofs.Common.{◌≡◌, ◌+◌, ℕ, Option, length, map}
 use Rattle.std.specs.Option.{option_or}
 use Rattle.std.specs.Vec.Iter.{into_iter_items, into_iter_len}
 use Rattle.shred_world.specs.Worlds.{Slots}
-use Rattle.shred.specs.declared.stop.Stop.{Stop}
-use Rattle.shred.specs.Setups.{DisposesEach}
+use Rattle.shred_stages.specs.declared.stop.Stop.{Stop}
+use Rattle.shred_stages.specs.Setups.{DisposesEach}
 use Rattle.shred.specs.Dispatching.{local_refusal}
 use Rattle.shred.proofs.locals.dispose_locals.Given as goal
 

@@ -1,7 +1,7 @@
 use Rattle.std.proofs.Common.{◌≡◌, ℕ, ◌-◌, Option}
-use Rattle.shred.specs.declared.stop.Stop.{Stop}
-use Rattle.shred.specs.Views.{Leaves}
-use Rattle.shred.specs.Runs.{State}
+use Rattle.shred_stages.specs.declared.stop.Stop.{Stop}
+use Rattle.shred_stages.specs.Views.{Leaves}
+use Rattle.shred_stages.specs.Runs.{State}
 use Rattle.shred.specs.Batches.{TimesRun}
 use Rattle.shred.proofs.multi.run_times.Given as goal
 

@@ -1,5 +1,5 @@
 use Rattle.std.proofs.Common.{sym}
-use Rattle.shred.proofs.CallerLemmas.{leaves-one, leaves-same, taken-out}
+use Rattle.shred_stages.proofs.CallerLemmas.{leaves-one, leaves-same, taken-out}
 use Rattle.shred.proofs.tests.add_to.Goals as goal
 
 pub put-requires : goal.put-requires

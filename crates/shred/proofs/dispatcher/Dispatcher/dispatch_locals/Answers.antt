@@ -1,4 +1,4 @@
-use Rattle.shred.proofs.LeaveLemmas.{locals-leave}
+use Rattle.shred.proofs.LocalLemmas.{locals-leave}
 use Rattle.shred.proofs.dispatcher.Dispatcher.dispatch_locals.Goals as goal
 
 pub returns-clause-leaves : goal.returns-clause-leaves

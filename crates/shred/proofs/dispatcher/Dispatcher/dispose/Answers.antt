@@ -1,5 +1,5 @@
 use Rattle.std.proofs.Common.{subst}
-use Rattle.shred.specs.Seats.{refusal_of}
+use Rattle.shred_stages.specs.Seats.{refusal_of}
 use Rattle.shred.specs.Dispatching.{Dispatching, DispatcherDisposes, local_refusal}
 use Rattle.shred.proofs.dispatcher.Dispatcher.dispose.Goals as goal
 

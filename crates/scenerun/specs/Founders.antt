@@ -1,0 +1,33 @@
+-- What the smallest rules mean: no part, no global, and one system, which would write entities.
+use Rattle.std.specs.Prelude.{◌≡◌, codes, true, false, [], Option, Some, None, is_some, if◌then◌else◌}
+use Rattle.std.specs.Str.{bytes_eq}
+use Rattle.serde_json.specs.Data.{null}
+use Rattle.serde_json.specs.Find.{as_null}
+use Rattle.scene_rules.specs.Parts.{Json, Name, Part}
+use Rattle.scene_rules.specs.Rulebook.{Facts, Book, leaves}
+
+abbrev pub found_kind : Name
+found_kind = codes "found"
+
+-- the part that is written for a datum, of which there is none in a scene
+abbrev pub blank : Part
+blank = record { json = null; refs = [] }
+
+-- what is known of the system `found`: it reads nothing and writes entities
+abbrev pub founding : Facts
+founding = record { access = record { reads = []; writes = []; read_globals = []; written_globals = []; reserved = true }; time = 3 }
+
+-- the system `found`, whose configuration is null
+abbrev pub configured : Json → Option (Option Facts)
+configured config = if is_some (as_null config) then Some (Some founding) else None
+
+abbrev pub founders : Book
+founders = record {
+  part_names = [];
+  global_names = [];
+  read_part = λ _ _. None;
+  read_global = λ _ _. None;
+  admits = λ _ _. false;
+  system = λ kind config. if bytes_eq kind found_kind then configured config else Some None;
+  meets = λ _ _ old outcome. outcome ≡ leaves old [];
+}

@@ -1,0 +1,22 @@
+//! Systems over a world of resources: planned into stages of groups, and run by their numbers.
+#![tactic(auto)]
+
+mod access;
+mod accessor;
+mod error;
+mod moves;
+mod run;
+mod setup;
+mod stages;
+mod stop;
+mod system;
+mod turn;
+mod view;
+
+pub use accessor::BatchAccessor;
+pub use error::DispatchError;
+pub use run::Refusal;
+pub use stages::StagesBuilder;
+pub use stop::{Stop, SystemId};
+pub use system::System;
+pub use view::View;

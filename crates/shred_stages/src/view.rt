@@ -1,0 +1,81 @@
+//! What a system is lent.
+ghost use Rattle.std.specs.Prelude.{◌≡◌, IfSome, IfNone, option_copied};
+ghost use Rattle.shred_world.specs.Bundles.{Holding, is_listed};
+ghost use Rattle.shred_stages.specs.Views.{view_slots, FitsSeat, error_of};
+ghost use Rattle.shred_stages.specs.Runs.{RunsInView};
+
+use crate::{Stop, System};
+use shred_world::{Holder, ResourceId, World};
+
+/// The values that a system declares, and no others: those that it reads where they are, those that it writes out of there.
+///
+/// The world is what the system runs over: a `World`, or the view of a batch.
+pub struct View<'w, V, W> {
+    world: &'w W,
+    reads: &'w [ResourceId],
+    writes: &'w [ResourceId],
+    seat: World<V>,
+    ghost seated: { FitsSeat writes.now seat },
+}
+
+impl<V, W: Holder<V>> Holder<V> for View<'_, V, W> {
+    ghost slots = { λ view. view_slots view.reads.now view.writes.now (W.slots view.world.now) view.seat };
+
+    fn value(&self, id: ResourceId) -> Option<&V> {
+        if is_among(id, self.writes) {
+            return self.seat.get_raw(id);
+        }
+        if is_among(id, self.reads) {
+            return self.world.value(id);
+        }
+        None
+    }
+
+    fn take(&mut self, id: ResourceId) -> Option<V> {
+        self.seat.take_raw(id)
+    }
+
+    fn put(&mut self, id: ResourceId, value: V) {
+        self.seat.put_back(id, value)
+    }
+}
+
+/// Runs a system over the values that it reads in a world and those in a seat, and hands the seat back.
+pub(crate) fn run_in_view<V, S: System<V>, H: AllocGlobal, W: Holder<V>>(
+    rt: &H,
+    system: &mut S,
+    world: &W,
+    reads: &[ResourceId],
+    writes: &[ResourceId],
+    seat: World<V>,
+) -> (Result<(), Stop>, World<V>)
+    requires seated { FitsSeat writes.now seat }
+    ensures { RunsInView S.meets system.old (view_slots reads.now writes.now (W.slots world.now) seat) (error_of result.0) system.new result.1 }
+{
+    let mut view = View {
+        world,
+        reads,
+        writes,
+        seat,
+    };
+    let outcome = system.run(rt, &mut view);
+    let View {
+        world: _,
+        reads: _,
+        writes: _,
+        seat,
+    } = view;
+    (outcome, seat)
+}
+
+/// Whether the id is in the list.
+fn is_among(id: ResourceId, ids: &[ResourceId]) -> bool
+    ensures { result ≡ is_listed ids.now id }
+{
+    for other in ids {
+        if id == *other {
+            return true;
+        }
+    }
+    false
+}
