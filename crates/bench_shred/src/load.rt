@@ -2,7 +2,7 @@
 ghost use Rattle.std.specs.Prelude.{◌≡◌, [], ◌∷◌, Some, refl};
 ghost use Rattle.std.proofs.Common.{rules};
 ghost use Rattle.bench_shred.specs.declared.load.Value.TheVariants.{NumberValue};
-ghost use Rattle.shred.specs.Views.{Leaves};
+ghost use Rattle.shred_stages.specs.Views.{Leaves};
 ghost use Rattle.shred_plan.specs.Plan.{units_of};
 
 use shred::{BatchAccessor, Holder, Resource, ResourceId, RunningTime, Stop, System, World};

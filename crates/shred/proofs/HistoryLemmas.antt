@@ -74,9 +74,10 @@ module _ {S : Type 0} (same : ResourceId → ResourceId → Bool) where
   come-after : (building : Building S) (known : List ℕ) (list : List (Asked S)) → NamesKnown building.names known → ComeAfter known (told same building list)
   come-after building known [] old = tt
   come-after building known (barrier ∷ later) old = come-after (with_asked same building barrier) known later old
-  come-after building known (system one declared name after ∷ later) old =
-      (known-numbers building.names known old after,
-      come-after (with_asked same building (system one declared name after)) (length building.staging.systems ∷ known) later (known-with building.names known name (length building.staging.systems) old))
+  come-after building known (system one declared name after ∷ later) old = (
+    known-numbers building.names known old after,
+    come-after (with_asked same building (system one declared name after)) (length building.staging.systems ∷ known) later (known-with building.names known name (length building.staging.systems) old),
+  )
 
   pub named-wait : (list : List (Asked S)) → StagesWait [] (built_from same nothing_built list).staging.planning.stages
   named-wait list =

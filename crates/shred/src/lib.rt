@@ -22,6 +22,10 @@ pub use dispatcher::Dispatcher;
 pub use error::AddError;
 pub use multi::MultiDispatcher;
 pub use run_now::RunNow;
+pub use shred_cells::{
+    FetchError, InvalidBorrow, LoneMut, Ref, RefMut, SharedFetch, SharedFetchMut, SharedWorld,
+    TrustCell, cell_core,
+};
 pub use shred_plan::{Adding, Group, Planner, RunningTime, Stage, Way};
 pub use shred_stages::{BatchAccessor, DispatchError, StagesBuilder, Stop, System, SystemId, View};
 pub use shred_world::{

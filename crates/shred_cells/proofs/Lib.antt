@@ -1,0 +1,3 @@
+mod CellLemmas
+mod HeldLemmas
+mod SeatLemmas

@@ -1,0 +1,4 @@
+pub mod BirthLemmas
+pub mod ListLemmas
+pub mod CreateLemmas
+pub mod LawLemmas

@@ -1,0 +1,42 @@
+use Rattle.std.proofs.Common.{◌≡◌, ◌<◌, Some, ap, sym, ◌∙◌, subst, arith}
+use Rattle.std.proofs.Math.ListN.{length-set}
+use Rattle.specs_entity.specs.Life.{LifeAt}
+use Rattle.specs_entity.specs.Births.{Births, next_index, next_life, number_of, persistent_at, with_life}
+use Rattle.specs_entity.specs.Layout.{AreBirths, IsFree, births_of}
+use Rattle.specs_entity.proofs.BirthLemmas.{AreBirths-alive}
+use Rattle.specs_entity.proofs.entities_res.EntitiesRes.allocate.Goals as goal
+
+pub index_mut-requires : goal.index_mut-requires
+index_mut-requires c =
+    let named : c.entity.inside.id ≡ next_index c.args.self.now = ap (λ (e : LifeAt). e.id) (c.entity.view_is ∙ c.in_ok-entity.ensures.ok) in
+    let free : IsFree (births_of c.self.inside) (next_index c.args.self.now) = subst (λ (b : Births). IsFree b (next_index c.args.self.now)) (sym c.self.view_is) c.in_ok-take_next.ensures.free in
+    let used = free.used in
+    let ok = c.self.inside.generations.ok in
+    omega arith
+
+pub invariant_of-self : goal.invariant_of-self
+invariant_of-self c =
+    let before = c.args.self.now in
+    let births : Births = births_of c.self.inside in
+    let id = c.entity.inside.id in
+    let life = c.entity.inside.generation in
+    let named : c.entity.inside.id ≡ next_index before = ap (λ (e : LifeAt). e.id) (c.entity.view_is ∙ c.in_ok-entity.ensures.ok) in
+    let given : life ≡ next_life (persistent_at before (next_index before)) = ap (λ (e : LifeAt). e.generation) (c.entity.view_is ∙ c.in_ok-entity.ensures.ok) in
+    let free : IsFree births (next_index before) = subst (λ (b : Births). IsFree b (next_index before)) (sym c.self.view_is) c.in_ok-take_next.ensures.free in
+    let same : persistent_at births (next_index before) ≡ persistent_at before (next_index before) = ap (λ (b : Births). persistent_at b (next_index before)) c.self.view_is ∙ c.in_ok-take_next.ensures.same in
+    let limit : births.generations ≡ before.generations = ap (λ (b : Births). b.generations) (c.self.view_is ∙ c.in_ok-take_next.ensures.ok) in
+    let few : number_of (persistent_at births (next_index before)) < births.generations = let r = c.in_ok-entity.ensures.room in let n = ap number_of same in omega arith in
+    let alive : AreBirths (with_life births (next_index before) (next_life (persistent_at births (next_index before)))) = AreBirths-alive births (next_index before) c.self.invariant.births free few in
+    let long = length-set c.self.inside.generations.items id (Some life) in
+    let raised = c.self.invariant.raised in
+    let killed = c.self.invariant.killed in
+    let marked = c.self.invariant.marked in
+    let cache = c.self.invariant.cache in
+    record {
+      births = subst (λ (e : LifeAt). AreBirths (with_life births e.id e.generation)) {x = record { id = next_index before; generation = next_life (persistent_at births (next_index before)) }} (λ j. record { id = sym named j; generation = (ap next_life same ∙ sym given) j }) alive;
+      raised = omega arith;
+      killed = omega arith;
+      marked = omega arith;
+      cache = omega arith;
+      unmarked = c.self.invariant.unmarked;
+    }

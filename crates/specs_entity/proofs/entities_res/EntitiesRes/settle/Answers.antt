@@ -1,0 +1,37 @@
+use Rattle.std.proofs.Common.{◌≡◌, true, Some, ap, sym, ◌∙◌, subst, arith, set, refl}
+use Rattle.std.proofs.Math.ListN.{length-set}
+use Rattle.std.specs.FinSet as fin
+use Rattle.specs_entity.specs.Life.{Life}
+use Rattle.specs_entity.specs.Births.{Births, settled, persistent_at, next_life}
+use Rattle.specs_entity.specs.Layout.{AreBirths, births_of}
+use Rattle.specs_entity.proofs.BirthLemmas.{AreBirths-settled, births-same}
+use Rattle.specs_entity.proofs.entities_res.EntitiesRes.settle.Goals as goal
+
+pub returns : goal.returns
+returns c =
+    let births : Births = births_of c.self.inside in
+    let last = c.generation-last.ensures ∙ ap (λ (b : Births). persistent_at b c.args.id) (sym c.self.view_is) in
+    births-same _ (settled births c.args.id)
+    (ap (λ (l : Life). set c.self.inside.generations.items c.args.id (Some l)) (c.following.ensures ∙ ap next_life last))
+    c.remove.ensures.members
+    refl refl refl refl
+    ∙ ap (λ (b : Births). settled b c.args.id) c.self.view_is
+
+pub invariant_of-self : goal.invariant_of-self
+invariant_of-self c =
+    let births : Births = births_of c.self.inside in
+    let kept : AreBirths births = c.self.invariant.births in
+    let is_fresh : fin.contains births.fresh c.args.id ≡ true = ap (λ (b : Births). fin.contains b.fresh c.args.id) c.self.view_is ∙ c.requires in
+    let long = length-set c.self.inside.generations.items c.args.id (Some c.following.result) in
+    let raised = c.self.invariant.raised in
+    let killed = c.self.invariant.killed in
+    let marked = c.self.invariant.marked in
+    let cache = c.self.invariant.cache in
+    record {
+      births = subst AreBirths (ap (λ (b : Births). settled b c.args.id) c.self.view_is ∙ sym (returns c)) (AreBirths-settled births c.args.id kept is_fresh);
+      raised = let r = c.remove.ensures.room in omega arith;
+      killed = omega arith;
+      marked = omega arith;
+      cache = omega arith;
+      unmarked = c.self.invariant.unmarked;
+    }

@@ -1,0 +1,109 @@
+//! Entities created in a row.
+ghost use Rattle.std.specs.Prelude.{◌≡◌, ◌<◌, ◌≤◌, ℕ, List, [], length, IfOk, OnOk, OnErr, IfErr};
+ghost use Rattle.std.specs.Vec.{vec_capacity};
+ghost use Rattle.specs_entity.specs.Births.{Births};
+
+use crate::entities_res::EntitiesRes;
+use crate::errors::Error;
+use crate::ids::Entity;
+use crate::parts::last_at;
+use hibitset::Index;
+use std::marker::Model;
+use std::vec::IntoIter;
+
+/// Entities that were created together, to be walked in the order of their births.
+#[derive(Drop)]
+pub struct CreateIter {
+    entities: IntoIter<Entity>,
+}
+
+impl Model for CreateIter {
+    ghost use Rattle.std.specs.Prelude.{List};
+    ghost use Rattle.std.specs.Vec.Iter.{into_iter_items};
+    ghost use Rattle.specs_entity.specs.Life.{LifeAt};
+
+    ghost Value = { List LifeAt };
+
+    ghost view = { λ a. into_iter_items a.entities };
+}
+
+impl Iterator for CreateIter {
+    type Item = Entity;
+
+    ghost use Rattle.std.specs.Iterator.{YieldsFirst, item_count};
+
+    ghost next_gives = { YieldsFirst (λ it. it) };
+
+    ghost remaining = { item_count (λ it. it) };
+
+    fn next(&mut self) -> Option<Entity> {
+        self.entities.next()
+    }
+}
+
+impl EntitiesRes {
+    ghost use Rattle.specs_entity.specs.Births.{all_created, newborns, CanCreate, RefusesBirth, RefusesBirths};
+    ghost use Rattle.specs_entity.specs.Layout.{IsCreated, AreMade};
+
+    /// Creates so many entities, or none: each is alive at once, and its birth is persistent after the
+    /// next merge.
+    ///
+    /// Errors: those of `create` for the first entity that is refused, and `Memory`. All leave the
+    /// entities as they were.
+    pub fn create_iter(&mut self, count: usize) -> Result<CreateIter, Error>
+        ensures value { IfOk result (λ entities. entities ≡ newborns count self.old) }
+        ensures ok { OnOk result (self.new ≡ all_created count self.old) }
+        ensures possible { OnOk result (CanCreate count self.old) }
+        ensures refused { IfErr result (RefusesBirths count self.old) }
+        ensures err { OnErr result (self.new ≡ self.old) }
+    {
+        let mut made = Vec::with_capacity(self.alloc, count)?;
+        if let Err(error) = self.create_all(count, &mut made) {
+            self.take_back(&mut made);
+            return Err(error);
+        }
+        Ok(CreateIter {
+            entities: made.into_iter(),
+        })
+    }
+
+    /// Creates so many entities, and puts each into `made`, up to the first that is refused.
+    fn create_all(&mut self, count: usize, made: &mut Vec<Entity>) -> Result<(), Error>
+        requires empty { made.old.items ≡ [] }
+        requires room { count ≤ vec_capacity made.old }
+        ensures made { AreMade self.old made.new.items self.new }
+        ensures ok { OnOk result (length made.new.items ≡ count) }
+        ensures few { OnErr result (length made.new.items < count) }
+        ensures refused { IfErr result (RefusesBirth self.new) }
+    {
+        let _ = &self.generations;
+        for _ in 0..count {
+            let entity = self.create()?;
+            let _ = made.push(entity);
+        }
+        Ok(())
+    }
+
+    /// Undoes the births of the entities in `made`, which were the last by `create`.
+    fn take_back(&mut self, made: &mut Vec<Entity>)
+        requires { (before : Births) × AreMade before made.old.items self.old }
+        ensures { (before : Births) → AreMade before made.old.items self.old → self.new ≡ before }
+    {
+        while let Some(entity) = made.pop() {
+            self.uncreate(entity.id);
+        }
+    }
+
+    /// Undoes the last birth, which was by `create` and at that index.
+    fn uncreate(&mut self, id: Index)
+        requires { (before : Births) × IsCreated before id self.old }
+        ensures { (before : Births) → IsCreated before id self.old → self.new ≡ before }
+    {
+        let _ = self.raised.remove(id);
+        if last_at(&self.generations, id).is_none() {
+            let _ = self.generations.pop();
+        } else {
+            let _ = self.cache.push(id);
+        }
+    }
+}

@@ -1,0 +1,146 @@
+//! Deaths: lists of entities that die at once, and merges.
+ghost use Rattle.std.specs.Prelude.{◌≡◌, ◌≢◌, ◌==◌, ℕ, ◌+◌, ◌<◌, ◌≤◌, ◌↔◌, IsOk, OnOk, OnErr, IfOk, IfErr, IfSome, IsErrOf, MatchOption, None, Some, [], ◌∷◌, true, slice_index_or};
+ghost use Rattle.std.specs.List.{list_any};
+ghost use Rattle.std.specs.FinSet as set;
+ghost use Rattle.hibitset_sets.specs.Walk.{walk};
+ghost use Rattle.specs_entity.specs.Births.{alive_of, number_of, living_in, indices_of, CanKill, IsFirstFault};
+
+use crate::entities_res::EntitiesRes;
+use crate::errors::Error;
+use crate::ids::{Entity, Generation};
+use crate::parts::is_living;
+use hibitset::{AtomicBitSet, BitSetLike, Index, Uncounted};
+use std::alloc::AllocError;
+
+impl EntitiesRes {
+    ghost use Rattle.specs_entity.specs.Births.{living, all_buried, all_settled, all_deleted, merged, RefusesKill};
+
+    /// Lets all entities of a list die, in its order. After its test it takes no memory.
+    ///
+    /// Their births are persistent, their indices come into the cache in the list's order, and a
+    /// deletion that was accepted of one is done with.
+    ///
+    /// Errors: `WrongGeneration` with the first entity of the list that isn't alive or stands in it
+    /// before. Then nothing changed.
+    pub fn kill(&mut self, entities: &[Entity]) -> Result<(), Error>
+        ensures ok { OnOk result (self.new ≡ all_buried self.old (indices_of entities.now)) }
+        ensures succeeds { IsOk result ↔ CanKill (living self.old) entities.now }
+        ensures wrong_generation { IfErr result (RefusesKill self.old entities.now) }
+        ensures err { OnErr result (self.new ≡ self.old) }
+    {
+        if let Some(place) = self.first_fault(entities) {
+            return Err(Error::WrongGeneration(self.refusal(entities[place])));
+        }
+        for entity in entities {
+            self.bury(entity.id);
+        }
+        Ok(())
+    }
+
+    /// The place of the first entity that can't be killed after those before it.
+    fn first_fault(&mut self, entities: &[Entity]) -> Option<usize>
+        ensures same { self.new ≡ self.old }
+        ensures value { MatchOption result (CanKill (living self.old) entities.now) (IsFirstFault (living self.old) entities.now) }
+    {
+        let fault = mark_all(&self.generations, &self.raised, &mut self.marked, entities);
+        unmark_all(&mut self.marked, entities);
+        fault
+    }
+
+    /// Makes the fresh births persistent, then lets the entities die whose deletion was accepted, and
+    /// answers these, ascending by index.
+    ///
+    /// Their indices come into the cache in that order.
+    ///
+    /// Errors: `AllocError`, and nothing changed.
+    pub fn merge(&mut self) -> Result<Vec<Entity>, AllocError>
+        ensures value { IfOk result (λ deleted. deleted.items ≡ all_deleted self.old) }
+        ensures ok { OnOk result (self.new ≡ merged self.old) }
+        ensures err { OnErr result (self.new ≡ self.old) }
+    {
+        let deleted = self.deleted()?;
+        self.settle_all();
+        self.bury_all();
+        Ok(deleted)
+    }
+
+    /// The entities whose deletion was accepted, ascending by index.
+    fn deleted(&self) -> Result<Vec<Entity>, AllocError>
+        ensures { IfOk result (λ deleted. deleted.items ≡ all_deleted self.now) }
+    {
+        let mut deleted = Vec::new(self.alloc);
+        for id in (&self.killed).iter() {
+            deleted.push(self.entity(id))?;
+        }
+        Ok(deleted)
+    }
+
+    /// Makes all fresh births persistent.
+    fn settle_all(&mut self)
+        ensures { self.new ≡ all_settled self.old (walk (set.contains self.old.fresh)) }
+    {
+        while let Some(id) = first_of(&self.raised) {
+            self.settle(id);
+        }
+    }
+
+    /// Buries all entities whose deletion was accepted.
+    fn bury_all(&mut self)
+        ensures { self.new ≡ all_buried self.old (walk (set.contains self.old.deletions)) }
+    {
+        while let Some(id) = first_of(&self.killed) {
+            self.bury(id);
+        }
+    }
+}
+
+/// The least index of a set.
+fn first_of(indices: &AtomicBitSet) -> Option<Index>
+    ensures walk { MatchOption result (walk (set.contains indices.now.members) ≡ [])
+        (λ first. walk (set.contains indices.now.members) ≡ first ∷ walk (set.contains (set.remove indices.now.members first))) }
+    ensures member { IfSome result (λ first. set.contains indices.now.members first ≡ true) }
+{
+    let mut walk = indices.iter();
+    walk.next_counted(&mut Uncounted)
+}
+
+/// Marks the indices of a list up to the first entity that isn't alive or is marked already, and
+/// answers its place.
+fn mark_all(
+    generations: &[Option<Generation>],
+    raised: &AtomicBitSet,
+    marked: &mut AtomicBitSet,
+    entities: &[Entity],
+) -> Option<usize>
+    requires dead { (index : ℕ) → set.contains raised.now.members index ≡ true → alive_of (slice_index_or generations.now index None) ≡ None }
+    requires numbers { (index : ℕ) → set.contains raised.now.members index ≡ true → number_of (slice_index_or generations.now index None) < 2147483647 }
+    requires indices { (index : ℕ) → living_in generations.now raised.now.members index ≢ None → index < 16777216 }
+    requires room { (index : ℕ) → living_in generations.now raised.now.members index ≢ None → index < marked.old.room }
+    requires unmarked { marked.old.members ≡ set.empty }
+    ensures value { MatchOption result (CanKill (living_in generations.now raised.now.members) entities.now)
+        (IsFirstFault (living_in generations.now raised.now.members) entities.now) }
+    ensures marks { (index : ℕ) → set.contains marked.new.members index ≡ true → list_any (λ other. index == other) (indices_of entities.now) ≡ true }
+    ensures kept { marked.old.room ≤ marked.new.room }
+{
+    for (place, entity) in entities.iter().enumerate() {
+        if !is_living(generations, raised, *entity) {
+            return Some(place);
+        }
+        if marked.contains(entity.id) {
+            return Some(place);
+        }
+        let _ = marked.add(entity.id);
+    }
+    None
+}
+
+/// Unmarks the indices of a list, which has all that are marked.
+fn unmark_all(marked: &mut AtomicBitSet, entities: &[Entity])
+    requires { (index : ℕ) → set.contains marked.old.members index ≡ true → list_any (λ other. index == other) (indices_of entities.now) ≡ true }
+    ensures members { marked.new.members ≡ set.empty }
+    ensures room { marked.new.room ≡ marked.old.room }
+{
+    for entity in entities {
+        let _ = marked.remove(entity.id);
+    }
+}

@@ -1,0 +1,45 @@
+//! Laws on which callers rely. Most functions have no code; each contract is the law.
+ghost use Rattle.std.specs.Prelude.{◌≡◌, ◌<◌, ◌≤◌, ℕ, ◌↔◌, IsTrue, None, true};
+ghost use Rattle.std.specs.FinSet as set;
+ghost use Rattle.std.specs.Ordering.{nat_cmp, int_cmp, ordering_then};
+ghost use Rattle.specs_entity.specs.Life.{id_of};
+ghost use Rattle.specs_entity.specs.Births.{Births, IsAlive, IsDead, Continues, living, deleted, buried, settled};
+
+use crate::entities_res::EntitiesRes;
+use crate::ids::Entity;
+use std::cmp::Ordering;
+
+/// A pair that died never comes back, as long as no birth is lost and who lives lived before or was
+/// born since.
+pub fn the_dead_stay_dead(entity: Entity)
+    ensures { (before after : Births) → Continues before after → IsDead before entity → IsDead after entity }
+{}
+
+/// No step of a call loses a birth, and who lives after it lived before or was born in it: neither a
+/// birth, nor an accepted deletion, a death, or a fresh birth that becomes persistent.
+pub fn each_step_continues(entities: &EntitiesRes)
+    ensures delete { (index : ℕ) → Continues entities.now (deleted entities.now index) }
+    ensures bury { (index : ℕ) → (living entities.now index ≡ None → ⊥) → Continues entities.now (buried entities.now index) }
+    ensures settle { (index : ℕ) → set.contains entities.now.fresh index ≡ true → Continues entities.now (settled entities.now index) }
+{
+    let _ = &entities.indices;
+}
+
+/// At one index at most one entity is alive.
+pub fn at_most_one_lives_at_an_index(one: Entity, other: Entity)
+    ensures { (births : Births) → IsAlive births one → IsAlive births other → one.id ≡ other.id → one ≡ other }
+{}
+
+/// `==` of entities is that of their indices and signed generations.
+pub fn entities_are_equal_as_pairs(one: &Entity, other: &Entity) -> bool
+    ensures { IsTrue result ↔ ((one.now.id ≡ other.now.id) × (id_of one.now.generation ≡ id_of other.now.generation)) }
+{
+    *one == *other
+}
+
+/// Entities are ordered by index, then by signed generation.
+pub fn entities_are_ordered_as_pairs(one: &Entity, other: &Entity) -> Ordering
+    ensures { result ≡ ordering_then (nat_cmp one.now.id other.now.id) (int_cmp (id_of one.now.generation) (id_of other.now.generation)) }
+{
+    one.cmp(other)
+}

@@ -1,0 +1,22 @@
+//! Entities and their generations: which are born, which are alive, and which come next.
+#![tactic(auto)]
+
+mod births;
+pub mod builder;
+pub mod create_iter;
+mod deaths;
+pub mod entities_res;
+pub mod errors;
+pub mod ids;
+pub mod laws;
+mod parts;
+
+pub use builder::EntityResBuilder;
+pub use create_iter::CreateIter;
+pub use entities_res::{Entities, EntitiesRes};
+pub use errors::{BoxedErr, Error, WrongGeneration};
+pub use hibitset::Index;
+pub use ids::{Entity, Generation};
+
+#[cfg(test)]
+mod tests;
