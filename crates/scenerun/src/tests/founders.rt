@@ -8,7 +8,8 @@ ghost use Rattle.scenerun.specs.Founders.{founders, found_kind, blank, configure
 ghost use Rattle.scenerun.specs.FounderLaws.{law-none_ascend, law-blank_has_no_float, law-no_part_is_read, law-none_is_admitted, law-founding_is_known};
 
 use scene::{
-    Accessor, Counted, DocRefusal, PlainView, Queue, ReadError, Rules, RunError, RunningTime, Stop, run,
+    Accessor, Counted, DocRefusal, PlainView, Queue, ReadError, Rules, RunError, RunningTime, Stop,
+    run,
 };
 use serde_json::Value;
 use std::alloc::{AllocError, Global};
@@ -169,7 +170,11 @@ fn no_system_may_write_entities(rt: HostRuntime) -> Result<(), Fail> {
         let mut reader = Counted::new(document.as_bytes());
         let mut out = Counted::new(Vec::new(rt.alloc()));
         let outcome = run(&rt, Founders, &mut reader, &mut out);
-        assert_eq!(rt; outcome.err(), refusal.map(RunError::Document), "{document}");
+        assert_eq!(rt;
+            outcome.err(),
+            refusal.map(RunError::Document),
+            "{document}"
+        );
         assert_eq!(rt; out.get_ref().is_empty(), refusal.is_some(), "{document}");
     }
     Ok(())
