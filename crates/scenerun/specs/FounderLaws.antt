@@ -1,9 +1,13 @@
 -- The laws of the smallest rules.
-use Rattle.std.proofs.Common.{◌≡◌, ℕ, Bool, true, false, cond, [], Some, None, is_some, refl, subst, below_none}
+use Rattle.std.proofs.Common.{◌≡◌, ℕ, Bool, true, false, cond, [], ◌∷◌, Some, None, is_some, refl, subst, below_none}
 use Rattle.std.specs.Str.{bytes_eq}
+use Rattle.std.specs.Ordering.{nat_cmp}
+use Rattle.std.specs.Cmp.Lexicographic.{slice_cmp}
+use Rattle.std.specs.declared.cmp.Ordering.TheVariants.{Less}
 use Rattle.std.proofs.lemmas.Option.{none-some, same_Some}
 use Rattle.std.proofs.lemmas.Bool.{false≢true}
 use Rattle.std.proofs.lemmas.List.Elements.{All-nil}
+use Rattle.std.proofs.lemmas.List.Kept.{AllPairs-cons}
 use Rattle.serde_json.specs.Data.{null, boolean, number, string, array, object}
 use Rattle.serde_json.specs.Find.{as_null}
 use Rattle.serde_json.specs.Written.{has_float}
@@ -12,8 +16,9 @@ use Rattle.scene_rules.specs.Rulebook.{Facts}
 use Rattle.scene_rules.specs.Laws.{Ascend, DeclaresKnown}
 use Rattle.scenerun.specs.Founders.{founders, found_kind, founding, blank}
 
-pub law-none_ascend : Ascend []
-law-none_ascend = λ i j d lt within. absurd (below_none (λ (k : ℕ). ⊥) j within)
+-- one name ascends
+pub law-one_ascends : (name : Name) → Ascend (name ∷ [])
+law-one_ascends name = AllPairs-cons (λ one other. slice_cmp nat_cmp one other ≡ Less) name [] (All-nil (λ other. slice_cmp nat_cmp name other ≡ Less)) (λ i j d lt within. absurd (below_none (λ (k : ℕ). ⊥) j within))
 
 pub law-blank_has_no_float : (datum : ℕ) → has_float blank.json ≡ false
 law-blank_has_no_float datum = refl

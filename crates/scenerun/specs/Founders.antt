@@ -1,5 +1,5 @@
--- What the smallest rules mean: no part, no global, and one system, which would write entities.
-use Rattle.std.specs.Prelude.{◌≡◌, codes, true, false, [], Option, Some, None, is_some, if◌then◌else◌}
+-- What the smallest rules mean: a kind and a global under which nothing is read, and one system, which would write entities.
+use Rattle.std.specs.Prelude.{◌≡◌, codes, true, false, [], ◌∷◌, Option, Some, None, is_some, if◌then◌else◌}
 use Rattle.std.specs.Str.{bytes_eq}
 use Rattle.serde_json.specs.Data.{null}
 use Rattle.serde_json.specs.Find.{as_null}
@@ -8,6 +8,12 @@ use Rattle.scene_rules.specs.Rulebook.{Facts, Book, leaves}
 
 abbrev pub found_kind : Name
 found_kind = codes "found"
+
+abbrev pub seat_kind : Name
+seat_kind = codes "seat"
+
+abbrev pub era_name : Name
+era_name = codes "era"
 
 -- the part that is written for a datum, of which there is none in a scene
 abbrev pub blank : Part
@@ -23,8 +29,8 @@ configured config = if is_some (as_null config) then Some (Some founding) else N
 
 abbrev pub founders : Book
 founders = record {
-  part_names = [];
-  global_names = [];
+  part_names = seat_kind ∷ [];
+  global_names = era_name ∷ [];
   read_part = λ _ _. None;
   read_global = λ _ _. None;
   admits = λ _ _. false;

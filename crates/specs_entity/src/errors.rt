@@ -3,7 +3,6 @@ ghost use Rattle.std.specs.Prelude.{◌≡◌};
 
 use crate::ids::{Entity, Generation};
 use std::alloc::AllocError;
-use std::convert::Infallible;
 use std::marker::Model;
 use thiserror::Error;
 
@@ -92,11 +91,5 @@ impl From<AllocError> for Error {
 
     fn from(_refusal: AllocError) -> Error {
         Error::Memory
-    }
-}
-
-impl From<Infallible> for Error {
-    fn from(never: Infallible) -> Error {
-        match never {}
     }
 }

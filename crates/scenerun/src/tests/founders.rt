@@ -1,11 +1,12 @@
-//! The smallest rules: no part, no global, and one system, which would write entities. Documents are refused for it by name.
+//! The smallest rules: a kind and a global under which nothing is read, and one system, which would write entities. Documents are
+//! refused for it by name.
 ghost use Rattle.std.specs.Prelude.{◌≡◌, None, MatchResult};
 ghost use Rattle.std.proofs.Common.{rules};
 ghost use Rattle.serde_json.specs.Data.{null};
 ghost use Rattle.serde_json.specs.View.{view};
 ghost use Rattle.scene_rules.specs.Laws.{IsMaking};
-ghost use Rattle.scenerun.specs.Founders.{founders, found_kind, blank, configured};
-ghost use Rattle.scenerun.specs.FounderLaws.{law-none_ascend, law-blank_has_no_float, law-no_part_is_read, law-none_is_admitted, law-founding_is_known};
+ghost use Rattle.scenerun.specs.Founders.{founders, found_kind, seat_kind, era_name, blank, configured};
+ghost use Rattle.scenerun.specs.FounderLaws.{law-one_ascends, law-blank_has_no_float, law-no_part_is_read, law-none_is_admitted, law-founding_is_known};
 
 use scene::{
     Accessor, Counted, DocRefusal, PlainView, Queue, ReadError, Rules, RunError, RunningTime, Stop,
@@ -14,6 +15,12 @@ use scene::{
 use serde_json::Value;
 use std::alloc::{AllocError, Global};
 use std::test::Fail;
+
+/// The only kind of parts.
+const SEAT: &str = "seat";
+
+/// The only global.
+const ERA: &str = "era";
 
 /// Rules with one system, `found`, which declares a write to entities; no document with it is a scene.
 #[derive(Clone, Copy, Debug)]
@@ -53,11 +60,11 @@ impl Rules for Founders {
     ghost config_of = { λ _. null };
 
     fn part_names(&self) -> &[&'static str] {
-        &[]
+        &[SEAT]
     }
 
     fn global_names(&self) -> &[&'static str] {
-        &[]
+        &[ERA]
     }
 
     fn read_data(&self, _alloc: Global, _kind: &str, _value: &Value) -> Result<u64, ReadError> {
@@ -120,9 +127,9 @@ impl Rules for Founders {
         Ok(())
     }
 
-    ghost kinds_ascend = { λ _. law-none_ascend };
+    ghost kinds_ascend = { λ _. law-one_ascends seat_kind };
 
-    ghost globals_ascend = { λ _. law-none_ascend };
+    ghost globals_ascend = { λ _. law-one_ascends era_name };
 
     ghost clones = { Prim.search rules };
 
