@@ -15,8 +15,8 @@ pub fn the_dead_stay_dead(entity: Entity)
     ensures { (before after : Births) → Continues before after → IsDead before entity → IsDead after entity }
 {}
 
-/// No step of a call loses a birth, and who lives after it lived before or was born in it: neither a
-/// birth, nor an accepted deletion, a death, or a fresh birth that becomes persistent.
+/// An accepted deletion, a death, and a fresh birth that becomes persistent lose no birth, and who
+/// lives after them lived before.
 pub fn each_step_continues(entities: &EntitiesRes)
     ensures delete { (index : ℕ) → Continues entities.now (deleted entities.now index) }
     ensures bury { (index : ℕ) → (living entities.now index ≡ None → ⊥) → Continues entities.now (buried entities.now index) }
