@@ -5,3 +5,4 @@ pub mod LeastLemmas
 pub mod MetaLemmas
 pub mod WorldLemmas
 pub mod TurnLemmas
+pub mod SharingLemmas

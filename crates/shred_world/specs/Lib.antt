@@ -3,3 +3,4 @@ pub mod Execs
 pub mod Lending
 pub mod ResourceIds
 pub mod Worlds
+pub mod Sharing

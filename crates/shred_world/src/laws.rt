@@ -1,11 +1,12 @@
 //! Laws on which callers rely: what a table's walks come to from their beginning to their end.
-ghost use Rattle.std.specs.Prelude.{◌≡◌, ℕ, false, Some, IfOk, IsSome, MatchOption, unwrap_or, map};
+ghost use Rattle.std.specs.Prelude.{◌≡◌, ℕ, false, Some, IfOk, IsSome, MatchOption, Ok, unwrap_or, map};
+ghost use Rattle.std.specs.List.{list_any};
 ghost use Rattle.std.specs.FinMap as finmap;
 ghost use Rattle.shred_world.specs.declared.resource_id.ResourceId.{ResourceId as Id};
 ghost use Rattle.shred_world.specs.Worlds.{value_at, held_kinds, AreDistinct, values_of_kinds, ChangesInTurn, is_of_kinds};
 ghost use Rattle.shred_world.specs.ResourceIds.{id_of};
 
-use crate::{MetaIterMut, MetaTable, World};
+use crate::{MetaIterMut, MetaTable, World, check_intersection};
 use std::alloc::{AllocError, Global};
 
 /// The values of a table's whole walk over a world, in its order: that of each registered kind that the world
@@ -45,6 +46,15 @@ pub fn a_walk_for_writing_leaves_what_was_written<V: Drop, F: Fn(&V) -> V>(
     while walk.advance(world) {
         change_one(world, &walk, &change);
     }
+}
+
+/// Whether two slices share an item, told by walks over them: exactly where an item of the one equals an item of the other.
+///
+/// A walk over a slice is cloned without memory, so nothing is refused.
+pub fn slices_share_an_item<T: PartialEq>(left: &[T], right: &[T]) -> Result<bool, AllocError>
+    ensures { result ≡ Ok (list_any (λ x. list_any (T.eq x) right.now) left.now) }
+{
+    check_intersection(left.iter(), right.iter())
 }
 
 /// Changes the value on which a walk stands.

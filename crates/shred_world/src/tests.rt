@@ -3,7 +3,9 @@ ghost use Rattle.std.specs.Prelude.{◌≡◌, Option, Some, None, refl};
 ghost use Rattle.std.proofs.Common.{rules};
 ghost use Rattle.shred_world.specs.declared.tests.Value.TheVariants.{HealthValue, SpeedValue, ScoreValue, Idle};
 
-use crate::laws::{a_table_walks_each_kind_once, a_walk_for_writing_leaves_what_was_written};
+use crate::laws::{
+    a_table_walks_each_kind_once, a_walk_for_writing_leaves_what_was_written, slices_share_an_item,
+};
 use crate::{
     Accessor, DefaultProvider, DynamicSystemData, ExecError, Holder, MetaIterMut, MetaTable,
     Missing, PanicHandler, Read, ReadAccessor, ReadExpect, Resource, ResourceId, SetupHandler,
@@ -581,9 +583,10 @@ fn a_table_walks_in_order_of_registration(rt: HostRuntime) -> Result<(), Fail> {
 fn lists_share_an_item(rt: HostRuntime) {
     for (left, right, shared) in [([1u8, 2], [3u8, 4], false), ([1, 2], [2, 3], true)] {
         assert_eq!(rt;
-            check_intersection(&left, &right),
-            shared,
+            check_intersection(left.iter(), right.iter()),
+            Ok(shared),
             "{left:?} {right:?}"
         );
+        assert_eq!(rt; slices_share_an_item(&left, &right), Ok(shared));
     }
 }
