@@ -2,3 +2,4 @@ pub mod BirthLemmas
 pub mod ListLemmas
 pub mod CreateLemmas
 pub mod LawLemmas
+pub mod NewLemmas

@@ -17,6 +17,9 @@ pub struct CreateIter {
     entities: IntoIter<Entity>,
 }
 
+/// Specs' name of the entities that are created in a row through a shared reference; here they are the same list.
+pub type CreateIterAtomic = CreateIter;
+
 impl Model for CreateIter {
     ghost use Rattle.std.specs.Prelude.{List};
     ghost use Rattle.std.specs.Vec.Iter.{into_iter_items};

@@ -3,7 +3,7 @@ ghost use Rattle.std.specs.Prelude.{◌≡◌, ◌<◌, ◌≤◌, ℕ, ◌↔�
 ghost use Rattle.std.specs.FinSet as set;
 ghost use Rattle.std.specs.Ordering.{nat_cmp, int_cmp, ordering_then};
 ghost use Rattle.specs_entity.specs.Life.{id_of};
-ghost use Rattle.specs_entity.specs.Births.{Births, IsAlive, IsDead, Continues, living, deleted, buried, settled};
+ghost use Rattle.specs_entity.specs.Births.{Births, IsAlive, IsBorn, IsDead, IndicesAreSpent, Continues, living, newborn, allocated, created, deleted, buried, settled};
 
 use crate::entities_res::EntitiesRes;
 use crate::ids::Entity;
@@ -24,6 +24,21 @@ pub fn each_step_continues(entities: &EntitiesRes)
 {
     let _ = &entities.indices;
 }
+
+/// The entity that is born next was never born before. By `allocate` or `create` it is born and alive, no birth
+/// is lost, and who lives then lived before or is this one.
+pub fn a_birth_is_new(entities: &EntitiesRes)
+    ensures new { ¬ (IndicesAreSpent entities.now) → IsBorn entities.now (newborn entities.now) → ⊥ }
+    ensures allocated { ¬ (IndicesAreSpent entities.now) → IsAlive (allocated entities.now) (newborn entities.now) × Continues entities.now (allocated entities.now) }
+    ensures created { ¬ (IndicesAreSpent entities.now) → IsAlive (created entities.now) (newborn entities.now) × Continues entities.now (created entities.now) }
+{
+    let _ = &entities.indices;
+}
+
+/// An entity that was born stays so: so no two births of a run are of one entity.
+pub fn the_born_stay_born(entity: Entity)
+    ensures { (before after : Births) → Continues before after → IsBorn before entity → IsBorn after entity }
+{}
 
 /// At one index at most one entity is alive.
 pub fn at_most_one_lives_at_an_index(one: Entity, other: Entity)

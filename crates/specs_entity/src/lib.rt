@@ -12,7 +12,7 @@ pub mod laws;
 mod parts;
 
 pub use builder::EntityResBuilder;
-pub use create_iter::CreateIter;
+pub use create_iter::{CreateIter, CreateIterAtomic};
 pub use entities_res::{Entities, EntitiesRes};
 pub use errors::{BoxedErr, Error, WrongGeneration};
 pub use hibitset::Index;
