@@ -56,12 +56,13 @@ impl Resource<Value> for Number {
     }
 }
 
-/// Makes 31 times a number and an amount of it, so that the order of two shows.
+/// Makes 31 times a number and an amount of it, so that the order of two shows, for a number of rounds.
 #[derive(Clone, Copy, Debug)]
 pub(crate) struct Mixer {
     pub(crate) id: ResourceId,
     pub(crate) amount: u64,
     pub(crate) time: RunningTime,
+    pub(crate) rounds: u32,
 }
 
 /// 31 times the number and the amount, which go round at 2 ^ 64.
@@ -69,9 +70,20 @@ pub(crate) fn mixed(number: u64, amount: u64) -> u64 {
     number.wrapping_mul(31).wrapping_add(amount)
 }
 
-fn mixed_value(value: Value, amount: u64) -> Value {
+/// The number, so many times mixed with the amount.
+fn mixed_often(number: u64, amount: u64, rounds: u32) -> u64 {
+    let mut number = number;
+    for _ in 0..rounds {
+        number = mixed(number, amount);
+    }
+    number
+}
+
+fn mixed_value(value: Value, amount: u64, rounds: u32) -> Value {
     match value {
-        Value::NumberValue(Number(number)) => Value::NumberValue(Number(mixed(number, amount))),
+        Value::NumberValue(Number(number)) => {
+            Value::NumberValue(Number(mixed_often(number, amount, rounds)))
+        }
     }
 }
 
@@ -91,7 +103,7 @@ impl System<Value> for Mixer {
     fn run<H: AllocGlobal, W: Holder<Value>>(&mut self, _rt: &H, view: &mut W) -> Result<(), Stop> {
         match view.take(self.id) {
             Some(value) => {
-                view.put(self.id, mixed_value(value, self.amount));
+                view.put(self.id, mixed_value(value, self.amount, self.rounds));
                 Ok(())
             }
             None => Err(Stop::Full),

@@ -1,7 +1,7 @@
-//! Measures the planner and the dispatcher of `shred` on one thread.
+//! Measures the planner and the dispatcher of `shred`, on one thread and on several.
 //!
 //! Without an argument it dispatches and plans small loads and prints checksums. With the argument `times` it prints the time
-//! of a dispatch and of planning.
+//! of a dispatch and of planning, and what threads make of the time of a stage.
 #![tactic(auto)]
 
 mod load;

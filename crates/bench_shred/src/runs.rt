@@ -5,10 +5,21 @@ use crate::load::{Mixer, Number, Value, mixed};
 use shred::{ResourceId, RunningTime, StagesBuilder, World};
 use std::alloc::{AllocError, Global};
 use std::io;
+use std::sync::Wait;
+use std::thread::Threads;
 use std::time::{Clock, Instant};
 
 /// How many systems are planned.
 const PLANNED: u32 = 4096;
+
+/// How many dispatches of a stage are timed.
+const DISPATCHES: u32 = 100;
+
+/// How many rounds a system of small work has.
+const SMALL: u32 = 1;
+
+/// How many rounds a system of large work has.
+const LARGE: u32 = 1_000_000;
 
 /// The time that is said of a system.
 fn time_of(number: u32) -> RunningTime {
@@ -33,6 +44,7 @@ fn stages_of(
     alloc: Global,
     systems: u32,
     ids: u32,
+    rounds: u32,
 ) -> Result<StagesBuilder<Value, Mixer>, AllocError> {
     let mut stages = StagesBuilder::new(alloc);
     for number in 0..systems {
@@ -41,6 +53,7 @@ fn stages_of(
                 id: id_of(number, ids),
                 amount: u64::from(number) + 1,
                 time: time_of(number),
+                rounds,
             };
             let _ = stages.insert(mixer, Vec::new(alloc))?;
         }
@@ -79,7 +92,7 @@ fn checksum_of_text(text: &str) -> u64 {
 
 /// Prints what dispatches of so many systems leave, each of which writes one of so many ids.
 fn print_dispatch<R: Print + AllocGlobal>(rt: &R, systems: u32, ids: u32) -> io::Result<()> {
-    let mut stages = stages_of(rt.alloc(), systems, ids)?;
+    let mut stages = stages_of(rt.alloc(), systems, ids, 1)?;
     let mut world = world_of(rt.alloc(), ids)?;
     let mut accepted = 0u32;
     for _ in 0..3 {
@@ -95,25 +108,53 @@ fn print_dispatch<R: Print + AllocGlobal>(rt: &R, systems: u32, ids: u32) -> io:
     Ok(())
 }
 
+/// Prints what dispatches of a stage of so many groups leave, with so many workers.
+fn print_stage<R: Print + AllocGlobal + Threads + Wait + Sync>(
+    rt: &R,
+    groups: u32,
+    workers: usize,
+    rounds: u32,
+) -> io::Result<()> {
+    let mut stages = stages_of(rt.alloc(), groups, groups, rounds)?;
+    let mut world = world_of(rt.alloc(), groups)?;
+    let mut accepted = 0u32;
+    for _ in 0..3 {
+        if stages.execute(rt, workers, &mut world).is_ok() {
+            accepted = accepted.saturating_add(1);
+        }
+    }
+    let checksum = checksum_of(&world, groups);
+    println!(rt;
+        "stage of {groups} groups of {rounds} rounds, {workers} workers: {accepted} of 3, sum {checksum}"
+    )?;
+    Ok(())
+}
+
 /// The checksums.
-pub(crate) fn checksums<R: Print + AllocGlobal>(rt: &R) -> io::Result<()> {
+pub(crate) fn checksums<R: Print + AllocGlobal + Threads + Wait + Sync>(rt: &R) -> io::Result<()> {
     for systems in [1, 10, 100, 1000] {
         print_dispatch(rt, systems, 1)?;
         print_dispatch(rt, systems, systems)?;
     }
-    let stages = stages_of(rt.alloc(), PLANNED, 64)?;
+    let stages = stages_of(rt.alloc(), PLANNED, 64, 1)?;
     let text = stages.write_par_seq(rt.alloc())?;
     let groups = stages.max_threads();
     let checksum = checksum_of_text(text.as_str());
     println!(rt;
         "plan of {PLANNED} systems over 64 ids: {groups} groups at most, text {checksum}"
     )?;
+    for groups in [2, 4, 8] {
+        for workers in [0, 1, 2, 4] {
+            print_stage(rt, groups, workers, 1)?;
+            print_stage(rt, groups, workers, 1000)?;
+        }
+    }
     Ok(())
 }
 
 /// Prints the time of a dispatch of so many systems, each of which writes one of so many ids.
 fn print_time<R: Print + AllocGlobal + Clock>(rt: &R, systems: u32, ids: u32) -> io::Result<()> {
-    let mut stages = stages_of(rt.alloc(), systems, ids)?;
+    let mut stages = stages_of(rt.alloc(), systems, ids, 1)?;
     let mut world = world_of(rt.alloc(), ids)?;
     let rounds = 100_000 / systems.max(1);
     let start = Instant::now(rt)?;
@@ -125,15 +166,54 @@ fn print_time<R: Print + AllocGlobal + Clock>(rt: &R, systems: u32, ids: u32) ->
     Ok(())
 }
 
+/// How many nanoseconds a dispatch of a stage takes, of so many groups, with so many workers.
+fn time_of_stage<R: AllocGlobal + Threads + Wait + Sync + Clock>(
+    rt: &R,
+    groups: u32,
+    workers: usize,
+    rounds: u32,
+) -> io::Result<u128> {
+    let mut stages = stages_of(rt.alloc(), groups, groups, rounds)?;
+    let mut world = world_of(rt.alloc(), groups)?;
+    let start = Instant::now(rt)?;
+    for _ in 0..DISPATCHES {
+        let _ = stages.execute(rt, workers, &mut world);
+    }
+    Ok(start.elapsed(rt)?.as_nanos() / u128::from(DISPATCHES))
+}
+
+/// Prints the times of a dispatch of a stage with each number of workers, in hundredths of that on the caller's thread.
+fn print_stage_times<R: Print + AllocGlobal + Threads + Wait + Sync + Clock>(
+    rt: &R,
+    groups: u32,
+    rounds: u32,
+) -> io::Result<()> {
+    let alone = time_of_stage(rt, groups, 0, rounds)?;
+    for workers in [0, 1, 2, 4] {
+        let taken = time_of_stage(rt, groups, workers, rounds)?;
+        let ratio = taken.saturating_mul(100) / alone.max(1);
+        println!(rt;
+            "stage of {groups} groups of {rounds} rounds, {workers} workers: {taken} ns, {ratio} % of the caller's thread"
+        )?;
+    }
+    Ok(())
+}
+
 /// The times.
-pub(crate) fn times<R: Print + AllocGlobal + Clock>(rt: &R) -> io::Result<()> {
+pub(crate) fn times<R: Print + AllocGlobal + Threads + Wait + Sync + Clock>(
+    rt: &R,
+) -> io::Result<()> {
+    for groups in [2, 4, 8] {
+        print_stage_times(rt, groups, SMALL)?;
+        print_stage_times(rt, groups, LARGE)?;
+    }
     for systems in [1, 10, 100, 1000] {
         print_time(rt, systems, 1)?;
         print_time(rt, systems, systems)?;
     }
     for ids in [1, 64, 4096] {
         let start = Instant::now(rt)?;
-        let stages = stages_of(rt.alloc(), PLANNED, ids)?;
+        let stages = stages_of(rt.alloc(), PLANNED, ids, 1)?;
         let taken = start.elapsed(rt)?.as_micros();
         let groups = stages.max_threads();
         println!(rt;

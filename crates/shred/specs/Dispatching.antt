@@ -1,5 +1,5 @@
 -- What a dispatcher holds, and what a dispatch does.
-use Rattle.std.specs.Prelude.{◌≡◌, ℕ, Bool, false, Option, None, Some, List, Result, Ok, Err}
+use Rattle.std.specs.Prelude.{◌≡◌, ◌<◌, ℕ, Bool, false, Option, None, Some, List, Result, Ok, Err}
 use Rattle.shred_world.specs.Worlds.{Slots}
 use Rattle.shred_world.specs.Bundles.{Holding}
 use Rattle.shred_stages.specs.declared.stop.Stop.{Stop}
@@ -8,6 +8,7 @@ use Rattle.shred.specs.declared.locals.LocalRefusal.{LocalRefusal}
 use Rattle.shred_stages.specs.declared.error.DispatchError.{DispatchError}
 use Rattle.shred_stages.specs.declared.error.DispatchError.TheVariants.{System, Local, Memory, Threads}
 use Rattle.shred_stages.specs.Staging.{Staging, Runs}
+use Rattle.shred_stages.specs.Ends.{RunsApart}
 use Rattle.shred.specs.Locals.{LocalsRun}
 use Rattle.shred_stages.specs.Setups.{WhenAccepted, SetsUpEach, DisposesEach}
 
@@ -61,6 +62,22 @@ module _ {V S L A : Type 0} (meets : S → Holding V → Option Stop → S → H
     pub w_between : Holding V
     pub staged_result : Result A DispatchError
     pub staged : DispatchesStaged before w staged_result between w_between
+    pub then_locals : ThenLocals between w_between staged_result result after w_after
+
+  -- the staged systems run on threads: as on one thread, or, for want of memory or of a thread, in whole stages; with less than 2 workers as on one
+  pub record DispatchesOnThreads (before : Dispatching S L) (w : Holding V) (result : Result A DispatchError) (after : Dispatching S L) (w_after : Holding V) : Type 0 where
+    pub runs : RunsApart meets before.staging w result after.staging w_after
+    pub alone : before.workers < 2 → Runs meets before.staging w result after.staging w_after
+    pub plan : after.staging.planning ≡ before.staging.planning
+    pub locals : after.locals ≡ before.locals
+    pub workers : after.workers ≡ before.workers
+
+  -- so they do, and then the local ones run
+  pub record DispatchesAll (before : Dispatching S L) (w : Holding V) (result : Result A DispatchError) (after : Dispatching S L) (w_after : Holding V) : Type 0 where
+    pub between : Dispatching S L
+    pub w_between : Holding V
+    pub staged_result : Result A DispatchError
+    pub staged : DispatchesOnThreads before w staged_result between w_between
     pub then_locals : ThenLocals between w_between staged_result result after w_after
 
 -- the staged systems are set up, and then the local ones, up to the first that is refused; the plan and the workers stay

@@ -3,7 +3,7 @@ ghost use Rattle.std.specs.Prelude.{◌≡◌, is_ok};
 ghost use Rattle.shred_world.specs.Bundles.{holding_of};
 ghost use Rattle.shred_plan.specs.Plan.{most_groups};
 ghost use Rattle.shred_stages.specs.Views.{Leaves};
-ghost use Rattle.shred.specs.Dispatching.{Dispatching, Dispatches, DispatchesStaged, DispatchesLocals, local_refusal, TellsLocal, DispatcherSetsUp, DispatcherDisposes, TellsFirst, stop_in, MeetsAsLocal, DisposesAsLocal};
+ghost use Rattle.shred.specs.Dispatching.{Dispatching, Dispatches, DispatchesAll, DispatchesOnThreads, DispatchesStaged, DispatchesLocals, local_refusal, TellsLocal, DispatcherSetsUp, DispatcherDisposes, TellsFirst, stop_in, MeetsAsLocal, DisposesAsLocal};
 ghost use Rattle.shred_stages.specs.Seats.{refusal_of};
 
 use crate::locals::{LocalRefusal, dispose_locals, run_locals, set_up_list};
@@ -12,6 +12,8 @@ use shred_stages::Refusal;
 use shred_world::{Holder, World};
 use std::alloc::AllocError;
 use std::marker::Model;
+use std::sync::Wait;
+use std::thread::Threads;
 
 /// Staged systems in the stages of their plan, and local systems, which run after them on the caller's thread.
 #[derive(Drop)]
@@ -62,36 +64,47 @@ impl<V: Drop, S: System<V> + Drop, L: RunNow<V> + Drop> Dispatcher<V, S, L> {
         self.stages.max_threads()
     }
 
-    /// Runs the staged systems, and then the local ones in the order in which they were added.
+    /// Runs the staged systems on threads, as `dispatch_par` does, and then the local ones in the order in which they were added.
     ///
     /// Errors: that of `dispatch_par`, after which no local system runs; that of `dispatch_thread_local`.
-    pub fn dispatch<H: AllocGlobal>(
+    pub fn dispatch<R: AllocGlobal + Threads + Wait + Sync>(
         &mut self,
-        rt: &H,
+        rt: &R,
         world: &mut World<V>,
     ) -> Result<(), DispatchError>
-        ensures runs { Dispatches S.meets L.meets self.old (holding_of world.old) result self.new (holding_of world.new) }
+    where
+        V: Send + Sync,
+        S: Send,
+        ensures runs { DispatchesAll S.meets L.meets self.old (holding_of world.old) result self.new (holding_of world.new) }
 
         // The same ids have values as before.
         ensures leaves { Leaves (holding_of world.old) (holding_of world.new) }
     {
-        self.dispatch_over(rt, world)
+        match self.dispatch_par(rt, world) {
+            Ok(()) => self.dispatch_thread_local(rt, world),
+            Err(error) => Err(error),
+        }
     }
 
-    /// Runs the staged systems: a chain of their relations in the order of the plan.
+    /// Runs the staged systems, the groups of a stage on as many threads as there are workers, or groups: a chain of the systems'
+    /// relations in the order of the plan, as on the caller's thread, where they run with 0 workers or 1.
     ///
     /// A system that refuses ends its group; the stage's other groups run to their ends, and no later stage runs.
     ///
-    /// Errors: `System`, with the first refusal in the order of the plan.
-    pub fn dispatch_par<H: AllocGlobal>(
+    /// Errors: `System`, with the first refusal in the order of the plan; `Memory` and `Threads`, where there was no memory for a
+    /// stage or a thread of it couldn't be started: the earlier stages ran, and no system of that stage or of a later one did.
+    pub fn dispatch_par<R: AllocGlobal + Threads + Wait + Sync>(
         &mut self,
-        rt: &H,
+        rt: &R,
         world: &mut World<V>,
     ) -> Result<(), DispatchError>
-        ensures runs { DispatchesStaged S.meets L.meets self.old (holding_of world.old) result self.new (holding_of world.new) }
+    where
+        V: Send + Sync,
+        S: Send,
+        ensures runs { DispatchesOnThreads S.meets L.meets self.old (holding_of world.old) result self.new (holding_of world.new) }
         ensures leaves { Leaves (holding_of world.old) (holding_of world.new) }
     {
-        self.dispatch_seq(rt, world)
+        self.stages.execute(rt, self.workers, world)
     }
 
     /// Runs the staged systems on the caller's thread: a chain of their relations in the order of the plan.

@@ -10,6 +10,7 @@ pub mod laws;
 mod locals;
 mod multi;
 mod names;
+mod pooled;
 mod run_now;
 mod systems;
 #[cfg(test)]
@@ -28,6 +29,7 @@ pub use shred_cells::{
 };
 pub use shred_plan::{Adding, Group, Planner, RunningTime, Stage, Way};
 pub use shred_stages::{BatchAccessor, DispatchError, StagesBuilder, Stop, System, SystemId, View};
+pub use shred_trees::{Leaf, Nil, Par, ParError, ParSeq, RunWithPool, Seq, par, seq};
 pub use shred_world::{
     Accessor, DefaultProvider, DynamicSystemData, Entry, ExecError, Fetch, FetchMut, Holder,
     MetaIter, MetaIterMut, MetaTable, Missing, PanicHandler, Read, ReadAccessor, ReadExpect,

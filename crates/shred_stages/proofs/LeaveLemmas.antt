@@ -47,7 +47,7 @@ module _ {V : Type 0} where
   merged-left (shared u) (owned v) false false e = cc
 
 module _ {V S : Type 0} (meets : S → Holding V → Option Stop → S → Holding V → Type 0) where
-  step-leaves : (reads writes : List ResourceId) (system : S) (w : Holding V) (refused : Option Stop) (left : S) (w2 : Holding V) → Step meets reads writes system w refused left w2 → Leaves w w2
+  pub step-leaves : (reads writes : List ResourceId) (system : S) (w : Holding V) (refused : Option Stop) (left : S) (w2 : Holding V) → Step meets reads writes system w refused left w2 → Leaves w w2
   step-leaves reads writes system w refused left w2 step id =
       let P : Slot V → Type 0 = λ slot. IsLeft (w id) slot in
       subst P (sym (step.comes_back id)) (merged-left (w id) (step.after id) (is_listed writes id) (is_listed reads id) (step.leaves id))

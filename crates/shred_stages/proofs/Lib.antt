@@ -6,3 +6,11 @@ pub mod CallerLemmas
 pub mod LeaveLemmas
 pub mod SetupLemmas
 pub mod DisposeLemmas
+pub mod ApartLemmas
+pub mod LendLemmas
+pub mod BackLemmas
+pub mod AwayLemmas
+pub mod LoadLemmas
+pub mod LendingLemmas
+pub mod FreeLemmas
+pub mod EndLemmas

@@ -1,10 +1,10 @@
 -- Facts on runs: a system's turn among the staged ones, and the steps of the loops over groups, stages and plans.
-use Rattle.std.proofs.Common.{◌≡◌, ℕ, ◌<◌, ◌≤◌, ◌+◌, zero, suc, List, [], ◌∷◌, length, get_or, drop, map, refl, ap, sym, ◌∙◌, subst, arith, Option, Some, None, drop-cons}
+use Rattle.std.proofs.Common.{◌≡◌, ℕ, ◌<◌, ◌≤◌, ◌+◌, zero, suc, List, [], ◌∷◌, length, ◌++◌, get_or, take, drop, map, refl, ap, sym, ◌∙◌, subst, arith, Option, Some, None, drop-cons}
 use Rattle.std.specs.Prelude.{slice_get}
 use Rattle.std.specs.Option.{MatchOption, option_map, option_or}
 use Rattle.std.specs.FinMap.{get}
 use Rattle.std.proofs.Math.ListN.{set}
-use Rattle.std.proofs.lemmas.List.{map-set, drop_all}
+use Rattle.std.proofs.lemmas.List.{map-set, drop_all, take_more}
 use Rattle.std.proofs.lemmas.Option.{slice_get-map, slice_get_within, slice_get-get_or}
 use Rattle.shred_world.specs.declared.resource_id.ResourceId.{ResourceId}
 use Rattle.shred_world.specs.Bundles.{Holding}
@@ -16,13 +16,13 @@ use Rattle.shred_stages.specs.Runs.{Step, State, Turn, GroupRuns, StageRuns, Sta
 use Rattle.shred_stages.specs.Seats.{state_of, IsSeated, SeatsKept}
 
 -- from an element of a list on
-from-at : {A : Type 0} (xs : List A) (i : ℕ) (x : A) → i < length xs → x ≡ get_or xs i x → drop i xs ≡ x ∷ drop (i + 1) xs
+pub from-at : {A : Type 0} (xs : List A) (i : ℕ) (x : A) → i < length xs → x ≡ get_or xs i x → drop i xs ≡ x ∷ drop (i + 1) xs
 from-at xs i x h read =
     let e : drop i xs ≡ get_or xs i x ∷ drop (suc i) xs = drop-cons xs i x h in
     let more : suc i ≡ i + 1 = omega arith in
     e ∙ ap (λ y. y ∷ drop (suc i) xs) (sym read) ∙ ap (λ n. x ∷ drop n xs) more
 
-from-end : {A : Type 0} (xs : List A) (i : ℕ) → length xs ≤ i → drop i xs ≡ []
+pub from-end : {A : Type 0} (xs : List A) (i : ℕ) → length xs ≤ i → drop i xs ≡ []
 from-end xs i h = drop_all i xs h
 
 module _ {V S : Type 0} where
@@ -146,6 +146,24 @@ module _ {V S : Type 0} where
         let R : Stage ResourceId → Type 0 = λ list. StageRuns meets list now (Some why) next in
         let P : List (Stage ResourceId) → Type 0 = λ list. StagesRun meets list now (Some why) next in
         known (Some why) next (subst P (sym (from-at stages i stage h read)) (next, Some why, subst R lends runs, (refl, refl)))
+
+    -- one more stage ran to its end
+    stages-add : (xs : List (Stage ResourceId)) (stage : Stage ResourceId) (before mid after : State V S) → StagesRun meets xs before None mid → StageRuns meets stage mid None after → StagesRun meets (xs ++ stage ∷ []) before None after
+    stages-add [] stage before mid after (none, e) runs = let P : State V S → Type 0 = λ state. StageRuns meets stage state None after in (after, None, subst P e runs, (refl, refl))
+    stages-add (x ∷ xs) stage before mid after (between, stop, first, later) runs = (between, stop, first, by stop (λ ran. stages-add xs stage between mid after ran runs) later)
+      where
+        by : (stop : Option (ℕ × Stop)) → (StagesRun meets xs between None mid → StagesRun meets (xs ++ stage ∷ []) between None after) → MatchOption stop (StagesRun meets xs between None mid) (λ why. (None ≡ Some why) × (mid ≡ between))
+            → MatchOption stop (StagesRun meets (xs ++ stage ∷ []) between None after) (λ why. (None ≡ Some why) × (after ≡ between))
+        by None add m = add m
+        by (Some why) add m = absurd (let e : None ≡ Some why = m.0 in cc)
+
+    pub stages-ran : (stages : List (Stage ResourceId)) (i : ℕ) (stage lent : Stage ResourceId) (start now next : State V S) → i < length stages → stage ≡ get_or stages i stage
+        → StagesRun meets (take i stages) start None now → lent ≡ stage → StageRuns meets lent now None next → StagesRun meets (take (i + 1) stages) start None next
+    stages-ran stages i stage lent start now next h read ran lends runs =
+        let R : Stage ResourceId → Type 0 = λ list. StageRuns meets list now None next in
+        let longer : take i stages ++ stage ∷ [] ≡ take (i + 1) stages = ap (λ s. take i stages ++ s ∷ []) read ∙ sym (take_more stages i stage h) in
+        let P : List (Stage ResourceId) → Type 0 = λ list. StagesRun meets list start None next in
+        subst P longer (stages-add (take i stages) stage start now next ran (subst R lends runs))
 
     pub stages-end : (stages : List (Stage ResourceId)) (i : ℕ) (start now : State V S) → length stages ≤ i
         → ((refused : Option (ℕ × Stop)) (after : State V S) → StagesRun meets (drop i stages) now refused after → StagesRun meets stages start refused after)

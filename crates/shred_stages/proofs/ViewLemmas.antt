@@ -65,13 +65,13 @@ module _ {V : Type 0} where
       ap (view_slots reads writes w) some ∙ view-insert reads writes w seat id None (sym (fits id) ∙ value-there (get seat id) v (sym e))
 
   -- a slot for reading is none that a value may come back to
-  abbrev IsReading : Slot V → Type 0
+  abbrev pub IsReading : Slot V → Type 0
   IsReading absent = Unit {0}
   IsReading out = ⊥
   IsReading (shared v) = Unit {0}
   IsReading (owned v) = ⊥
 
-  reads-so : (reads : List ResourceId) (w : Holding V) (q : ResourceId) → IsReading (reading reads w q)
+  pub reads-so : (reads : List ResourceId) (w : Holding V) (q : ResourceId) → IsReading (reading reads w q)
   reads-so reads w q = by (is_listed reads q) (readable (w q))
     where
       by : (b : Bool) (value : Option V) → IsReading (if b then shared_of value else absent)
@@ -127,13 +127,13 @@ module _ {V : Type 0} where
   content-slot (Some (Some v)) = refl
 
   -- one slot of the world, of the seat and of the view, before and after a run
-  abbrev ComesBack : (l l2 : Bool) → Slot V → (seat : Option (Option V)) → Slot V → Type 0
+  abbrev pub ComesBack : (l l2 : Bool) → Slot V → (seat : Option (Option V)) → Slot V → Type 0
   ComesBack l l2 start seat read2 =
       ((if l then filled (slot_of seat) (if l then emptied start else start) else (if l then emptied start else start)) ≡ merged (if l2 then owned_of (option_flatten seat) else read2) start)
       × ((if l then emptied (slot_of seat) else slot_of seat) ≡ slot_of (if l then Some None else None))
       × (l ≡ true → IsSome (takable (slot_of seat)) → (if l then emptied start else start) ≡ out)
 
-  back : (l l2 : Bool) (start : Slot V) (seat : Option (Option V)) (read read2 : Slot V) → IsReading read → IsReading read2 → is_some seat ≡ l2
+  pub back : (l l2 : Bool) (start : Slot V) (seat : Option (Option V)) (read read2 : Slot V) → IsReading read → IsReading read2 → is_some seat ≡ l2
       → IsLeft (if l then owned_of (takable start) else read) (if l2 then owned_of (option_flatten seat) else read2) → ComesBack l l2 start seat read2
   back true false absent seat read read2 r r2 is e = absurd (not-reading read2 out r2 e)
   back true false out seat read read2 r r2 is e = absurd (not-reading read2 out r2 e)
@@ -160,6 +160,26 @@ module _ {V : Type 0} where
   back false false start (Some x) (shared v) read2 r r2 is e = cc
   back false false start None absent read2 r r2 is e = (ap (λ slot. merged slot start) (sym e), refl, λ l there. absurd (false≢true l))
   back false false start None (shared v) read2 r r2 is e = (ap (λ slot. merged slot start) (sym e), refl, λ l there. absurd (false≢true l))
+
+  -- a seat that is left has the slots that it had
+  left-fits : (l l2 : Bool) (value : Option V) (seat : Option (Option V)) (read read2 : Slot V) → IsReading read → IsReading read2 → is_some seat ≡ l2
+      → IsLeft (if l then owned_of value else read) (if l2 then owned_of (option_flatten seat) else read2) → is_some seat ≡ l
+  left-fits true true value seat read read2 r r2 is e = is
+  left-fits false false value seat read read2 r r2 is e = is
+  left-fits true false None seat read read2 r r2 is e = absurd (not-reading read2 out r2 e)
+  left-fits true false (Some v) seat read read2 r r2 is e = absurd (not-reading read2 (owned e.0) r2 e.1)
+  left-fits false true value None read read2 r r2 is e = absurd (false≢true is)
+  left-fits false true value (Some None) absent read2 r r2 is e = cc
+  left-fits false true value (Some (Some u)) absent read2 r r2 is e = cc
+  left-fits false true value (Some None) (shared v) read2 r r2 is e = cc
+  left-fits false true value (Some (Some u)) (shared v) read2 r r2 is e = cc
+  left-fits false true value (Some x) out read2 r r2 is e = absurd r
+  left-fits false true value (Some x) (owned v) read2 r r2 is e = absurd r
+
+  pub still-fits : (reads writes reads2 writes2 : List ResourceId) (w w2 : Holding V) (seat seat2 : Slots V) → FitsSeat writes2 seat2
+      → Leaves (view_slots reads writes w seat) (view_slots reads2 writes2 w2 seat2) → FitsSeat writes seat2
+  still-fits reads writes reads2 writes2 w w2 seat seat2 fits leaves id =
+      left-fits (is_listed writes id) (is_listed writes2 id) (value_at seat id) (get seat2 id) (reading reads w id) (reading reads2 w2 id) (reads-so reads w id) (reads-so reads2 w2 id) (fits id) (leaves id)
 
   module _ (reads writes : List ResourceId) (start : Holding V) (seat : Slots V) (seated : IsSeat writes seat) (lent : Holding V) (lent_seat : Slots V)
       (from : (q : ResourceId) → lent q ≡ left_of writes start q) (to : (q : ResourceId) → holding_of lent_seat q ≡ moved_to writes start (holding_of seat) q) where

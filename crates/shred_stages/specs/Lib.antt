@@ -5,3 +5,10 @@ pub mod Runs
 pub mod Seats
 pub mod Staging
 pub mod Setups
+pub mod Apart
+pub mod Free
+pub mod Packs
+pub mod Lending
+pub mod Away
+pub mod Loading
+pub mod Ends

@@ -1,10 +1,11 @@
 -- The systems that are staged, each with its seat.
-use Rattle.std.specs.Prelude.{ℕ, ◌≤◌, length, List, map, Option, Some, None, Result, Ok, Err, slice_get}
-use Rattle.std.specs.List.{All}
+use Rattle.std.specs.Prelude.{◌≡◌, ℕ, suc, ◌≤◌, Bool, length, List, [], ◌∷◌, map, Option, Some, None, Result, Ok, Err, slice_get}
+use Rattle.std.specs.List.{All, fold}
 use Rattle.std.specs.Option.{MatchOption}
 use Rattle.shred_world.specs.declared.resource_id.ResourceId.{ResourceId}
 use Rattle.shred_world.specs.Bundles.{Holding}
-use Rattle.shred_plan.specs.Plan.{Placing, Group, Stage}
+use Rattle.shred_plan.specs.Plan.{Placing, Group, Stage, Planning, Added, added}
+use Rattle.shred_plan.specs.Laws.{systems_added}
 use Rattle.shred_stages.specs.declared.stop.Stop.{Stop}
 use Rattle.shred_stages.specs.declared.turn.Staged.{Staged}
 use Rattle.shred_stages.specs.declared.run.Refusal.{Refusal}
@@ -42,7 +43,20 @@ StagesAreSeated stages staged = All (λ stage. StageIsSeated stage staged) stage
 abbrev pub SeatsKept : {V S : Type 0} → (before after : List (Staged V S)) → Type 0
 SeatsKept before after = (one : Placing ResourceId) → IsSeated before one → IsSeated after one
 
--- all systems of the stages have their seats, and there are no more than may be staged
-pub record IsStaged {V S : Type 0} (stages : List (Stage ResourceId)) (staged : List (Staged V S)) : Type 0 where
-  pub seated : StagesAreSeated stages staged
+-- systems are numbered one after the other, from a number on
+abbrev pub AreNumbered : ℕ → List (Placing ResourceId) → Type 0
+AreNumbered from [] = Unit {0}
+AreNumbered from (one ∷ others) = (one.number ≡ from) × AreNumbered (suc from) others
+
+-- a plan is that of so many systems, numbered from 0 in the order in which they were added
+pub record IsPlanned (same : ResourceId → ResourceId → Bool) (planning : Planning ResourceId) (count : ℕ) : Type 0 where
+  pub list : List (Added ResourceId)
+  pub planned : planning ≡ fold (added same) (record { first = 0; stages = [] }) list
+  pub numbered : AreNumbered 0 (systems_added list)
+  pub counted : length (systems_added list) ≡ count
+
+-- the systems that were planned have their seats, and there are no more than may be staged
+pub record IsStaged {V S : Type 0} (same : ResourceId → ResourceId → Bool) (planning : Planning ResourceId) (staged : List (Staged V S)) : Type 0 where
+  pub planned : IsPlanned same planning (length staged)
+  pub seated : StagesAreSeated planning.stages staged
   pub few : length staged ≤ 65536

@@ -60,7 +60,7 @@ fn list_stage(
 }
 
 /// Puts the ids of each system of a group behind the others.
-fn list_group(
+pub(crate) fn list_group(
     list: &mut Vec<ResourceId>,
     access: Access,
     group: &[Adding<ResourceId>],

@@ -3,9 +3,17 @@
 
 mod access;
 mod accessor;
+mod apart;
+mod away;
 mod error;
+mod lend;
+mod lending;
+mod lent;
 mod moves;
+mod pack;
+mod places;
 mod run;
+mod seat;
 mod setup;
 mod stages;
 mod stop;
@@ -15,6 +23,7 @@ mod view;
 
 pub use accessor::BatchAccessor;
 pub use error::DispatchError;
+pub use lending::{make_seat, move_values};
 pub use run::Refusal;
 pub use stages::StagesBuilder;
 pub use stop::{Stop, SystemId};

@@ -5,13 +5,17 @@ ghost use Rattle.shred_plan.specs.PlanText.{plan_text};
 ghost use Rattle.shred_stages.specs.Views.{Leaves};
 ghost use Rattle.shred_stages.specs.Moves.{IsSeat};
 ghost use Rattle.shred_stages.specs.Runs.{StagesRun};
+ghost use Rattle.shred_world.specs.Bundles.{holding_of};
 ghost use Rattle.shred_stages.specs.Staging.{Runs, Tells, DisposesAll};
+ghost use Rattle.shred_stages.specs.Ends.{RunsApart};
 ghost use Rattle.shred_stages.specs.Seats.{StagesAreSeated, refusal_of};
 ghost use Rattle.shred_stages.specs.Setups.{SetsUpEach, DisposesEach};
 ghost use Rattle.shred_stages.specs.Accesses.{all_reads, all_writes};
 
 use crate::access::{Access, ids_in_stages};
+use crate::apart::run_apart;
 use crate::run::{Refusal, run_stages};
+use crate::seat::seat_for;
 use crate::setup::{dispose_staged, set_up_staged};
 use crate::turn::Staged;
 use crate::{DispatchError, System, SystemId};
@@ -20,19 +24,8 @@ use shred_world::{Holder, ResourceId, World};
 use std::alloc::{AllocError, AllocFailed, Global};
 use std::marker::Model;
 use std::string::String;
-
-/// A seat with an empty slot for each id that is written.
-///
-/// Errors: want of memory.
-fn seat_for<V: Drop>(alloc: Global, writes: &[ResourceId]) -> Result<World<V>, AllocError>
-    ensures { IfOk result (IsSeat writes.now) }
-{
-    let mut seat = World::empty(alloc);
-    for id in writes {
-        seat.make_slot(*id)?;
-    }
-    Ok(seat)
-}
+use std::sync::Wait;
+use std::thread::Threads;
 
 /// Plans a system, and puts it behind the others.
 ///
@@ -90,7 +83,7 @@ impl<V, S> Model for StagesBuilder<V, S> {
 
     ghost view = { λ builder. record { planning = builder.planner; systems = map (λ one. one.system) builder.staged.items } };
 
-    ghost invariant = { λ builder. IsStaged builder.planner.stages builder.staged.items };
+    ghost invariant = { λ builder. IsStaged ⟦<ResourceId as PartialEq>⟧.eq builder.planner builder.staged.items };
 }
 
 impl<V: Drop, S: System<V> + Drop> StagesBuilder<V, S> {
@@ -213,6 +206,34 @@ impl<V: Drop, S: System<V> + Drop> StagesBuilder<V, S> {
         ensures leaves { Leaves (W.slots world.old) (W.slots world.new) }
     {
         told(self.run(rt, world))
+    }
+
+    /// Runs the systems on threads: stage by stage, the groups of a stage on as many threads as there are workers, or groups.
+    ///
+    /// With fewer than 2 workers all runs on the caller's thread, as `execute_seq` runs it.
+    ///
+    /// Errors: as `execute_seq`; `Memory` and `Threads`, where there was no memory for a stage or a thread of it couldn't be started:
+    /// the earlier stages ran to their ends, and no system of that stage or of a later one ran.
+    pub fn execute<R: AllocGlobal + Threads + Wait + Sync>(
+        &mut self,
+        rt: &R,
+        workers: usize,
+        world: &mut World<V>,
+    ) -> Result<(), DispatchError>
+    where
+        V: Send + Sync,
+        S: Send,
+        ensures plan { self.new.planning ≡ self.old.planning }
+        ensures runs { RunsApart S.meets self.old (holding_of world.old) result self.new (holding_of world.new) }
+        ensures alone { workers < 2 → Runs S.meets self.old (holding_of world.old) result self.new (holding_of world.new) }
+
+        // The same ids have values as before.
+        ensures leaves { Leaves (holding_of world.old) (holding_of world.new) }
+    {
+        if workers < 2 || self.planner.stages().is_empty() {
+            return self.execute_seq(rt, world);
+        }
+        run_apart(rt, workers, world, &mut self.staged, self.planner.stages())
     }
 
     /// Runs the systems on the caller's thread as `execute_seq` does, and tells the first refusal in the order of the plan.

@@ -1,20 +1,26 @@
 //! What a system is lent.
-ghost use Rattle.std.specs.Prelude.{◌≡◌, IfSome, IfNone, option_copied};
+ghost use Rattle.std.specs.Prelude.{◌≡◌, IfSome, IfNone, option_copied, map};
 ghost use Rattle.shred_world.specs.Bundles.{Holding, is_listed};
 ghost use Rattle.shred_stages.specs.Views.{view_slots, FitsSeat, error_of};
 ghost use Rattle.shred_stages.specs.Runs.{RunsInView};
+ghost use Rattle.shred_stages.specs.Seats.{refusal_of};
+ghost use Rattle.shred_stages.specs.Packs.{ArePlaced, PlacesInView};
 
+use crate::places::run_places;
+use crate::run::Refusal;
+use crate::turn::Staged;
 use crate::{Stop, System};
+use shred_plan::Adding;
 use shred_world::{Holder, ResourceId, World};
 
 /// The values that a system declares, and no others: those that it reads where they are, those that it writes out of there.
 ///
 /// The world is what the system runs over: a `World`, or the view of a batch.
 pub struct View<'w, V, W> {
-    world: &'w W,
-    reads: &'w [ResourceId],
-    writes: &'w [ResourceId],
-    seat: World<V>,
+    pub(crate) world: &'w W,
+    pub(crate) reads: &'w [ResourceId],
+    pub(crate) writes: &'w [ResourceId],
+    pub(crate) seat: World<V>,
     ghost seated: { FitsSeat writes.now seat },
 }
 
@@ -59,6 +65,38 @@ pub(crate) fn run_in_view<V, S: System<V>, H: AllocGlobal, W: Holder<V>>(
         seat,
     };
     let outcome = system.run(rt, &mut view);
+    let View {
+        world: _,
+        reads: _,
+        writes: _,
+        seat,
+    } = view;
+    (outcome, seat)
+}
+
+/// Runs the systems of a group over the values that it reads in a world and those in a seat, and hands the seat back.
+pub(crate) fn run_group_in_view<V: Drop, S: System<V>, H: AllocGlobal, W: Holder<V>>(
+    rt: &H,
+    staged: &mut [Staged<V, S>],
+    group: &[Adding<ResourceId>],
+    world: &W,
+    reads: &[ResourceId],
+    writes: &[ResourceId],
+    seat: World<V>,
+) -> (Result<(), Refusal>, World<V>)
+    requires seated { FitsSeat writes.now seat }
+    requires placed { ArePlaced group.now staged.old }
+    ensures runs { PlacesInView S.meets group.now (map (λ one. one.system) staged.old) (view_slots reads.now writes.now (W.slots world.now) seat) (refusal_of result.0) (map (λ one. one.system) staged.new) result.1 }
+    ensures placed { ArePlaced group.now staged.new }
+    ensures fits { FitsSeat writes.now result.1 }
+{
+    let mut view = View {
+        world,
+        reads,
+        writes,
+        seat,
+    };
+    let outcome = run_places(rt, &mut view, staged, group);
     let View {
         world: _,
         reads: _,

@@ -1,0 +1,3 @@
+pub mod ZipLemmas
+pub mod DealLemmas
+pub mod GatherLemmas

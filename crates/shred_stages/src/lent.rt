@@ -1,0 +1,54 @@
+//! What a thread does with what it is lent.
+ghost use Rattle.std.specs.Prelude.{map};
+ghost use Rattle.shred_world.specs.Bundles.{holding_of};
+ghost use Rattle.shred_stages.specs.Views.{view_slots, FitsSeat};
+ghost use Rattle.shred_stages.specs.Seats.{refusal_of};
+ghost use Rattle.shred_stages.specs.Packs.{ArePlaced, PlacesInView, PackRuns};
+
+use crate::System;
+use crate::pack::Pack;
+use crate::run::Refusal;
+use crate::turn::Staged;
+use crate::view::run_group_in_view;
+use shred_crew::Load;
+use shred_plan::Adding;
+use shred_world::{ResourceId, World};
+use std::mem;
+
+/// Runs the systems of a group, kept in a list, over the values that it reads in a world and those in a seat.
+fn run_list<V: Drop, S: System<V>, H: AllocGlobal>(
+    rt: &H,
+    staged: &mut Vec<Staged<V, S>>,
+    group: &[Adding<ResourceId>],
+    world: &World<V>,
+    reads: &[ResourceId],
+    writes: &[ResourceId],
+    seat: World<V>,
+) -> (Result<(), Refusal>, World<V>)
+    requires seated { FitsSeat writes.now seat }
+    requires placed { ArePlaced group.now staged.old.items }
+    ensures runs { PlacesInView S.meets group.now (map (λ one. one.system) staged.old.items) (view_slots reads.now writes.now (holding_of world.now) seat) (refusal_of result.0) (map (λ one. one.system) staged.new.items) result.1 }
+    ensures placed { ArePlaced group.now staged.new.items }
+    ensures fits { FitsSeat writes.now result.1 }
+{
+    run_group_in_view(rt, staged.as_mut_slice(), group, world, reads, writes, seat)
+}
+
+impl<V: Drop, S: System<V>> Load<World<V>> for Pack<'_, V, S> {
+    ghost does = { PackRuns S.meets };
+
+    fn work<H: AllocGlobal>(&mut self, rt: &H, shared: &World<V>) {
+        let seat = mem::replace(&mut self.seat, World::empty(rt.alloc()));
+        let (outcome, seat) = run_list(
+            rt,
+            &mut self.staged,
+            self.group,
+            shared,
+            &self.reads,
+            &self.writes,
+            seat,
+        );
+        self.seat = seat;
+        self.outcome = outcome;
+    }
+}

@@ -1,0 +1,4 @@
+pub mod Trees
+pub mod TreeLaws
+pub mod Rooms
+pub mod Causes
