@@ -23,6 +23,3 @@ pub use hibitset_sets::{
 pub use par_iter::BitParIter;
 pub use parallel::ParBitSetLike;
 pub use producer::BitProducer;
-
-#[cfg(test)]
-mod tests;

@@ -26,6 +26,3 @@ pub use iter::BitIter;
 pub use kept_masks::KeptMasks;
 pub use ops::{BitSetAll, BitSetAnd, BitSetIter, BitSetNot, BitSetOr, BitSetXor};
 pub use util::{Index, MAX_EID};
-
-#[cfg(test)]
-mod tests;

@@ -13,8 +13,6 @@ mod names;
 mod pooled;
 mod run_now;
 mod systems;
-#[cfg(test)]
-mod tests;
 mod work;
 
 pub use batch::{Batch, BatchController, MultiDispatchController};

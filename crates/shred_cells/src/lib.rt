@@ -7,8 +7,6 @@ mod guards;
 mod invalid_borrow;
 mod shared_fetch;
 mod shared_world;
-#[cfg(test)]
-mod tests;
 mod trust_cell;
 mod words;
 

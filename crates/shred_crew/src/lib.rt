@@ -7,8 +7,6 @@ mod dealt;
 mod gate;
 mod gather;
 mod load;
-#[cfg(test)]
-mod tests;
 
 pub use dealt::{Refused, Want, work_dealt};
 pub use load::Load;

@@ -11,8 +11,6 @@ pub mod laws;
 mod planner;
 mod running_time;
 mod stage;
-#[cfg(test)]
-mod tests;
 mod text;
 
 pub use adding::Adding;

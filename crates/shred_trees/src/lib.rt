@@ -15,8 +15,6 @@ mod par_seq;
 mod room;
 mod run_with_pool;
 mod seq;
-#[cfg(test)]
-mod tests;
 
 pub use error::ParError;
 pub use leaf::Leaf;

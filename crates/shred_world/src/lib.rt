@@ -12,8 +12,6 @@ mod meta;
 mod resource;
 mod resource_id;
 mod setup;
-#[cfg(test)]
-mod tests;
 mod world;
 
 pub use data::read::{Read, ReadExpect};

@@ -17,6 +17,3 @@ pub use entities_res::{Entities, EntitiesRes};
 pub use errors::{BoxedErr, Error, WrongGeneration};
 pub use hibitset::Index;
 pub use ids::{Entity, Generation};
-
-#[cfg(test)]
-mod tests;

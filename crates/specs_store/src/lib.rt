@@ -20,6 +20,3 @@ pub use storages::{
 };
 pub use track::ComponentEvent;
 pub use unprotected::{DistinctStorage, TryDefault, UnprotectedStorage};
-
-#[cfg(test)]
-mod tests;
