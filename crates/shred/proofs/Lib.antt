@@ -2,3 +2,4 @@ pub mod NameLemmas
 pub mod LocalLemmas
 pub mod BatchLemmas
 pub mod HistoryLemmas
+pub mod AsyncLemmas

@@ -5,4 +5,7 @@ pub mod Works
 pub mod Locals
 pub mod Dispatching
 pub mod Dispatchers
+pub mod Asyncs
+pub mod Places
+pub mod Lendings
 pub mod Batches

@@ -6,12 +6,13 @@ ghost use Rattle.shred.specs.Names.{texts};
 ghost use Rattle.shred.specs.Building.{Building, nothing_built, refusal, Refuses, built_with, fenced};
 ghost use Rattle.shred_stages.specs.Accesses.{all_reads, all_writes};
 ghost use Rattle.shred.specs.Dispatchers.{Drafting, with_building, dispatcher_of};
+ghost use Rattle.shred.specs.Asyncs.{here};
 
 use crate::{
-    AddError, Batch, BatchController, Dispatcher, RunNow, StagesBuilder, System, SystemId,
-    SystemsBuilder, Work,
+    AddError, AsyncDispatcher, Batch, BatchController, Dispatcher, RunNow, StagesBuilder, System,
+    SystemId, SystemsBuilder, Work,
 };
-use shred_world::ResourceId;
+use shred_world::{ResourceId, World};
 use std::alloc::{AllocError, AllocFailed, Global};
 use std::marker::Model;
 use std::string::String;
@@ -157,5 +158,12 @@ impl<
             workers,
         } = self;
         Dispatcher::of(systems.build(), locals, workers)
+    }
+
+    /// The dispatcher of what was added, which owns a world and dispatches in a thread of its own.
+    pub fn build_async(self, world: World<V>) -> AsyncDispatcher<V, Work<S, Batch<V, S, C>>, L>
+        ensures { result ≡ here (dispatcher_of self) world }
+    {
+        AsyncDispatcher::of(self.build(), world)
     }
 }

@@ -57,6 +57,20 @@ impl<V: Drop, S: System<V> + Drop, L: RunNow<V> + Drop> Dispatcher<V, S, L> {
         }
     }
 
+    /// The stages, the local systems, and how many workers run a stage.
+    pub(crate) fn into_parts(self) -> (StagesBuilder<V, S>, Vec<L>, usize)
+        ensures stages { result.0 ≡ self.staging }
+        ensures locals { result.1.items ≡ self.locals }
+        ensures workers { result.2 ≡ self.workers }
+    {
+        let Dispatcher {
+            stages,
+            locals,
+            workers,
+        } = self;
+        (stages, locals, workers)
+    }
+
     /// The greatest number of groups in a stage.
     pub fn max_threads(&self) -> usize
         ensures { result ≡ most_groups self.now.staging.planning.stages }

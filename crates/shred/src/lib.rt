@@ -1,6 +1,8 @@
 //! Dispatchers: systems, batches and local systems over a world of resources, under their names.
 #![tactic(auto)]
 
+mod async_dispatcher;
+mod async_error;
 mod batch;
 mod builder;
 mod chained;
@@ -15,6 +17,8 @@ mod run_now;
 mod systems;
 mod work;
 
+pub use async_dispatcher::AsyncDispatcher;
+pub use async_error::AsyncError;
 pub use batch::{Batch, BatchController, MultiDispatchController};
 pub use builder::DispatcherBuilder;
 pub use dispatcher::Dispatcher;

@@ -1,12 +1,10 @@
-//! Rows and examples of use of `shred` and the crates below it, which no contract says.
+//! Rows and examples of use of the crates below `shred`, which no contract says.
 #![tactic(auto)]
 
 #[cfg(test)]
 mod cells;
 #[cfg(test)]
 mod crews;
-#[cfg(test)]
-mod dispatches;
 #[cfg(test)]
 mod plans;
 #[cfg(test)]

@@ -1,6 +1,6 @@
 //! The values of the tests: four kinds of numbers.
 ghost use Rattle.std.specs.Prelude.{◌≡◌, Some, None, refl};
-ghost use Rattle.shred_tests.specs.declared.dispatches.values.Value.TheVariants.{SumValue, StepValue, CountValue, FlagValue};
+ghost use Rattle.dispatch_tests.specs.declared.dispatches.values.Value.TheVariants.{SumValue, StepValue, CountValue, FlagValue};
 ghost use Rattle.std.proofs.Common.{rules};
 
 use shred::Resource;

@@ -1,6 +1,6 @@
 use Rattle.std.proofs.Common.{sym}
 use Rattle.shred_stages.proofs.CallerLemmas.{leaves-one, leaves-same, taken-out}
-use Rattle.shred_tests.proofs.dispatches.add_to.Goals as goal
+use Rattle.dispatch_tests.proofs.dispatches.add_to.Goals as goal
 
 pub put-requires : goal.put-requires
 put-requires g c = record { is_out = taken-out _ _ _ c.in-Some.ensures.ok }

@@ -89,7 +89,7 @@ fn four_apart(alloc: Global) -> Result<Builder, Fail> {
     Ok(builder)
 }
 
-/// Dispatches them three times: each time either all four add their amounts, or a thread couldn't be started and none does.
+/// Dispatches them three times: each time either all four add their amounts, or a thread or memory was refused and none does.
 fn add_or_leave<R: AllocGlobal + Threads + Wait + Sync>(
     rt: &R,
     workers: usize,
@@ -102,7 +102,7 @@ fn add_or_leave<R: AllocGlobal + Threads + Wait + Sync>(
     for _ in 0..3 {
         match dispatcher.dispatch(rt, &mut world) {
             Ok(()) => accepted = accepted.wrapping_add(1),
-            Err(DispatchError::Threads) => {}
+            Err(DispatchError::Threads | DispatchError::Memory) => {}
             Err(_) => return Ok(false),
         }
     }
@@ -117,7 +117,7 @@ fn add_or_leave<R: AllocGlobal + Threads + Wait + Sync>(
     )
 }
 
-// Run under a limit on the threads of a process, starts are refused; without one none is.
+// Run with a start of a thread or an allocation refused, a dispatch is; without that none is.
 #[test]
 fn a_refused_start_leaves_all_as_it_was(rt: HostRuntime) -> Result<(), Fail> {
     for workers in [0, 2, 3, 4, 8] {
@@ -134,7 +134,7 @@ struct Meeter<'f> {
 }
 
 /// Whether a flag is seen raised, before it was looked at 1,000,000,000 times.
-fn is_seen(flag: &AtomicU64) -> bool {
+pub(super) fn is_seen(flag: &AtomicU64) -> bool {
     for _ in 0..1_000_000_000u64 {
         if flag.load(Ordering::SeqCst) == 1 {
             return true;

@@ -4,6 +4,7 @@ ghost use Rattle.std.specs.Option.{option_to_list};
 ghost use Rattle.shred_stages.specs.Views.{Leaves};
 ghost use Rattle.shred_plan.specs.Plan.{units_of};
 
+mod asyncs;
 mod threads;
 mod values;
 

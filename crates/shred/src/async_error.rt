@@ -1,0 +1,14 @@
+//! Why a call of an asynchronous dispatcher gives nothing.
+use crate::DispatchError;
+
+/// Why a call of an asynchronous dispatcher gives nothing.
+#[derive(Debug, PartialEq, Eq, Drop)]
+pub enum AsyncError {
+    /// The dispatch that was waited for, or a local system after it, ended early, also for want of a thread for one of its stages;
+    /// dispatcher and world are at hand.
+    Refused(DispatchError),
+    /// There was no memory to start a dispatch or to set systems up.
+    Memory,
+    /// A thread couldn't be started, now or once before: systems and world were let go with it.
+    Failed,
+}
