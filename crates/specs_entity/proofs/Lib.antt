@@ -3,3 +3,4 @@ pub mod ListLemmas
 pub mod CreateLemmas
 pub mod LawLemmas
 pub mod NewLemmas
+pub mod AliveLemmas

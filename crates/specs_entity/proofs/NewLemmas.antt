@@ -19,7 +19,7 @@ module _ (births : Births) (kept : AreBirths births) (left : ¬ (IndicesAreSpent
   taken-at : (other : ℕ) → persistent_at (with_next_taken births) other ≡ persistent_at births other
   taken-at other = at-either (length births.cache == 0) births.persistent other
 
-  taken-lives : (other : ℕ) → living (with_next_taken births) other ≡ living births other
+  pub taken-lives : (other : ℕ) → living (with_next_taken births) other ≡ living births other
   taken-lives other = ap (living_of (fin.contains births.fresh other)) (taken-at other)
 
   taken-count : (other : ℕ) → count (with_next_taken births) other ≡ count births other

@@ -1,5 +1,5 @@
 -- Births of entities: which are born and which of them live, what a call makes of them, and which comes next.
-use Rattle.std.specs.Prelude.{◌≡◌, ℕ, zero, suc, ◌+◌, ◌-◌, ◌<◌, ◌≤◌, ◌==◌, ◌⊎◌, Bool, true, false, if◌then◌else◌, List, [], ◌∷◌, ◌++◌, length, take, map, slice_index_or, slice_set, Option, Some, None, unwrap_or, refl}
+use Rattle.std.specs.Prelude.{◌≡◌, ℕ, zero, suc, ◌+◌, ◌-◌, ◌<◌, ◌≤◌, ◌==◌, ◌⊎◌, Bool, true, false, if◌then◌else◌, List, [], ◌∷◌, ◌++◌, length, take, map, slice_index_or, slice_set, Option, Some, None, is_some, unwrap_or, refl}
 use Rattle.std.specs.List.{All, HoldsAt, IsDistinct, list_any}
 use Rattle.std.specs.Ordering.{nat_cmp}
 use Rattle.std.specs.FinSet as set
@@ -66,6 +66,10 @@ count births index = number_of (persistent_at births index) + (if set.contains b
 -- the entity is alive: it was born last at its index, and hasn't died
 abbrev pub IsAlive : Births → Entity → Type 0
 IsAlive births entity = living births entity.id ≡ Some entity.generation
+
+-- a set has the indices where an entity lives
+abbrev pub MarksLiving : set.FinSet nat_cmp → Births → Type 0
+MarksLiving alive births = (index : ℕ) → set.contains alive index ≡ is_some (living births index)
 
 -- the life at an index: of the entity that lives, else of the dead one, else the first
 abbrev pub latest : Births → ℕ → Life

@@ -4,7 +4,7 @@ use Rattle.std.specs.List.{IsDistinct, list_any}
 use Rattle.std.specs.FinSet as set
 use Rattle.std.specs.Vec.{vec_capacity}
 use Rattle.specs_entity.specs.Life.{Life, LifeAt}
-use Rattle.specs_entity.specs.Births.{Births, persistent_at, living, count, alive_of, number_of, created, all_created, newborns, next_index, CanCreate, IndicesAreSpent, GenerationsAreSpent}
+use Rattle.specs_entity.specs.Births.{Births, persistent_at, living, MarksLiving, count, alive_of, number_of, created, all_created, newborns, next_index, CanCreate, IndicesAreSpent, GenerationsAreSpent}
 use Rattle.specs_entity.specs.declared.entities_res.EntitiesRes.TheInside.{Inside}
 
 -- indices and numbers are within the limits, a fresh birth is at an index whose last persistent one is dead, and a cached index is used, had a birth, stands in the cache once, and has nobody alive
@@ -40,7 +40,7 @@ births_of a =
       generations = a.highest;
     }
 
--- there is room for each index in use, and nothing is marked between two calls
+-- there is room for each index in use, nothing is marked between two calls, and a set has the indices where an entity lives
 pub record IsKept (a : Inside) : Type 0 where
   pub births : AreBirths (births_of a)
   pub raised : length a.generations.items ≤ a.raised.room
@@ -48,6 +48,8 @@ pub record IsKept (a : Inside) : Type 0 where
   pub marked : length a.generations.items ≤ a.marked.room
   pub cache : length a.generations.items ≤ vec_capacity a.cache
   pub unmarked : a.marked.members ≡ set.empty
+  pub alive_room : length a.generations.items ≤ a.alive.room
+  pub alive : MarksLiving a.alive.members (births_of a)
 
 -- a birth by `create` led from one state to another, and gave that index
 pub record IsCreated (before : Births) (given : ℕ) (after : Births) : Type 0 where

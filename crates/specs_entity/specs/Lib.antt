@@ -1,3 +1,4 @@
 pub mod Life
+pub mod RefusalLemmas
 pub mod Births
 pub mod Layout

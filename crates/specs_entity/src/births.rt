@@ -32,6 +32,7 @@ impl EntitiesRes {
         let entity = self.next_entity()?;
         self.take_next()?;
         self.generations[entity.id as usize] = Some(entity.generation);
+        let _ = self.alive.add(entity.id);
         Ok(entity)
     }
 
@@ -50,6 +51,7 @@ impl EntitiesRes {
         let entity = self.next_entity()?;
         self.take_next()?;
         let _ = self.raised.add(entity.id);
+        let _ = self.alive.add(entity.id);
         Ok(entity)
     }
 
@@ -90,6 +92,7 @@ impl EntitiesRes {
         self.raised.reserve(used + 1)?;
         self.killed.reserve(used + 1)?;
         self.marked.reserve(used + 1)?;
+        self.alive.reserve(used + 1)?;
         self.cache.reserve(used as usize + 1)?;
         self.generations.push(None)?;
         Ok(())
@@ -132,6 +135,7 @@ impl EntitiesRes {
             self.generations[id as usize] = Some(generation.died());
             let _ = self.raised.remove(id);
             let _ = self.killed.remove(id);
+            let _ = self.alive.remove(id);
             let _ = self.cache.push(id);
         }
     }

@@ -1,5 +1,5 @@
 //! Entities in the making.
-ghost use Rattle.std.specs.Prelude.{◌≡◌, IfOk, IsErrOf, ◌↔◌};
+ghost use Rattle.std.specs.Prelude.{◌≡◌, IfOk, IfErr, IsErrOf, ◌↔◌};
 
 use crate::entities_res::EntitiesRes;
 use crate::errors::Error;
@@ -45,7 +45,7 @@ impl Drop for EntityResBuilder<'_> {
 }
 
 impl EntitiesRes {
-    ghost use Rattle.specs_entity.specs.Births.{newborn, created, IndicesAreSpent, GenerationsAreSpent};
+    ghost use Rattle.specs_entity.specs.Births.{newborn, created, IndicesAreSpent, GenerationsAreSpent, RefusesBirth};
     ghost use Rattle.specs_entity.specs.declared.errors.Error.TheVariants as refusal;
 
     /// Creates an entity, and answers it as one that is being built.
@@ -55,6 +55,7 @@ impl EntitiesRes {
         ensures value { IfOk result (λ builder. builder.entity ≡ newborn self.old) }
         ensures ok { IfOk result (λ builder. builder.entities.now ≡ created self.old) }
         ensures same_reference { IfOk result (λ builder. builder.entities.ghost_name ≡ self.entry.ghost_name) }
+        ensures refused { IfErr result (RefusesBirth self.old) }
         ensures indices_spent { IsErrOf result refusal.IndicesSpent ↔ IndicesAreSpent self.old }
         ensures generations_spent { IsErrOf result refusal.GenerationsSpent ↔ GenerationsAreSpent self.old }
     {

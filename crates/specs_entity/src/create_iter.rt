@@ -103,6 +103,7 @@ impl EntitiesRes {
         ensures { (before : Births) → IsCreated before id self.old → self.new ≡ before }
     {
         let _ = self.raised.remove(id);
+        let _ = self.alive.remove(id);
         if last_at(&self.generations, id).is_none() {
             let _ = self.generations.pop();
         } else {

@@ -4,7 +4,7 @@ ghost use Rattle.std.specs.FinSet as set;
 
 use crate::ids::{Entity, Generation};
 use crate::parts::{is_living, last_at, living_at};
-use hibitset::{AtomicBitSet, Index};
+use hibitset::{AtomicBitSet, BitSet, Index};
 use std::alloc::Global;
 use std::marker::Model;
 
@@ -21,6 +21,7 @@ pub struct EntitiesRes {
     pub(crate) raised: AtomicBitSet,
     pub(crate) killed: AtomicBitSet,
     pub(crate) marked: AtomicBitSet,
+    pub(crate) alive: BitSet,
     pub(crate) cache: Vec<Index>,
     pub(crate) indices: Index,
     pub(crate) highest: u32,
@@ -45,7 +46,7 @@ impl Model for EntitiesRes {
 }
 
 impl EntitiesRes {
-    ghost use Rattle.specs_entity.specs.Births.{none_born, persistent_at, living, IsAlive, entity_at};
+    ghost use Rattle.specs_entity.specs.Births.{none_born, persistent_at, living, IsAlive, MarksLiving, entity_at};
 
     /// No entity yet, up to 16,777,216 indices and 2,147,483,647 generations of each. Takes no memory.
     pub fn new(alloc: Global) -> EntitiesRes
@@ -64,6 +65,7 @@ impl EntitiesRes {
             raised: AtomicBitSet::new(alloc),
             killed: AtomicBitSet::new(alloc),
             marked: AtomicBitSet::new(alloc),
+            alive: BitSet::new(alloc),
             cache: Vec::new(alloc),
             indices: indices.min(MAX_INDICES),
             highest: generations.min(MAX_GENERATIONS),
@@ -86,9 +88,17 @@ impl EntitiesRes {
         living_at(&self.generations, &self.raised, id)
     }
 
+    /// The indices where an entity lives. Takes no memory.
+    pub fn mask(&self) -> &BitSet
+        ensures { MarksLiving result.now.members self.now }
+    {
+        &self.alive
+    }
+
     /// Whether an entity is alive: born, and not dead.
     pub fn is_alive(&self, entity: Entity) -> bool
-        ensures { IsTrue result ↔ IsAlive self.now entity }
+        ensures value { IsTrue result ↔ IsAlive self.now entity }
+        ensures range { IsTrue result → entity.id < 16777216 }
     {
         is_living(&self.generations, &self.raised, entity)
     }

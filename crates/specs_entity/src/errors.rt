@@ -40,6 +40,28 @@ impl Model for WrongGeneration {
     ghost view = { λ a. record { action = a.action.now; actual_gen = a.actual_gen; entity = a.entity } };
 }
 
+impl PartialEq for WrongGeneration {
+    ghost use Rattle.std.specs.Cmp.{partial_equiv_from_equiv};
+    ghost use Rattle.specs_entity.specs.Life.{same_refusal};
+    ghost use Rattle.specs_entity.specs.RefusalLemmas.{refusal-equiv};
+
+    ghost eq = { same_refusal };
+
+    ghost laws = { partial_equiv_from_equiv refusal-equiv };
+
+    fn eq(&self, other: &WrongGeneration) -> bool {
+        self.action == other.action
+            && self.actual_gen == other.actual_gen
+            && self.entity == other.entity
+    }
+}
+
+impl Eq for WrongGeneration {
+    ghost use Rattle.specs_entity.specs.RefusalLemmas.{refusal-equiv};
+
+    ghost laws = { refusal-equiv };
+}
+
 /// What a call on entities and storages is refused for.
 #[derive(Debug, Drop, Error)]
 pub enum Error {

@@ -1,5 +1,5 @@
 //! Laws on which callers rely. Most functions have no code; each contract is the law.
-ghost use Rattle.std.specs.Prelude.{◌≡◌, ◌<◌, ◌≤◌, ℕ, ◌↔◌, IsTrue, None, true};
+ghost use Rattle.std.specs.Prelude.{◌≡◌, ◌<◌, ◌≤◌, ℕ, ◌↔◌, IsTrue, IsSome, None, true};
 ghost use Rattle.std.specs.FinSet as set;
 ghost use Rattle.std.specs.Ordering.{nat_cmp, int_cmp, ordering_then};
 ghost use Rattle.specs_entity.specs.Life.{id_of};
@@ -44,6 +44,13 @@ pub fn the_born_stay_born(entity: Entity)
 pub fn at_most_one_lives_at_an_index(one: Entity, other: Entity)
     ensures { (births : Births) → IsAlive births one → IsAlive births other → one.id ≡ other.id → one ≡ other }
 {}
+
+/// The entities that live at an index live at one below 16,777,216.
+pub fn the_living_are_below_the_limit(entities: &EntitiesRes)
+    ensures { (index : ℕ) → IsSome (living entities.now index) → index < 16777216 }
+{
+    let _ = &entities.indices;
+}
 
 /// `==` of entities is that of their indices and signed generations.
 pub fn entities_are_equal_as_pairs(one: &Entity, other: &Entity) -> bool

@@ -1,7 +1,9 @@
-//! Rows and examples of use of `specs_entity` and `specs_store`, which no contract says.
+//! Rows and examples of use of `specs_entity`, `specs_store` and `specs_join`, which no contract says.
 #![tactic(auto)]
 
 #[cfg(test)]
 mod entities;
+#[cfg(test)]
+mod joins;
 #[cfg(test)]
 mod storages;

@@ -1,10 +1,21 @@
 use Rattle.std.proofs.Common.{◌≡◌, ◌<◌, Some, ap, sym, ◌∙◌, subst, arith}
 use Rattle.std.proofs.Math.ListN.{length-set}
+use Rattle.std.specs.FinSet as fin
 use Rattle.specs_entity.specs.Life.{LifeAt}
-use Rattle.specs_entity.specs.Births.{Births, next_index, next_life, number_of, persistent_at, with_life}
+use Rattle.specs_entity.specs.Births.{Births, MarksLiving, next_index, next_life, number_of, persistent_at, with_life}
 use Rattle.specs_entity.specs.Layout.{AreBirths, IsFree, births_of}
-use Rattle.specs_entity.proofs.BirthLemmas.{AreBirths-alive}
+use Rattle.specs_entity.proofs.BirthLemmas.{AreBirths-alive, on-ok}
+use Rattle.specs_entity.proofs.AliveLemmas.{marks-allocated}
 use Rattle.specs_entity.proofs.entities_res.EntitiesRes.allocate.Goals as goal
+
+pub add-requires : goal.add-requires
+add-requires c =
+    let named : c.entity.inside.id ≡ next_index c.args.self.now = ap (λ (e : LifeAt). e.id) (c.entity.view_is ∙ c.in_ok-entity.ensures.ok) in
+    let free : IsFree (births_of c.self.inside) (next_index c.args.self.now) = subst (λ (b : Births). IsFree b (next_index c.args.self.now)) (sym c.self.view_is) c.in_ok-take_next.ensures.free in
+    let used = free.used in
+    let within = c.self.invariant.births.used in
+    let most = c.self.invariant.births.indices in
+    omega arith
 
 pub index_mut-requires : goal.index_mut-requires
 index_mut-requires c =
@@ -32,6 +43,9 @@ invariant_of-self c =
     let killed = c.self.invariant.killed in
     let marked = c.self.invariant.marked in
     let cache = c.self.invariant.cache in
+    let alive_room = c.self.invariant.alive_room in
+    let used = free.used in
+    let members : c.add.new.self.members ≡ fin.insert c.self.inside.alive.members (next_index before) = on-ok c.add.result c.add.ensures.ok (c.add.ensures.succeeds (omega arith)) ∙ ap (fin.insert c.self.inside.alive.members) named in
     record {
       births = subst (λ (e : LifeAt). AreBirths (with_life births e.id e.generation)) {x = record { id = next_index before; generation = next_life (persistent_at births (next_index before)) }} (λ j. record { id = sym named j; generation = (ap next_life same ∙ sym given) j }) alive;
       raised = omega arith;
@@ -39,4 +53,6 @@ invariant_of-self c =
       marked = omega arith;
       cache = omega arith;
       unmarked = c.self.invariant.unmarked;
+      alive_room = let r = c.add.ensures.room in omega arith;
+      alive = (subst (λ (e : LifeAt). MarksLiving c.add.new.self.members (with_life births e.id e.generation)) {x = record { id = next_index before; generation = next_life (persistent_at births (next_index before)) }} (λ j. record { id = sym named j; generation = (ap next_life same ∙ sym given) j }) (subst (λ s. MarksLiving s (with_life births (next_index before) (next_life (persistent_at births (next_index before))))) (sym members) (marks-allocated c.self.inside.alive.members births (next_index before) c.self.invariant.alive free)));
     }

@@ -1,9 +1,11 @@
 use Rattle.std.proofs.Common.{◌≢◌, ◌++◌, ◌∷◌, [], None, Some, false, ap, sym, ◌∙◌, subst, arith, cond, set, refl}
 use Rattle.std.proofs.Math.ListN.{length-set}
+use Rattle.std.specs.FinSet as fin
 use Rattle.specs_entity.specs.Life.{Life}
-use Rattle.specs_entity.specs.Births.{Births, buried, living}
+use Rattle.specs_entity.specs.Births.{Births, MarksLiving, buried, living}
 use Rattle.specs_entity.specs.Layout.{AreBirths, births_of}
 use Rattle.specs_entity.proofs.BirthLemmas.{AreBirths-buried, cache-shorter, births-same, living-number}
+use Rattle.specs_entity.proofs.AliveLemmas.{marks-buried}
 use Rattle.specs_entity.proofs.entities_res.EntitiesRes.bury.Goals as goal
 
 pub returns-in-Some : goal.returns-in-Some
@@ -41,4 +43,6 @@ invariant_of-self c =
       marked = omega arith;
       cache = let r = c.push.ensures.capacity in omega arith;
       unmarked = c.self.invariant.unmarked;
+      alive_room = let h = c.self.invariant.alive_room in let r = c.remove-in-Some-2.ensures.room in omega arith;
+      alive = subst (MarksLiving c.remove-in-Some-2.new.self.members) (ap (λ (b : Births). buried b c.args.id) c.self.view_is ∙ sym (returns-in-Some c)) (subst (λ s. MarksLiving s (buried births c.args.id)) (sym c.remove-in-Some-2.ensures.members) (marks-buried c.self.inside.alive.members births c.args.id c.self.invariant.alive));
     }

@@ -1,9 +1,10 @@
 use Rattle.std.proofs.Common.{◌≡◌, ◌<◌, ap, sym, ◌∙◌, subst, arith}
 use Rattle.std.specs.FinSet as fin
 use Rattle.specs_entity.specs.Life.{LifeAt}
-use Rattle.specs_entity.specs.Births.{Births, next_index, number_of, persistent_at, with_next_taken}
+use Rattle.specs_entity.specs.Births.{Births, MarksLiving, next_index, number_of, persistent_at, with_next_taken}
 use Rattle.specs_entity.specs.Layout.{AreBirths, IsFree, births_of}
 use Rattle.specs_entity.proofs.BirthLemmas.{AreBirths-fresh, freshened, on-ok}
+use Rattle.specs_entity.proofs.AliveLemmas.{marks-fresh}
 use Rattle.specs_entity.proofs.entities_res.EntitiesRes.create.Goals as goal
 
 pub add-requires : goal.add-requires
@@ -15,7 +16,16 @@ add-requires c =
     let most = c.self.invariant.births.indices in
     omega arith
 
-module _ (c : goal.After-add) where
+pub add-requires-2 : goal.add-requires-2
+add-requires-2 c =
+    let named : c.entity.inside.id ≡ next_index c.args.self.now = ap (λ (e : LifeAt). e.id) (c.entity.view_is ∙ c.in_ok-entity.ensures.ok) in
+    let free : IsFree (births_of c.self.inside) (next_index c.args.self.now) = subst (λ (b : Births). IsFree b (next_index c.args.self.now)) (sym c.self.view_is) c.in_ok-take_next.ensures.free in
+    let used = free.used in
+    let within = c.self.invariant.births.used in
+    let most = c.self.invariant.births.indices in
+    omega arith
+
+module _ (c : goal.After-add-2) where
   abbrev before : Births
   before = c.args.self.now
 
@@ -34,6 +44,13 @@ module _ (c : goal.After-add) where
       let used = free.used in
       let room = c.self.invariant.raised in
       on-ok c.add.result c.add.ensures.ok (c.add.ensures.succeeds (omega arith)) ∙ ap (fin.insert births.fresh) named
+
+  living-members : c.add-2.new.self.members ≡ fin.insert c.self.inside.alive.members (next_index before)
+  living-members =
+      let here = named in
+      let used = free.used in
+      let room = c.self.invariant.alive_room in
+      on-ok c.add-2.result c.add-2.ensures.ok (c.add-2.ensures.succeeds (omega arith)) ∙ ap (fin.insert c.self.inside.alive.members) named
 
 pub returns-clause-ok : goal.returns-clause-ok
 returns-clause-ok c =
@@ -56,4 +73,6 @@ invariant_of-self c =
       marked = c.self.invariant.marked;
       cache = c.self.invariant.cache;
       unmarked = c.self.invariant.unmarked;
+      alive_room = let r = c.add-2.ensures.room in let h = c.self.invariant.alive_room in omega arith;
+      alive = subst (λ s. MarksLiving s (record births { fresh = c.add.new.self.members })) (sym (living-members c)) (subst (λ s. MarksLiving (fin.insert c.self.inside.alive.members (next_index before)) (record births { fresh = s })) (sym (members c)) (marks-fresh c.self.inside.alive.members births (next_index before) c.self.invariant.alive));
     }

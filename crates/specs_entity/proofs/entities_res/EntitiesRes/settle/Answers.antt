@@ -2,9 +2,10 @@ use Rattle.std.proofs.Common.{◌≡◌, true, Some, ap, sym, ◌∙◌, subst, 
 use Rattle.std.proofs.Math.ListN.{length-set}
 use Rattle.std.specs.FinSet as fin
 use Rattle.specs_entity.specs.Life.{Life}
-use Rattle.specs_entity.specs.Births.{Births, settled, persistent_at, next_life}
+use Rattle.specs_entity.specs.Births.{Births, MarksLiving, settled, persistent_at, next_life}
 use Rattle.specs_entity.specs.Layout.{AreBirths, births_of}
 use Rattle.specs_entity.proofs.BirthLemmas.{AreBirths-settled, births-same}
+use Rattle.specs_entity.proofs.AliveLemmas.{marks-settled}
 use Rattle.specs_entity.proofs.entities_res.EntitiesRes.settle.Goals as goal
 
 pub returns : goal.returns
@@ -34,4 +35,6 @@ invariant_of-self c =
       marked = omega arith;
       cache = omega arith;
       unmarked = c.self.invariant.unmarked;
+      alive_room = let h = c.self.invariant.alive_room in omega arith;
+      alive = subst (MarksLiving c.self.inside.alive.members) (ap (λ (b : Births). settled b c.args.id) c.self.view_is ∙ sym (returns c)) (marks-settled c.self.inside.alive.members births c.args.id c.self.invariant.alive kept is_fresh);
     }

@@ -1,8 +1,9 @@
 use Rattle.std.proofs.Common.{◌≡◌, ◌<◌, ◌-◌, [], length, take, eqb, false, ap, sym, ◌∙◌, subst, arith, refl}
 use Rattle.std.proofs.lemmas.Bool.{cond-true, cond-false, true≢false, eq-eqb}
-use Rattle.specs_entity.specs.Births.{Births, with_next_taken, next_index, persistent_at, IndicesAreSpent}
+use Rattle.specs_entity.specs.Births.{Births, MarksLiving, with_next_taken, next_index, persistent_at, IndicesAreSpent}
 use Rattle.specs_entity.specs.Layout.{IsFree, AreBirths, births_of}
 use Rattle.specs_entity.proofs.BirthLemmas.{IsTaken, next-taken, births-same, not-equal, nil-length}
+use Rattle.specs_entity.proofs.AliveLemmas.{marks-taken}
 use Rattle.specs_entity.proofs.entities_res.EntitiesRes.take_next.Goals as goal
 
 -- an index of the cache was taken
@@ -28,15 +29,15 @@ module _ (c : goal.In_ok-push) where
   opened : IsTaken unopened (with_next_taken unopened) (next_index unopened)
   opened = next-taken unopened c.self.invariant.births (subst (λ (b : Births). IndicesAreSpent b → ⊥) (sym c.self.view_is) c.requires)
 
-  pushed : record unopened { persistent = c.push.new.self.items; fresh = c.reserve.new.self.members; deletions = c.reserve-2.new.self.members; cache = c.reserve-4.new.self.items } ≡ with_next_taken unopened
+  pushed : record unopened { persistent = c.push.new.self.items; fresh = c.reserve.new.self.members; deletions = c.reserve-2.new.self.members; cache = c.reserve-5.new.self.items } ≡ with_next_taken unopened
   pushed =
       let ok = c.self.inside.cache.ok in
       let nothing : 0 < c.self.inside.cache.len → ⊥ = λ h. true≢false (sym (c.pop.ensures.variant.1 h) ∙ (sym c.is_some.ensures ∙ c.if-is_some.false)) in
       let empty : unopened.cache ≡ [] = nil-length unopened.cache (omega arith) in
-      births-same (record unopened { persistent = c.push.new.self.items; fresh = c.reserve.new.self.members; deletions = c.reserve-2.new.self.members; cache = c.reserve-4.new.self.items }) (with_next_taken unopened)
+      births-same (record unopened { persistent = c.push.new.self.items; fresh = c.reserve.new.self.members; deletions = c.reserve-2.new.self.members; cache = c.reserve-5.new.self.items }) (with_next_taken unopened)
       (c.in_ok-push.ensures.items ∙ sym (cond-true (eqb (length unopened.cache) 0) _ _ (eq-eqb (length unopened.cache) 0 (ap length empty))))
       c.in_ok-reserve.ensures.ok c.in_ok-reserve-2.ensures.ok
-      (c.in_ok-reserve-4.ensures.items ∙ (c.pop.ensures.rest ∙ (ap (λ n. take (n - 1) unopened.cache) ok.0)))
+      (c.in_ok-reserve-5.ensures.items ∙ (c.pop.ensures.rest ∙ (ap (λ n. take (n - 1) unopened.cache) ok.0)))
       refl refl
 
 pub invariant_of-self : goal.invariant_of-self
@@ -47,6 +48,8 @@ invariant_of-self c = record {
   marked = c.self.invariant.marked;
   cache = let h = c.self.invariant.cache in let r = c.pop.ensures.capacity in omega arith;
   unmarked = c.self.invariant.unmarked;
+  alive_room = c.self.invariant.alive_room;
+  alive = subst (MarksLiving c.self.inside.alive.members) (sym (popped c)) (marks-taken c.self.inside.alive.members (births c) c.self.invariant.births (subst (λ (b : Births). IndicesAreSpent b → ⊥) (sym c.self.view_is) c.requires) c.self.invariant.alive);
 }
 
 pub returns-then-is_some-clause-free : goal.returns-then-is_some-clause-free
@@ -56,7 +59,7 @@ pub invariant_of-self-2 : goal.invariant_of-self-2
 invariant_of-self-2 c =
     let long = c.in_ok-push.ensures.len in
     let grown = c.push.new.self.ok in
-    let held = c.reserve-4.new.self.ok in
+    let held = c.reserve-5.new.self.ok in
     let generations = c.self.inside.generations.ok in
     let used = c.len-used.ensures in
     record {
@@ -64,8 +67,10 @@ invariant_of-self-2 c =
       raised = let r = c.in_ok-reserve.ensures.room in omega arith;
       killed = let r = c.in_ok-reserve-2.ensures.room in omega arith;
       marked = let r = c.in_ok-reserve-3.ensures.room in omega arith;
-      cache = let r = c.in_ok-reserve-4.ensures.ok in omega arith;
+      cache = let r = c.in_ok-reserve-5.ensures.ok in omega arith;
       unmarked = c.in_ok-reserve-3.ensures.ok ∙ c.self.invariant.unmarked;
+      alive_room = let r = c.in_ok-reserve-4.ensures.room in omega arith;
+      alive = subst (MarksLiving c.reserve-4.new.self.members) (sym (pushed c)) (subst (λ s. MarksLiving s (with_next_taken (unopened c))) (sym c.in_ok-reserve-4.ensures.ok) (marks-taken c.self.inside.alive.members (unopened c) c.self.invariant.births (subst (λ (b : Births). IndicesAreSpent b → ⊥) (sym c.self.view_is) c.requires) c.self.invariant.alive));
     }
 
 pub returns-clause-free : goal.returns-clause-free

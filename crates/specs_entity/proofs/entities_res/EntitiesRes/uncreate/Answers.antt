@@ -1,8 +1,9 @@
 use Rattle.std.proofs.Common.{◌≡◌, ◌≤◌, ◌++◌, ◌∷◌, [], length, cond, get_or, None, ap, sym, ◌∙◌, subst, arith, inl, inr}
 use Rattle.std.specs.FinSet as fin
-use Rattle.specs_entity.specs.Births.{Births, persistent_at}
+use Rattle.specs_entity.specs.Births.{Births, MarksLiving, persistent_at}
 use Rattle.specs_entity.specs.Layout.{AreBirths, IsCreated, births_of}
 use Rattle.specs_entity.proofs.CreateLemmas.{some-false, some-true, undo-new, undo-cached, undo-room, used-created, last-there}
+use Rattle.specs_entity.proofs.AliveLemmas.{marks-undone}
 use Rattle.specs_entity.proofs.entities_res.EntitiesRes.uncreate.Goals as goal
 
 -- an index of the cache goes back into it
@@ -23,6 +24,12 @@ module _ (c : goal.After-push) where
       let ok = c.self.inside.cache.ok in
       c.push.ensures.items ∙ ap (λ b. cond b (births.cache ++ c.args.id ∷ []) births.cache) (c.push.ensures.succeeds (omega arith))
 
+  cached-alive : MarksLiving (fin.remove c.self.inside.alive.members c.args.id) c.requires.0
+  cached-alive =
+      let is = held c.requires.0 c.requires.1 in
+      subst (λ i. MarksLiving (fin.remove c.self.inside.alive.members i) c.requires.0) (sym is.named)
+      (marks-undone c.self.inside.alive.members c.requires.0 is.kept is.left (subst (MarksLiving c.self.inside.alive.members) is.run c.self.invariant.alive))
+
   cached-undone : (before : Births) → IsCreated before c.args.id c.args.self.now → record births { fresh = c.remove.new.self.members; cache = c.push.new.self.items } ≡ before
   cached-undone before is =
       ap (λ s. record births { fresh = s; cache = c.push.new.self.items }) c.remove.ensures.members
@@ -36,6 +43,12 @@ module _ (c : goal.After-pop) where
 
   held-new : (before : Births) → IsCreated before c.args.id c.args.self.now → IsCreated before c.args.id unused
   held-new before is = subst (IsCreated before c.args.id) (sym c.self.view_is) is
+
+  new-alive : MarksLiving (fin.remove c.self.inside.alive.members c.args.id) c.requires.0
+  new-alive =
+      let is = held-new c.requires.0 c.requires.1 in
+      subst (λ i. MarksLiving (fin.remove c.self.inside.alive.members i) c.requires.0) (sym is.named)
+      (marks-undone c.self.inside.alive.members c.requires.0 is.kept is.left (subst (MarksLiving c.self.inside.alive.members) is.run c.self.invariant.alive))
 
   unborn : persistent_at unused c.args.id ≡ None
   unborn = sym (c.last_at.ensures ∙ ap (λ xs. get_or xs c.args.id None) c.deref.ensures.value) ∙ some-false c.last_at.result c.if-is_none.ensures
@@ -65,6 +78,8 @@ invariant_of-self-else-is_none c = record {
   marked = c.self.invariant.marked;
   cache = let r = c.push.ensures.capacity in let h = c.self.invariant.cache in omega arith;
   unmarked = c.self.invariant.unmarked;
+  alive_room = let r = c.remove-2.ensures.room in let h = c.self.invariant.alive_room in omega arith;
+  alive = subst (MarksLiving c.remove-2.new.self.members) (sym (cached-undone c c.requires.0 c.requires.1)) (subst (λ s. MarksLiving s c.requires.0) (sym c.remove-2.ensures.members) (cached-alive c));
 }
 
 pub invariant_of-self : goal.invariant_of-self
@@ -80,4 +95,6 @@ invariant_of-self c =
       marked = let h = c.self.invariant.marked in omega arith;
       cache = let h = c.self.invariant.cache in omega arith;
       unmarked = c.self.invariant.unmarked;
+      alive_room = let r = c.remove-2.ensures.room in let h = c.self.invariant.alive_room in omega arith;
+      alive = subst (MarksLiving c.remove-2.new.self.members) (sym (new-undone c c.requires.0 c.requires.1)) (subst (λ s. MarksLiving s c.requires.0) (sym c.remove-2.ensures.members) (new-alive c));
     }

@@ -1,0 +1,4 @@
+pub mod StoreLemmas
+pub mod TakingLemmas
+pub mod ChangeLemmas
+pub mod LawLemmas

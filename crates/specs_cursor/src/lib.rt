@@ -1,0 +1,6 @@
+//! Joins that change parts, by cursors that lend one after the other.
+#![tactic(auto)]
+
+pub mod cursor;
+
+pub use cursor::JoinCursor;

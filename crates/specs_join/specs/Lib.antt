@@ -1,0 +1,3 @@
+pub mod Joins
+pub mod Joining
+pub mod JoinLemmas

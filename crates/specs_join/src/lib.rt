@@ -1,0 +1,9 @@
+//! Joins: what several storages and sets have at the same indices, in ascending order.
+#![tactic(auto)]
+
+pub mod join;
+pub mod laws;
+
+pub use join::and::BitAnd;
+pub use join::iter::JoinIter;
+pub use join::{AntiStorage, Join, MaybeJoin};

@@ -1,0 +1,14 @@
+//! Storages of which parts are read and written, and none is put or taken out.
+#![tactic(auto)]
+
+pub mod cursor;
+mod join;
+pub mod pair;
+pub mod restricted;
+
+pub use cursor::PairCursor;
+pub use pair::PairedStorage;
+pub use restricted::{
+    ImmutableAliasing, ImmutableParallelRestriction, MutableParallelRestriction, Restrict,
+    RestrictMut, RestrictedStorage, SequentialRestriction,
+};

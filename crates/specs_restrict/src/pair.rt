@@ -1,0 +1,97 @@
+//! An index that has a part, with the storage.
+ghost use Rattle.std.specs.Prelude.{◌≡◌, ◌↔◌, Some, IsSome, IsTrue, option_copied, false, IsOk, IfOk, IfErr, IsErrOf};
+ghost use Rattle.std.specs.Borrow.{sem};
+ghost use Rattle.specs_storage.specs.EntryLends.{lends_at};
+ghost use Rattle.specs_storage.specs.Found.{Finds, HasPart};
+ghost use Rattle.specs_storage.specs.declared.storage.LendError.TheVariants as lending;
+
+use crate::restricted::{ImmutableAliasing, SequentialRestriction};
+use hibitset::Index;
+use specs_entity::{EntitiesRes, Entity};
+use specs_storage::{LendError, Loan};
+use specs_store::{Component, MaskedStorage, UnprotectedStorage};
+use std::alloc::AllocError;
+use std::marker::PhantomData;
+
+/// A storage with an index that has a part.
+#[derive(Drop)]
+pub struct PairedStorage<'a, T: Component, D: Loan<T>, R> {
+    pub(crate) entities: &'a EntitiesRes,
+    pub(crate) store: D,
+    pub(crate) index: Index,
+    pub(crate) kind: PhantomData<(T, R)>,
+    ghost there: { IsSome (T.Storage.part_at (D.lent store).inner index) },
+}
+
+impl<'a, T: Component, D: Loan<T>, R> PairedStorage<'a, T, D, R> {
+    /// The part at the index.
+    pub fn get_unchecked(&self) -> &T
+        ensures { T.Storage.part_at (D.lent self.now.store).inner self.now.index ≡ Some result.now }
+    {
+        self.store.storage().get(self.index)
+    }
+}
+
+impl<'a, T: Component, D: Loan<T>, R: ImmutableAliasing> PairedStorage<'a, T, D, R> {
+    /// The part of an entity, or none where the entity isn't alive or has none.
+    pub fn get(&self, entity: Entity) -> Option<&T>
+        ensures { Finds self.now.entities.now (T.Storage.part_at (D.lent self.now.store).inner) entity (option_copied result) }
+    {
+        if self.store.storage().contains(entity.id()) && self.entities.is_alive(entity) {
+            Some(self.store.storage().get(entity.id()))
+        } else {
+            None
+        }
+    }
+}
+
+impl<'a, T: Component> PairedStorage<'a, T, &'a mut MaskedStorage<T>, SequentialRestriction> {
+    ghost use Rattle.specs_restrict.specs.Pairs.{lends_pair};
+
+    /// The part at the index, for writing.
+    ///
+    /// Errors: `AllocError`, where the storage emits, and nothing changed.
+    pub fn get_mut_unchecked(&mut self) -> Result<&mut T, AllocError>
+        ensures* writes_back { sem 𝓛 (lends_pair T.row T.Storage.row self.entry self.old.index result) }
+        ensures value { IfOk result (λ part. T.Storage.part_at self.old.store.now.inner self.old.index ≡ Some part.now) }
+        ensures succeeds { T.Storage.emits self.old.store.now.inner ≡ false → IsOk result }
+    {
+        let index = self.index;
+        self.store.get_mut(index)
+    }
+
+    /// The part of an entity, for writing.
+    ///
+    /// Errors: `Absent` if the entity isn't alive or has no part, and `Memory`, where the storage emits. Nothing changed.
+    pub fn get_mut(&mut self, entity: Entity) -> Result<&mut T, LendError>
+        ensures* writes_back { sem 𝓛 (lends_pair T.row T.Storage.row self.entry entity.id result) }
+        ensures value { IfOk result (λ part. T.Storage.part_at self.old.store.now.inner entity.id ≡ Some part.now) }
+        ensures absent { IsErrOf result lending.Absent ↔ ¬ (HasPart self.old.entities.now (T.Storage.part_at self.old.store.now.inner) entity) }
+        ensures succeeds { T.Storage.emits self.old.store.now.inner ≡ false → HasPart self.old.entities.now (T.Storage.part_at self.old.store.now.inner) entity → IsOk result }
+    {
+        let entities = self.entities;
+        if !has_part(self.store, entities, entity) {
+            return Err(LendError::Absent);
+        }
+        lend_at(self.store, entity.id())
+    }
+}
+
+/// Whether an entity is alive and has a part in a storage.
+fn has_part<T: Component>(store: &MaskedStorage<T>, entities: &EntitiesRes, entity: Entity) -> bool
+    ensures { IsTrue result ↔ HasPart entities.now (T.Storage.part_at store.now.inner) entity }
+{
+    store.contains(entity.id()) && entities.is_alive(entity)
+}
+
+/// The part at an index that has one, for writing.
+fn lend_at<T: Component>(store: &mut MaskedStorage<T>, index: Index) -> Result<&mut T, LendError>
+    requires { IsSome (T.Storage.part_at store.old.inner index) }
+    ensures* writes_back { sem 𝓛 (lends_at T.row T.Storage.row T.Storage.UnprotectedStorage store.entry index result) }
+    ensures value { IfOk result (λ part. T.Storage.part_at store.old.inner index ≡ Some part.now) }
+    ensures memory { IfErr result (λ refusal. refusal ≡ lending.Memory) }
+    ensures succeeds { T.Storage.emits store.old.inner ≡ false → IsOk result }
+{
+    let part = store.get_mut(index)?;
+    Ok(part)
+}

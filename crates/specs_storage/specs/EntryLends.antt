@@ -1,0 +1,119 @@
+-- What a storage ends as, where a part of it, or the place of one, was lent.
+use mir.Syntax.{named}
+use Rattle.std.specs.Prelude.{◌≡◌, ℕ, Bool, true, false, [], Some, is_some, if◌then◌else◌, Result, IsOk, IfErr}
+use Rattle.std.specs.Borrow.{Fml, RattleType, MutBor, LendsIfOk, LendsSoOk, RestsIfErr, follows_if, follows_so, name_if_ok}
+use Rattle.specs_store.specs.Masked.{Masked}
+use Rattle.specs_store.specs.MaskedLends.{StorageMembers}
+use Rattle.specs_store.specs.declared.unprotected.UnprotectedStorage as unprotected
+use Rattle.specs_store.specs.declared.unprotected.TryDefault as try_default
+use Rattle.specs_store.specs.Parts.{Puts, SameParts, told}
+use Rattle.specs_store.specs.declared.track.ComponentEvent.TheVariants as event
+use Rattle.specs_storage.specs.declared.entry.EntryError.{EntryError}
+use Rattle.specs_storage.specs.declared.entry.EntryError.TheVariants.{Refused, NotLent}
+use Rattle.specs_storage.specs.declared.entry.OccupiedEntry.{OccupiedEntry}
+use Rattle.specs_storage.specs.declared.entry.Replaced.{Replaced}
+use Rattle.specs_storage.specs.declared.entry.StorageEntry.{StorageEntry}
+use Rattle.specs_storage.specs.declared.entry.StorageEntry.TheVariants.{Occupied, Vacant}
+use Rattle.specs_storage.specs.contracts.entry.OccupiedEntry as occupied
+use Rattle.specs_storage.specs.StorageLends.{layout_ghosts, default_ghosts, masked_row}
+
+-- the storage with a part at an index
+abbrev pub with_written : {S T : Type 0} → (S → ℕ → T → S) → Masked S → ℕ → T → Masked S
+with_written written m index part = record m { inner = written m.inner index part }
+
+-- the storage has the last part that was written, and where none was lent nothing changed
+abbrev pub lends_at : (T S : RattleType) → StorageMembers S.Denot T.Denot → MutBor (Masked S.Denot) → ℕ → {E : Type 0} → Result (MutBor T.Denot) E → Fml
+lends_at T S g m index r = LendsIfOk (masked_row T S g) T m r (with_written g.written m.now index) m.now
+
+module _ {T S : Type 0} {g : unprotected.Ghosts S T} {d : try_default.Ghosts S} where
+  -- the storage of an entry
+  abbrev pub store_of : StorageEntry T S g d → MutBor (Masked S)
+  store_of (Occupied entry) = entry.store
+  store_of (Vacant entry) = entry.store
+
+  -- the index of an entry
+  abbrev pub id_of : StorageEntry T S g d → ℕ
+  id_of (Occupied entry) = entry.id
+  id_of (Vacant entry) = entry.id
+
+-- where there is no entry, each index has the part that it had, and nothing was told
+abbrev pub rests_if_refused : (T S : RattleType) (g : StorageMembers S.Denot T.Denot) → MutBor (Masked S.Denot) → {E : Type 0} → Result (OccupiedEntry T.Denot S.Denot (layout_ghosts g) (default_ghosts g)) E → Fml
+rests_if_refused T S g m r =
+    RestsIfErr (masked_row T S g) m (λ entry. entry.store.ghost_name) r
+    (λ left. SameParts (g.part_at m.now.inner) (g.part_at left.inner) × (g.events left.inner ≡ g.events m.now.inner) × (g.emits left.inner ≡ g.emits m.now.inner))
+
+-- the parts are those that were left through their entry, and where there is no entry nothing changed
+abbrev pub lends_open : (T S : RattleType) (g : StorageMembers S.Denot T.Denot) → MutBor (Masked S.Denot) → {E : Type 0} → Result (StorageEntry T.Denot S.Denot (layout_ghosts g) (default_ghosts g)) E → Fml
+lends_open T S g m r = follows_if (masked_row T S g) (masked_row T S g) m.ghost_name (name_if_ok (λ entry. (store_of entry).ghost_name) r) (λ left. left) m.now
+
+-- the place is that of the same index, in the same storage, which has the last part that was written
+pub record WritesAt {T S : Type 0} {g : unprotected.Ghosts S T} {d : try_default.Ghosts S} (before : OccupiedEntry T S g d) (part : T) (after : OccupiedEntry T S g d) : Type 0 where
+  pub same_reference : after.store.ghost_name ≡ before.store.ghost_name
+  pub store : after.store.now ≡ with_written g.written before.store.now before.id part
+  pub id : after.id ≡ before.id
+
+-- the place is that of the same index, in the same storage, in which nothing changed
+pub record StaysAt {T S : Type 0} {g : unprotected.Ghosts S T} {d : try_default.Ghosts S} (before after : OccupiedEntry T S g d) : Type 0 where
+  pub same_reference : after.store.ghost_name ≡ before.store.ghost_name
+  pub store : after.store.now ≡ before.store.now
+  pub id : after.id ≡ before.id
+
+-- the place has the last part that was written, and where none was lent it stays; the lifetime of its type is the second of the signature
+abbrev pub lends_there : (T S : RattleType) {g : unprotected.Ghosts S.Denot T.Denot} {d : try_default.Ghosts S.Denot} → MutBor (OccupiedEntry T.Denot S.Denot g d) → {E : Type 0} → Result (MutBor T.Denot) E → Fml
+lends_there T S {g} {d} m r = LendsSoOk (occupied.the_row (record { mir = named 1; lft = [] }) T S g d) T m r (λ after part. WritesAt m.now part after) (StaysAt m.now)
+
+module _ {S T : Type 0} (g : StorageMembers S T) (before : Masked S) (index : ℕ) where
+  -- a part was put at an index that had none, and then lent
+  pub record IsFilled (part : T) (after : Masked S) : Type 0 where
+    pub parts : Puts (g.part_at before.inner) index (Some part) (g.part_at after.inner)
+    pub events : g.events after.inner ≡ told (g.emits before.inner) (told (g.emits before.inner) (g.events before.inner) (event.Inserted index)) (event.Modified index)
+    pub emission : g.emits after.inner ≡ g.emits before.inner
+
+  -- a part was put at an index that had none
+  pub record IsPut (part : T) (after : Masked S) : Type 0 where
+    pub parts : Puts (g.part_at before.inner) index (Some part) (g.part_at after.inner)
+    pub events : g.events after.inner ≡ told (g.emits before.inner) (g.events before.inner) (event.Inserted index)
+    pub emission : g.emits after.inner ≡ g.emits before.inner
+
+  -- each index has the part that it had, and nothing was told
+  pub record IsLeft (after : Masked S) : Type 0 where
+    pub parts : SameParts (g.part_at before.inner) (g.part_at after.inner)
+    pub events : g.events after.inner ≡ g.events before.inner
+    pub emission : g.emits after.inner ≡ g.emits before.inner
+
+  -- what a refusal leaves: a part that wasn't put changed nothing, and one that isn't lent is there
+  abbrev pub left_by : T → EntryError T → Masked S → Type 0
+  left_by part (Refused value) after = IsLeft after
+  left_by part NotLent after = IsPut part after
+
+-- the storage has the last part that was written, or what the refusal leaves
+abbrev pub lends_put : (T S : RattleType) → StorageMembers S.Denot T.Denot → MutBor (Masked S.Denot) → ℕ → T.Denot → Result (MutBor T.Denot) (EntryError T.Denot) → Fml
+lends_put T S g m index part r =
+    follows_so (masked_row T S g) T m.ghost_name (name_if_ok (λ lent. lent.ghost_name) r) (λ last after. IsOk r → IsFilled g m.now index last after) (λ after. IfErr r (λ refused. left_by g m.now index part refused after))
+
+module _ {S T : Type 0} (g : StorageMembers S T) (before : Masked S) (index : ℕ) where
+  -- an index has the part that was lent last, which was put first where none was there
+  pub record IsSettled (part : T) (after : Masked S) : Type 0 where
+    pub parts : Puts (g.part_at before.inner) index (Some part) (g.part_at after.inner)
+    pub events : g.events after.inner ≡ told (g.emits before.inner) (if is_some (g.part_at before.inner index) then g.events before.inner else told (g.emits before.inner) (g.events before.inner) (event.Inserted index)) (event.Modified index)
+    pub emission : g.emits after.inner ≡ g.emits before.inner
+
+  -- what is left where a part isn't lent: nothing changed if it was there before, and else one that was made is there
+  abbrev pub unlent_by : (T → Type 0) → Bool → Masked S → Type 0
+  unlent_by made true after = IsLeft g before index after
+  unlent_by made false after = (part : T) × made part × IsPut g before index part after
+
+  -- what a refusal leaves
+  abbrev pub unsettled_by : (T → Type 0) → EntryError T → Masked S → Type 0
+  unsettled_by made (Refused part) after = IsLeft g before index after
+  unsettled_by made NotLent after = unlent_by made (is_some (g.part_at before.inner index)) after
+
+-- the storage has the last part that was written, or what the refusal leaves
+abbrev pub lends_or : (T S : RattleType) → StorageMembers S.Denot T.Denot → MutBor (Masked S.Denot) → ℕ → (T.Denot → Type 0) → Result (MutBor T.Denot) (EntryError T.Denot) → Fml
+lends_or T S g m index made r =
+    follows_so (masked_row T S g) T m.ghost_name (name_if_ok (λ lent. lent.ghost_name) r) (λ last after. IsOk r → IsSettled g m.now index last after) (λ after. IfErr r (λ refused. unsettled_by g m.now index made refused after))
+
+-- the storage is that of the place that was settled, or what the refusal leaves
+abbrev pub rests_unsettled : (T S : RattleType) (g : StorageMembers S.Denot T.Denot) → MutBor (Masked S.Denot) → ℕ → T.Denot → Result (Replaced T.Denot S.Denot (layout_ghosts g) (default_ghosts g)) (EntryError T.Denot) → Fml
+rests_unsettled T S g m index part r =
+    follows_so (masked_row T S g) (masked_row T S g) m.ghost_name (name_if_ok (λ done. done.entry.store.ghost_name) r) (λ last after. IsOk r → after ≡ last) (λ after. IfErr r (λ refused. unsettled_by g m.now index (λ put. put ≡ part) refused after))

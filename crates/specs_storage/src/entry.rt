@@ -1,0 +1,79 @@
+//! The place of an entity's part, with a part or without.
+ghost use Rattle.std.specs.Prelude.{◌≡◌, ◌<◌, IsSome, is_some, false};
+
+mod fill;
+mod occupied;
+mod open;
+mod replace;
+mod vacant;
+
+use hibitset::Index;
+use specs_store::{Component, MaskedStorage, UnprotectedStorage};
+use std::alloc::{AllocError, AllocFailed};
+
+/// The place of a part that is there.
+#[derive(Drop)]
+pub struct OccupiedEntry<'a, T: Component> {
+    /// The storage.
+    pub store: &'a mut MaskedStorage<T>,
+    id: Index,
+    ghost there: { IsSome (T.Storage.part_at store.now.inner id) },
+    ghost range: { id < 16777216 },
+}
+
+/// The place of a part that isn't there.
+#[derive(Drop)]
+pub struct VacantEntry<'a, T: Component> {
+    /// The storage.
+    pub store: &'a mut MaskedStorage<T>,
+    id: Index,
+    ghost lacking: { is_some (T.Storage.part_at store.now.inner id) ≡ false },
+    ghost range: { id < 16777216 },
+}
+
+/// The place of an entity's part.
+#[derive(Drop)]
+pub enum StorageEntry<'a, T: Component> {
+    /// The part is there.
+    Occupied(OccupiedEntry<'a, T>),
+    /// The part isn't there.
+    Vacant(VacantEntry<'a, T>),
+}
+
+/// The place of a part that was put, with the part that was there before.
+#[derive(Drop)]
+pub struct Replaced<'a, T: Component> {
+    /// The part that was there, or none.
+    pub old: Option<T>,
+    /// The place of the part that was put.
+    pub entry: OccupiedEntry<'a, T>,
+}
+
+/// Why a place doesn't lend its part for writing.
+#[derive(Debug, Drop)]
+pub enum EntryError<T> {
+    /// There was no memory to put this part there.
+    Refused(T),
+    /// The part is there, and there was no memory to tell that it is lent.
+    NotLent,
+}
+
+impl<T> From<AllocError> for EntryError<T> {
+    ghost use Rattle.specs_storage.specs.declared.entry.EntryError.TheVariants as variant;
+
+    ghost from_gives = { λ _ error. error ≡ variant.NotLent };
+
+    fn from(_refusal: AllocError) -> EntryError<T> {
+        EntryError::NotLent
+    }
+}
+
+impl<T> From<AllocFailed<T>> for EntryError<T> {
+    ghost use Rattle.specs_storage.specs.declared.entry.EntryError.TheVariants as variant;
+
+    ghost from_gives = { λ refused error. error ≡ variant.Refused refused.value };
+
+    fn from(refused: AllocFailed<T>) -> EntryError<T> {
+        EntryError::Refused(refused.value)
+    }
+}

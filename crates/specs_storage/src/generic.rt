@@ -1,0 +1,133 @@
+//! Storages behind a trait, for callers that take any.
+ghost use Rattle.std.specs.Prelude.{◌≡◌, ◌↔◌, ℕ, Option, Some, None, IsSome, option_copied, IfOk, IfErr, IsErrOf, OnOk, OnErr};
+ghost use Rattle.std.specs.Borrow.{sem, LendsIfOk, LendsSoOk};
+ghost use Rattle.std.specs.Option.{UnwrapsOrElse};
+ghost use Rattle.specs_store.specs.Parts.{Puts, SameParts};
+ghost use Rattle.specs_entity.specs.Births.{Births, IsAlive};
+ghost use Rattle.specs_storage.specs.Found.{Finds, HasPart, LeavesOrPuts, RefusesInsert};
+ghost use Rattle.specs_storage.specs.declared.storage.LendError.TheVariants as lending;
+
+use crate::loan::Loan;
+use crate::storage::{InsertResult, LendError, Storage};
+use specs_entity::Entity;
+use specs_store::{Component, MaskedStorage, UnprotectedStorage};
+use std::alloc::AllocError;
+
+/// A storage that is lent for reading.
+pub trait GenericReadStorage {
+    /// The parts.
+    type Component;
+
+    /// The births of the entities.
+    ghost births: { Self → Births };
+
+    /// The part at each index.
+    ghost parts: { Self → ℕ → Option Self.Component };
+
+    /// The part of an entity, or none where the entity isn't alive or has none.
+    fn get(&self, entity: Entity) -> Option<&Self::Component>
+        ensures { Finds (births self.now) (parts self.now) entity (option_copied result) };
+}
+
+impl<'e, T: Component, D: Loan<T>> GenericReadStorage for Storage<'e, T, D> {
+    type Component = T;
+
+    ghost births = { λ s. s.entities.now };
+
+    ghost parts = { λ s. T.Storage.part_at (D.lent s.store).inner };
+
+    fn get(&self, entity: Entity) -> Option<&T> {
+        Storage::get(self, entity)
+    }
+}
+
+/// A storage that is lent for writing.
+pub trait GenericWriteStorage: GenericReadStorage {
+    /// The storage after a part was written at an index through what `get_mut` lent.
+    ghost written: { Self → ℕ → Self.Component → Self };
+
+    /// The part of an entity for writing.
+    ///
+    /// Errors: those of `Storage::get_mut`.
+    fn get_mut(&mut self, entity: Entity) -> Result<&mut Self::Component, LendError>
+        ensures* writes_back { sem 𝓛 (LendsIfOk Self.row Self.Component.row self.entry result (written self.old entity.id) self.old) }
+        ensures value { IfOk result (λ part. Self.parts self.old entity.id ≡ Some part.now) }
+        ensures absent { IsErrOf result lending.Absent ↔ ¬ (HasPart (Self.births self.old) (Self.parts self.old) entity) };
+
+    /// The part of an entity for writing, which is put by default where the entity has none.
+    ///
+    /// Errors: `Absent` if the entity isn't alive, and `Memory`; then each index has the part that it had, but for a
+    /// default that was put and, where the storage emits, isn't lent.
+    fn get_mut_or_default(&mut self, entity: Entity) -> Result<&mut Self::Component, LendError>
+    where
+        Self::Component: Default,
+        ensures* writes_back { sem 𝓛 (LendsSoOk Self.row Self.Component.row self.entry result
+            (λ after part. Puts (Self.parts self.old) entity.id (Some part) (Self.parts after) × (Self.births after ≡ Self.births self.old))
+            (λ after. LeavesOrPuts Self.Component.is_default (Self.parts self.old) entity.id (Self.parts after) × (Self.births after ≡ Self.births self.old))) }
+        ensures value { IfOk result (λ part. UnwrapsOrElse (Self.parts self.old entity.id) Self.Component.is_default part.now) }
+        ensures absent { IsErrOf result lending.Absent ↔ ¬ (IsAlive (Self.births self.old) entity) };
+
+    /// Puts `part` at an entity, and answers the part that it had.
+    ///
+    /// Errors: those of `Storage::insert`.
+    fn insert(&mut self, entity: Entity, part: Self::Component) -> InsertResult<Self::Component>
+        ensures value { IfOk result (λ old. old ≡ Self.parts self.old entity.id) }
+        ensures ok { OnOk result (Puts (Self.parts self.old) entity.id (Some part) (Self.parts self.new)) }
+        ensures err { OnErr result (SameParts (Self.parts self.old) (Self.parts self.new)) }
+        ensures handed_back { IfErr result (λ refused. refused.1 ≡ part) }
+        ensures alive { OnOk result (IsAlive (Self.births self.old) entity) }
+        ensures refused { IfErr result (λ refused. RefusesInsert (Self.births self.old) entity refused.0) }
+        ensures births { Self.births self.new ≡ Self.births self.old };
+
+    /// Takes out the part of an entity, or answers none where the entity isn't alive or has none.
+    ///
+    /// Errors: those of `Storage::remove`.
+    fn remove(&mut self, entity: Entity) -> Result<Option<Self::Component>, AllocError>
+        ensures value { IfOk result (Finds (Self.births self.old) (Self.parts self.old) entity) }
+        ensures ok { OnOk result (IsAlive (Self.births self.old) entity → Puts (Self.parts self.old) entity.id None (Self.parts self.new)) }
+        ensures dead { ¬ (IsAlive (Self.births self.old) entity) → SameParts (Self.parts self.old) (Self.parts self.new) }
+        ensures err { OnErr result (SameParts (Self.parts self.old) (Self.parts self.new)) }
+        ensures births { Self.births self.new ≡ Self.births self.old };
+
+    /// What was written is there, and no other part changed.
+    ghost written_puts: { (s : Self) (index : ℕ) (part : Self.Component) → IsSome (Self.parts s index) → Puts (Self.parts s) index (Some part) (Self.parts (written s index part)) };
+
+    /// Writing leaves the entities.
+    ghost written_leaves: { (s : Self) (index : ℕ) (part : Self.Component) → Self.births (written s index part) ≡ Self.births s };
+}
+
+impl<'e, T: Component> GenericWriteStorage for Storage<'e, T, &'e mut MaskedStorage<T>> {
+    ghost use Rattle.std.specs.Prelude.{refl};
+    ghost use Rattle.specs_storage.specs.StorageLends.{with_part};
+
+    ghost written = { with_part T.Storage.written };
+
+    fn get_mut(&mut self, entity: Entity) -> Result<&mut T, LendError> {
+        Storage::get_mut(self, entity)
+    }
+
+    fn get_mut_or_default(&mut self, entity: Entity) -> Result<&mut T, LendError>
+    where
+        T: Default,
+    {
+        if !self.entities.is_alive(entity) {
+            return Err(LendError::Absent);
+        }
+        if !self.contains(entity) && Storage::insert(self, entity, T::default()).is_err() {
+            return Err(LendError::Memory);
+        }
+        self.get_mut(entity)
+    }
+
+    fn insert(&mut self, entity: Entity, part: T) -> InsertResult<T> {
+        Storage::insert(self, entity, part)
+    }
+
+    fn remove(&mut self, entity: Entity) -> Result<Option<T>, AllocError> {
+        Storage::remove(self, entity)
+    }
+
+    ghost written_puts = { λ s index part there. T.Storage.written_puts s.store.now.inner index part there };
+
+    ghost written_leaves = { λ s index part. refl };
+}

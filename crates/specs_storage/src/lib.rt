@@ -1,0 +1,15 @@
+//! Storages lent together with the entities: what is reached by an entity is reached only while it lives.
+#![tactic(auto)]
+
+pub mod drain;
+pub mod entry;
+pub mod generic;
+mod joins;
+pub mod loan;
+pub mod storage;
+
+pub use drain::Drain;
+pub use entry::{EntryError, OccupiedEntry, Replaced, StorageEntry, VacantEntry};
+pub use generic::{GenericReadStorage, GenericWriteStorage};
+pub use loan::Loan;
+pub use storage::{InsertResult, LendError, ReadStorage, Storage, WriteStorage};
