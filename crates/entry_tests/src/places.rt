@@ -1,6 +1,6 @@
 //! Places whose part is put, replaced, lent and raised.
 use specs_entity::{EntitiesRes, Entity};
-use specs_storage::{Replaced, StorageEntry};
+use specs_storage::{Replaced, Storage, StorageEntry, WriteStorage};
 use specs_store::{Component, DenseVecStorage, MaskedStorage, TryDefault};
 use std::alloc::Global;
 
@@ -20,12 +20,11 @@ pub fn scores(alloc: Global) -> MaskedStorage<Score> {
 /// Puts a number at an entity's place, and answers the one that was there; none where the place isn't found or there is no
 /// memory.
 fn replaced(
-    parts: &mut MaskedStorage<Score>,
-    entities: &EntitiesRes,
+    storage: &mut WriteStorage<'_, Score>,
     entity: Entity,
     number: u32,
 ) -> Option<Option<u32>> {
-    let Ok(place) = StorageEntry::find(parts, entities, entity) else {
+    let Ok(place) = storage.entry(entity).open() else {
         return None;
     };
     match place.replace(Score(number)) {
@@ -40,22 +39,15 @@ fn replace_answers_what_was_there(rt: HostRuntime) {
     assert!(rt; entities.allocate().is_ok());
     let one = entities.entity(0);
     let mut parts = scores(rt.alloc());
-    assert_eq!(rt; replaced(&mut parts, &entities, one, 1337), Some(None));
-    assert_eq!(rt;
-        replaced(&mut parts, &entities, one, 9001),
-        Some(Some(1337))
-    );
-    assert_eq!(rt; replaced(&mut parts, &entities, one, 1), Some(Some(9001)));
+    let mut storage = Storage::new(&entities, &mut parts);
+    assert_eq!(rt; replaced(&mut storage, one, 1337), Some(None));
+    assert_eq!(rt; replaced(&mut storage, one, 9001), Some(Some(1337)));
+    assert_eq!(rt; replaced(&mut storage, one, 1), Some(Some(9001)));
 }
 
 /// The double of the number at an entity's place, which is put first where none was there.
-fn doubled(
-    parts: &mut MaskedStorage<Score>,
-    entities: &EntitiesRes,
-    entity: Entity,
-    number: u32,
-) -> Option<u32> {
-    let Ok(place) = StorageEntry::find(parts, entities, entity) else {
+fn doubled(storage: &mut WriteStorage<'_, Score>, entity: Entity, number: u32) -> Option<u32> {
+    let Ok(place) = storage.entry(entity).open() else {
         return None;
     };
     match place.or_insert(Score(number)) {
@@ -68,13 +60,8 @@ fn doubled(
 }
 
 /// The number at an entity's place, which a closure gives where none was there.
-fn made(
-    parts: &mut MaskedStorage<Score>,
-    entities: &EntitiesRes,
-    entity: Entity,
-    number: u32,
-) -> Option<u32> {
-    let Ok(place) = StorageEntry::find(parts, entities, entity) else {
+fn made(storage: &mut WriteStorage<'_, Score>, entity: Entity, number: u32) -> Option<u32> {
+    let Ok(place) = storage.entry(entity).open() else {
         return None;
     };
     match place.or_insert_with(|| Score(number)) {
@@ -90,15 +77,16 @@ fn a_part_is_put_only_where_none_is(rt: HostRuntime) {
     let one = entities.entity(0);
     let other = entities.entity(1);
     let mut parts = scores(rt.alloc());
-    assert_eq!(rt; doubled(&mut parts, &entities, one, 5), Some(10));
-    assert_eq!(rt; doubled(&mut parts, &entities, one, 7), Some(20));
-    assert_eq!(rt; made(&mut parts, &entities, one, 3), Some(20));
-    assert_eq!(rt; made(&mut parts, &entities, other, 3), Some(3));
+    let mut storage = Storage::new(&entities, &mut parts);
+    assert_eq!(rt; doubled(&mut storage, one, 5), Some(10));
+    assert_eq!(rt; doubled(&mut storage, one, 7), Some(20));
+    assert_eq!(rt; made(&mut storage, one, 3), Some(20));
+    assert_eq!(rt; made(&mut storage, other, 3), Some(3));
 }
 
 /// Raises the number at an entity's place by one, or puts 8 where none was there and makes it 9; answers what is there then.
-fn raised(parts: &mut MaskedStorage<Score>, entities: &EntitiesRes, entity: Entity) -> Option<u32> {
-    match StorageEntry::find(parts, entities, entity) {
+fn raised(storage: &mut WriteStorage<'_, Score>, entity: Entity) -> Option<u32> {
+    match storage.entry(entity).open() {
         Ok(StorageEntry::Occupied(mut place)) => {
             if let Ok(score) = place.get_mut() {
                 score.0 = score.0.wrapping_add(1);
@@ -123,7 +111,8 @@ fn places_lend_their_part(rt: HostRuntime) {
     let one = entities.entity(0);
     let nobody = entities.entity(1);
     let mut parts = scores(rt.alloc());
-    assert_eq!(rt; raised(&mut parts, &entities, nobody), None);
-    assert_eq!(rt; raised(&mut parts, &entities, one), Some(9));
-    assert_eq!(rt; raised(&mut parts, &entities, one), Some(10));
+    let mut storage = Storage::new(&entities, &mut parts);
+    assert_eq!(rt; raised(&mut storage, nobody), None);
+    assert_eq!(rt; raised(&mut storage, one), Some(9));
+    assert_eq!(rt; raised(&mut storage, one), Some(10));
 }

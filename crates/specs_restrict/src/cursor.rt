@@ -1,19 +1,19 @@
 //! A walk over the parts of a storage, which lends one pair after the other.
 ghost use mir.Syntax.{named};
-ghost use Rattle.std.specs.Prelude.{◌≡◌, ℕ, ◌<◌, ◌&&◌, [], ◌∷◌, true, false, Some, is_some, IsSome, IsTrue};
-ghost use Rattle.std.specs.Borrow.{sem, Lends};
+ghost use Rattle.std.specs.Prelude.{◌≡◌, ℕ, ◌<◌, ◌&&◌, [], ◌∷◌, true, false, Some, is_some, unwrap_or, IsSome, IsTrue, IsOk, IfOk};
+ghost use Rattle.std.specs.Borrow.{sem, Lends, LendsIfOk};
 ghost use Rattle.hibitset_sets.specs.BitSet.{has_member};
 ghost use Rattle.hibitset_sets.specs.Walk.{walk};
 ghost use Rattle.specs_cursor.specs.Cursor.{left_in, IsReady, IsAt};
 ghost use Rattle.specs_storage.specs.StorageLends.{masked_row};
 
-use crate::pair::PairedStorage;
-use crate::restricted::{RestrictedStorage, SequentialRestriction};
+use crate::pair::PairedStorageMut;
+use crate::restricted::{RestrictedStorageMut, SequentialRestriction};
 use hibitset::{BitIter, BitSetAnd, BitSetLike, Index, Uncounted};
 use specs_entity::EntitiesRes;
 use specs_join::Join;
-use specs_store::{Component, MaskedStorage};
-use std::marker::PhantomData;
+use specs_store::{Component, MaskedStorage, UnprotectedStorage};
+use std::alloc::AllocError;
 
 /// A walk over the indices that a storage and a join share, which lends the storage at each index beside the join's item.
 #[derive(Drop)]
@@ -27,7 +27,7 @@ pub struct PairCursor<'a, T: Component, R: Join> {
     index: Option<Index>,
 }
 
-impl<'a, T: Component> RestrictedStorage<'a, T, &'a mut MaskedStorage<T>, SequentialRestriction> {
+impl<'a, T: Component> RestrictedStorageMut<'a, T, SequentialRestriction> {
     /// A cursor before the first index that the storage and the join share.
     pub fn cursor<R: Join>(self, read: R) -> PairCursor<'a, T, R>
         ensures same_reference { result.store.ghost_name ≡ self.entry.store.ghost_name }
@@ -38,7 +38,7 @@ impl<'a, T: Component> RestrictedStorage<'a, T, &'a mut MaskedStorage<T>, Sequen
         ensures values { (index : ℕ) → index < 16777216 → IsSome (R.joins read index) → R.value_at result.values index ≡ R.joins read index }
         ensures ready { IsReady R.Mask.members R.value_at result.store.now.mask result.mask result.values result.masks result.prefix }
     {
-        let RestrictedStorage {
+        let RestrictedStorageMut {
             entities,
             store,
             ..
@@ -99,7 +99,7 @@ impl<'a, T: Component, R: Join> PairCursor<'a, T, R> {
     }
 
     /// The storage at the index, whose part can be read and written.
-    pub fn pair(&mut self) -> PairedStorage<'_, T, &mut MaskedStorage<T>, SequentialRestriction>
+    pub fn pair(&mut self) -> PairedStorageMut<'_, T>
         requires { (index : ℕ) × (self.old.index ≡ Some index) × IsAt R.value_at self.old.store.now.mask self.old.values index }
         ensures* writes_back { sem 𝓛 (Lends (the_row (record { mir = named 1; lft = [] }) T.row R.row T.Storage.row R.Type.row R.Shown.row R.Value.row R.Mask.row
             (record { part_at = T.Storage.part_at; written = T.Storage.written; events = T.Storage.events; emits = T.Storage.emits; has_room = T.Storage.has_room })
@@ -113,11 +113,29 @@ impl<'a, T: Component, R: Join> PairCursor<'a, T, R> {
             unreachable!()
         };
         let _mask = self.store.mask();
-        PairedStorage {
+        PairedStorageMut {
             entities: self.entities,
             store: self.store,
             index,
-            kind: PhantomData,
         }
+    }
+
+    /// The storage's part at the index, for writing.
+    ///
+    /// Errors: `AllocError`, where the storage emits, and nothing changed.
+    pub fn values(&mut self) -> Result<&mut T, AllocError>
+        requires { (index : ℕ) × (self.old.index ≡ Some index) × IsAt R.value_at self.old.store.now.mask self.old.values index }
+        ensures* writes_back { sem 𝓛 (LendsIfOk (the_row (record { mir = named 1; lft = [] }) T.row R.row T.Storage.row R.Type.row R.Shown.row R.Value.row R.Mask.row
+            (record { part_at = T.Storage.part_at; written = T.Storage.written; events = T.Storage.events; emits = T.Storage.emits; has_room = T.Storage.has_room })
+            (record { is_default = T.Storage.is_default; always = T.Storage.always })) T.row self.entry result
+            (λ part. record self.old { store = record self.old.store { now = record self.old.store.now { inner = T.Storage.written self.old.store.now.inner (unwrap_or self.old.index 0) part } } }) self.old) }
+        ensures part { IfOk result (λ part. (index : ℕ) → self.old.index ≡ Some index → T.Storage.part_at self.old.store.now.inner index ≡ Some part.now) }
+        ensures succeeds { T.Storage.emits self.old.store.now.inner ≡ false → IsOk result }
+    {
+        let Some(place) = self.index else {
+            unreachable!()
+        };
+        let _mask = self.store.mask();
+        self.store.get_mut(place)
     }
 }

@@ -1,18 +1,19 @@
 //! Restricted storages join by their pairs.
+ghost use Rattle.std.specs.Prelude.{◌≡◌, IsSome};
+
 use crate::pair::PairedStorage;
-use crate::restricted::RestrictedStorage;
+use crate::restricted::{RestrictedStorage, RestrictedStorageMut};
 use hibitset::{BitSet, Index};
 use specs_entity::EntitiesRes;
 use specs_join::Join;
-use specs_storage::Loan;
 use specs_store::{Component, MaskedStorage, UnprotectedStorage};
 use std::marker::PhantomData;
 
-impl<'a, 'e, T: Component + 'a, D: Loan<T> + 'a, R: 'a> Join for &'a RestrictedStorage<'e, T, D, R>
+impl<'a, 'e, T: Component + 'a, R: 'a> Join for &'a RestrictedStorage<'e, T, R>
 where
     T::Storage: 'a,
 {
-    type Type = PairedStorage<'a, T, &'a MaskedStorage<T>, R>;
+    type Type = PairedStorage<'a, T, R>;
 
     type Shown = (EntitiesRes, MaskedStorage<T>, Index);
 
@@ -25,34 +26,88 @@ where
 
     ghost show = { λ pair. (pair.entities.now, pair.store.now, pair.index) };
 
-    ghost joins = { λ storage. shown_at T.Storage.part_at storage.now.entities.now (D.lent storage.now.store) };
+    ghost joins = { λ storage. shown_at T.Storage.part_at storage.now.entities.now storage.now.store.now };
 
-    ghost opens = { λ storage mask. mask.now ≡ (D.lent storage.now.store).mask };
+    ghost opens = { λ storage mask. mask.now ≡ storage.now.store.now.mask };
 
     ghost unconstrained = { false };
 
     ghost value_at = { λ values. shown_at T.Storage.part_at values.0.now values.1.now };
 
     fn open(self) -> (&'a BitSet, (&'a EntitiesRes, &'a MaskedStorage<T>)) {
-        let store = self.store.storage();
+        let store: &'a MaskedStorage<T> = self.store;
         (store.mask(), (self.entities, store))
     }
 
     fn get(
         values: &(&'a EntitiesRes, &'a MaskedStorage<T>),
         index: Index,
-    ) -> PairedStorage<'a, T, &'a MaskedStorage<T>, R> {
-        let entities: &'a EntitiesRes = values.0;
-        let store: &'a MaskedStorage<T> = values.1;
-        PairedStorage {
-            entities,
-            store,
-            index,
-            kind: PhantomData,
-        }
+    ) -> PairedStorage<'a, T, R> {
+        pair_at(values.0, values.1, index)
     }
 
     fn is_unconstrained() -> bool {
         false
+    }
+}
+
+impl<'a, 'e, T: Component + 'a, R: 'a> Join for &'a RestrictedStorageMut<'e, T, R>
+where
+    T::Storage: 'a,
+{
+    type Type = PairedStorage<'a, T, R>;
+
+    type Shown = (EntitiesRes, MaskedStorage<T>, Index);
+
+    type Value = (&'a EntitiesRes, &'a MaskedStorage<T>);
+
+    type Mask = &'a BitSet;
+
+    ghost use Rattle.std.specs.Prelude.{◌≡◌, false};
+    ghost use Rattle.specs_restrict.specs.Pairs.{shown_at};
+
+    ghost show = { λ pair. (pair.entities.now, pair.store.now, pair.index) };
+
+    ghost joins = { λ storage. shown_at T.Storage.part_at storage.now.entities.now storage.now.store.now };
+
+    ghost opens = { λ storage mask. mask.now ≡ storage.now.store.now.mask };
+
+    ghost unconstrained = { false };
+
+    ghost value_at = { λ values. shown_at T.Storage.part_at values.0.now values.1.now };
+
+    fn open(self) -> (&'a BitSet, (&'a EntitiesRes, &'a MaskedStorage<T>)) {
+        let store: &'a MaskedStorage<T> = self.store;
+        (store.mask(), (self.entities, store))
+    }
+
+    fn get(
+        values: &(&'a EntitiesRes, &'a MaskedStorage<T>),
+        index: Index,
+    ) -> PairedStorage<'a, T, R> {
+        pair_at(values.0, values.1, index)
+    }
+
+    fn is_unconstrained() -> bool {
+        false
+    }
+}
+
+/// The pair at an index that has a part.
+fn pair_at<'a, T: Component, R>(
+    entities: &'a EntitiesRes,
+    store: &'a MaskedStorage<T>,
+    index: Index,
+) -> PairedStorage<'a, T, R>
+    requires { IsSome (T.Storage.part_at store.now.inner index) }
+    ensures entities { result.entities.now ≡ entities.now }
+    ensures store { result.store.now ≡ store.now }
+    ensures index { result.index ≡ index }
+{
+    PairedStorage {
+        entities,
+        store,
+        index,
+        kind: PhantomData,
     }
 }

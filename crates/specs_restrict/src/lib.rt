@@ -7,8 +7,8 @@ pub mod pair;
 pub mod restricted;
 
 pub use cursor::PairCursor;
-pub use pair::PairedStorage;
+pub use pair::{PairedStorage, PairedStorageMut};
 pub use restricted::{
     ImmutableAliasing, ImmutableParallelRestriction, MutableParallelRestriction, Restrict,
-    RestrictMut, RestrictedStorage, SequentialRestriction,
+    RestrictMut, RestrictedStorage, RestrictedStorageMut, SequentialRestriction,
 };

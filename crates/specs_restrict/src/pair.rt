@@ -5,48 +5,69 @@ ghost use Rattle.specs_storage.specs.EntryLends.{lends_at};
 ghost use Rattle.specs_storage.specs.Found.{Finds, HasPart};
 ghost use Rattle.specs_storage.specs.declared.storage.LendError.TheVariants as lending;
 
-use crate::restricted::{ImmutableAliasing, SequentialRestriction};
+use crate::restricted::ImmutableAliasing;
 use hibitset::Index;
 use specs_entity::{EntitiesRes, Entity};
-use specs_storage::{LendError, Loan};
+use specs_storage::LendError;
 use specs_store::{Component, MaskedStorage, UnprotectedStorage};
 use std::alloc::AllocError;
 use std::marker::PhantomData;
 
-/// A storage with an index that has a part.
+/// A storage with an index that has a part, for reading.
 #[derive(Drop)]
-pub struct PairedStorage<'a, T: Component, D: Loan<T>, R> {
+pub struct PairedStorage<'a, T: Component, R> {
     pub(crate) entities: &'a EntitiesRes,
-    pub(crate) store: D,
+    pub(crate) store: &'a MaskedStorage<T>,
     pub(crate) index: Index,
-    pub(crate) kind: PhantomData<(T, R)>,
-    ghost there: { IsSome (T.Storage.part_at (D.lent store).inner index) },
+    pub(crate) kind: PhantomData<R>,
+    ghost there: { IsSome (T.Storage.part_at store.now.inner index) },
 }
 
-impl<'a, T: Component, D: Loan<T>, R> PairedStorage<'a, T, D, R> {
+/// A storage with an index that has a part, for reading and writing by one caller.
+#[derive(Drop)]
+pub struct PairedStorageMut<'a, T: Component> {
+    pub(crate) entities: &'a EntitiesRes,
+    pub(crate) store: &'a mut MaskedStorage<T>,
+    pub(crate) index: Index,
+    ghost there: { IsSome (T.Storage.part_at store.now.inner index) },
+}
+
+impl<'a, T: Component, R> PairedStorage<'a, T, R> {
     /// The part at the index.
     pub fn get_unchecked(&self) -> &T
-        ensures { T.Storage.part_at (D.lent self.now.store).inner self.now.index ≡ Some result.now }
+        ensures { T.Storage.part_at self.now.store.now.inner self.now.index ≡ Some result.now }
     {
-        self.store.storage().get(self.index)
+        self.store.get(self.index)
     }
 }
 
-impl<'a, T: Component, D: Loan<T>, R: ImmutableAliasing> PairedStorage<'a, T, D, R> {
+impl<'a, T: Component, R: ImmutableAliasing> PairedStorage<'a, T, R> {
     /// The part of an entity, or none where the entity isn't alive or has none.
     pub fn get(&self, entity: Entity) -> Option<&T>
-        ensures { Finds self.now.entities.now (T.Storage.part_at (D.lent self.now.store).inner) entity (option_copied result) }
+        ensures { Finds self.now.entities.now (T.Storage.part_at self.now.store.now.inner) entity (option_copied result) }
     {
-        if self.store.storage().contains(entity.id()) && self.entities.is_alive(entity) {
-            Some(self.store.storage().get(entity.id()))
-        } else {
-            None
-        }
+        part_of(self.store, self.entities, entity)
     }
 }
 
-impl<'a, T: Component> PairedStorage<'a, T, &'a mut MaskedStorage<T>, SequentialRestriction> {
+impl<'a, T: Component> PairedStorageMut<'a, T> {
     ghost use Rattle.specs_restrict.specs.Pairs.{lends_pair};
+
+    /// The part at the index.
+    pub fn get_unchecked(&self) -> &T
+        ensures { T.Storage.part_at self.now.store.now.inner self.now.index ≡ Some result.now }
+    {
+        let index = self.index;
+        self.store.get(index)
+    }
+
+    /// The part of an entity, or none where the entity isn't alive or has none.
+    pub fn get(&self, entity: Entity) -> Option<&T>
+        ensures { Finds self.now.entities.now (T.Storage.part_at self.now.store.now.inner) entity (option_copied result) }
+    {
+        let entities = self.entities;
+        part_of(self.store, entities, entity)
+    }
 
     /// The part at the index, for writing.
     ///
@@ -74,6 +95,21 @@ impl<'a, T: Component> PairedStorage<'a, T, &'a mut MaskedStorage<T>, Sequential
             return Err(LendError::Absent);
         }
         lend_at(self.store, entity.id())
+    }
+}
+
+/// The part of an entity in a storage, or none where the entity isn't alive or has none.
+fn part_of<'a, T: Component>(
+    store: &'a MaskedStorage<T>,
+    entities: &EntitiesRes,
+    entity: Entity,
+) -> Option<&'a T>
+    ensures { Finds entities.now (T.Storage.part_at store.now.inner) entity (option_copied result) }
+{
+    if has_part(store, entities, entity) {
+        Some(store.get(entity.id()))
+    } else {
+        None
     }
 }
 

@@ -20,12 +20,20 @@ impl ImmutableAliasing for SequentialRestriction {}
 
 impl ImmutableAliasing for ImmutableParallelRestriction {}
 
+/// A storage of which parts are read, and none is put or taken out.
+#[derive(Drop)]
+pub struct RestrictedStorage<'a, T: Component, R> {
+    pub(crate) entities: &'a EntitiesRes,
+    pub(crate) store: &'a MaskedStorage<T>,
+    pub(crate) kind: PhantomData<R>,
+}
+
 /// A storage of which parts are read and written, and none is put or taken out.
 #[derive(Drop)]
-pub struct RestrictedStorage<'a, T, D, R> {
+pub struct RestrictedStorageMut<'a, T: Component, R> {
     pub(crate) entities: &'a EntitiesRes,
-    pub(crate) store: D,
-    pub(crate) kind: PhantomData<(T, R)>,
+    pub(crate) store: &'a mut MaskedStorage<T>,
+    pub(crate) kind: PhantomData<R>,
 }
 
 /// Storages whose parts can be read alone.
@@ -41,7 +49,7 @@ pub trait Restrict<T: Component> {
     ghost masked: { Self → Masked T.Storage };
 
     /// The parts, for reading by many callers.
-    fn restrict(&self) -> RestrictedStorage<'_, T, &MaskedStorage<T>, ImmutableParallelRestriction>
+    fn restrict(&self) -> RestrictedStorage<'_, T, ImmutableParallelRestriction>
         ensures entities { result.entities.now ≡ births self.now }
         ensures store { result.store.now ≡ masked self.now };
 }
@@ -51,9 +59,7 @@ impl<'e, T: Component, D: Loan<T>> Restrict<T> for Storage<'e, T, D> {
 
     ghost masked = { λ storage. D.lent storage.store };
 
-    fn restrict(
-        &self,
-    ) -> RestrictedStorage<'_, T, &MaskedStorage<T>, ImmutableParallelRestriction> {
+    fn restrict(&self) -> RestrictedStorage<'_, T, ImmutableParallelRestriction> {
         RestrictedStorage {
             entities: self.entities,
             store: self.store.storage(),
@@ -73,17 +79,13 @@ pub trait RestrictMut<T: Component>: Restrict<T> {
     ghost with_left: { Self → Masked T.Storage → Self };
 
     /// The parts, for reading and writing by one caller.
-    fn restrict_mut(
-        &mut self,
-    ) -> RestrictedStorage<'_, T, &mut MaskedStorage<T>, SequentialRestriction>
+    fn restrict_mut(&mut self) -> RestrictedStorageMut<'_, T, SequentialRestriction>
         ensures* writes_back { sem 𝓛 (Lends Self.row (masked_row T.row T.Storage.row T.Storage.UnprotectedStorage) self.entry result.store (with_left self.old)) }
         ensures entities { result.entities.now ≡ Self.births self.old }
         ensures store { result.store.now ≡ Self.masked self.old };
 
     /// The parts, for many callers, each of which may get what is at its own index alone.
-    fn par_restrict_mut(
-        &mut self,
-    ) -> RestrictedStorage<'_, T, &mut MaskedStorage<T>, MutableParallelRestriction>
+    fn par_restrict_mut(&mut self) -> RestrictedStorageMut<'_, T, MutableParallelRestriction>
         ensures* writes_back { sem 𝓛 (Lends Self.row (masked_row T.row T.Storage.row T.Storage.UnprotectedStorage) self.entry result.store (with_left self.old)) }
         ensures entities { result.entities.now ≡ Self.births self.old }
         ensures store { result.store.now ≡ Self.masked self.old };
@@ -94,20 +96,16 @@ impl<'e, T: Component> RestrictMut<T> for Storage<'e, T, &'e mut MaskedStorage<T
 
     ghost with_left = { with_store };
 
-    fn restrict_mut(
-        &mut self,
-    ) -> RestrictedStorage<'_, T, &mut MaskedStorage<T>, SequentialRestriction> {
-        RestrictedStorage {
+    fn restrict_mut(&mut self) -> RestrictedStorageMut<'_, T, SequentialRestriction> {
+        RestrictedStorageMut {
             entities: self.entities,
             store: self.store,
             kind: PhantomData,
         }
     }
 
-    fn par_restrict_mut(
-        &mut self,
-    ) -> RestrictedStorage<'_, T, &mut MaskedStorage<T>, MutableParallelRestriction> {
-        RestrictedStorage {
+    fn par_restrict_mut(&mut self) -> RestrictedStorageMut<'_, T, MutableParallelRestriction> {
+        RestrictedStorageMut {
             entities: self.entities,
             store: self.store,
             kind: PhantomData,

@@ -1,5 +1,5 @@
 //! The place of an entity's part, with a part or without.
-ghost use Rattle.std.specs.Prelude.{◌≡◌, ◌<◌, IsSome, is_some, false};
+ghost use Rattle.std.specs.Prelude.{◌≡◌, ◌<◌, IsSome, IsTrue, is_some, false};
 
 mod fill;
 mod occupied;
@@ -8,8 +8,21 @@ mod replace;
 mod vacant;
 
 use hibitset::Index;
+pub(crate) use open::entry_at;
+use specs_entity::{Entity, Generation};
 use specs_store::{Component, MaskedStorage, UnprotectedStorage};
 use std::alloc::{AllocError, AllocFailed};
+
+/// The answer to a question for the place of an entity's part.
+#[derive(Drop)]
+pub struct EntryOf<'a, T: Component> {
+    /// The storage.
+    pub store: &'a mut MaskedStorage<T>,
+    entity: Entity,
+    is_alive: bool,
+    last: Generation,
+    ghost range: { IsTrue is_alive → entity.id < 16777216 },
+}
 
 /// The place of a part that is there.
 #[derive(Drop)]

@@ -2,6 +2,7 @@
 #![tactic(auto)]
 
 pub mod drain;
+pub mod entries;
 pub mod entry;
 pub mod generic;
 mod joins;
@@ -9,7 +10,8 @@ pub mod loan;
 pub mod storage;
 
 pub use drain::Drain;
-pub use entry::{EntryError, OccupiedEntry, Replaced, StorageEntry, VacantEntry};
+pub use entries::{Entries, EntryCursor, Place};
+pub use entry::{EntryError, EntryOf, OccupiedEntry, Replaced, StorageEntry, VacantEntry};
 pub use generic::{GenericReadStorage, GenericWriteStorage};
 pub use loan::Loan;
 pub use storage::{InsertResult, LendError, ReadStorage, Storage, WriteStorage};

@@ -1,17 +1,12 @@
 //! Entries and drains.
 use crate::lent::{Health, healths};
 use specs_entity::{EntitiesRes, Entity};
-use specs_storage::{Drain, Storage, StorageEntry};
+use specs_storage::{Drain, Storage, StorageEntry, WriteStorage};
 use specs_store::MaskedStorage;
 
 /// Puts a number at an entity's place, and answers the one that was there.
-fn replaced(
-    parts: &mut MaskedStorage<Health>,
-    entities: &EntitiesRes,
-    entity: Entity,
-    number: u32,
-) -> Option<u32> {
-    match StorageEntry::find(parts, entities, entity) {
+fn replaced(storage: &mut WriteStorage<'_, Health>, entity: Entity, number: u32) -> Option<u32> {
+    match storage.entry(entity).open() {
         Ok(StorageEntry::Occupied(mut place)) => match place.insert(Health(number)) {
             Ok(old) => Some(old.0),
             Err(_) => None,
@@ -25,17 +20,13 @@ fn replaced(
 }
 
 /// The number at an entity's place, which is doubled there, and then taken out.
-fn doubled(
-    parts: &mut MaskedStorage<Health>,
-    entities: &EntitiesRes,
-    entity: Entity,
-) -> Option<u32> {
-    if let Ok(StorageEntry::Occupied(place)) = StorageEntry::find(parts, entities, entity) {
+fn doubled(storage: &mut WriteStorage<'_, Health>, entity: Entity) -> Option<u32> {
+    if let Ok(StorageEntry::Occupied(place)) = storage.entry(entity).open() {
         if let Ok(health) = place.into_mut() {
             health.0 = health.0.wrapping_mul(2);
         }
     }
-    match StorageEntry::find(parts, entities, entity) {
+    match storage.entry(entity).open() {
         Ok(StorageEntry::Occupied(place)) => {
             let number = place.get().0;
             if place.remove().is_ok() {
@@ -49,15 +40,11 @@ fn doubled(
 }
 
 /// What two insertions at a place answer, and what is there when it is doubled and taken out, twice.
-fn used(
-    parts: &mut MaskedStorage<Health>,
-    entities: &EntitiesRes,
-    entity: Entity,
-) -> [Option<u32>; 4] {
-    let first = replaced(parts, entities, entity, 1337);
-    let second = replaced(parts, entities, entity, 9001);
-    let there = doubled(parts, entities, entity);
-    [first, second, there, doubled(parts, entities, entity)]
+fn used(storage: &mut WriteStorage<'_, Health>, entity: Entity) -> [Option<u32>; 4] {
+    let first = replaced(storage, entity, 1337);
+    let second = replaced(storage, entity, 9001);
+    let there = doubled(storage, entity);
+    [first, second, there, doubled(storage, entity)]
 }
 
 #[test]
@@ -67,8 +54,9 @@ fn a_place_has_what_was_put_last(rt: HostRuntime) {
     let one = entities.entity(0);
     let nobody = entities.entity(1);
     let mut parts = healths(rt.alloc());
-    let numbers = used(&mut parts, &entities, one);
-    let is_refused = StorageEntry::find(&mut parts, &entities, nobody).is_err();
+    let mut storage = Storage::new(&entities, &mut parts);
+    let numbers = used(&mut storage, one);
+    let is_refused = storage.entry(nobody).open().is_err();
     assert_eq!(rt;
         (numbers, is_refused),
         ([None, Some(1337), Some(18002), None], true)

@@ -14,12 +14,13 @@ impl<'a, T: Component> StorageEntry<'a, T> {
     ///
     /// A storage that emits writes `Modified`, and before it `Inserted` where none was there.
     ///
-    /// Errors: `Refused` with the part, for want of memory to put it, and each index has the part that it had; `NotLent`,
-    /// where the storage emits, and what was there, or was put, stays there.
+    /// Errors: `Refused` with the part, where none was there, for want of memory to put it, and each index has the part that
+    /// it had; `NotLent`, where the storage emits, and what was there, or was put, stays there.
     pub fn or_insert(self, part: T) -> Result<&'a mut T, EntryError<T>>
         ensures* writes_back { sem 𝓛 (lends_or T.row T.Storage.row T.Storage.UnprotectedStorage (store_of self.entry) (id_of self.entry) (λ put. put ≡ part) result) }
         ensures value { IfOk result (λ lent. lent.now ≡ unwrap_or (T.Storage.part_at (store_of self.entry).now.inner (id_of self.entry)) part) }
         ensures handed_back { (value : T) → IsErrOf result (refusal.Refused value) → value ≡ part }
+        ensures refused { (value : T) → IsErrOf result (refusal.Refused value) → is_some (T.Storage.part_at (store_of self.entry).now.inner (id_of self.entry)) ≡ false }
         ensures lent { T.Storage.emits (store_of self.entry).now.inner ≡ false → ¬ (IsErrOf result refusal.NotLent) }
         ensures succeeds { IsSome (T.Storage.part_at (store_of self.entry).now.inner (id_of self.entry)) → T.Storage.emits (store_of self.entry).now.inner ≡ false → IsOk result }
     {
@@ -42,6 +43,7 @@ impl<'a, T: Component> StorageEntry<'a, T> {
         ensures* writes_back { sem 𝓛 (lends_or T.row T.Storage.row T.Storage.UnprotectedStorage (store_of self.entry) (id_of self.entry) (F.post default) result) }
         ensures value { IfOk result (λ lent. UnwrapsOrElse (T.Storage.part_at (store_of self.entry).now.inner (id_of self.entry)) (F.post default) lent.now) }
         ensures handed_back { (value : T) → IsErrOf result (refusal.Refused value) → F.post default value }
+        ensures refused { (value : T) → IsErrOf result (refusal.Refused value) → is_some (T.Storage.part_at (store_of self.entry).now.inner (id_of self.entry)) ≡ false }
         ensures lent { T.Storage.emits (store_of self.entry).now.inner ≡ false → ¬ (IsErrOf result refusal.NotLent) }
         ensures succeeds { IsSome (T.Storage.part_at (store_of self.entry).now.inner (id_of self.entry)) → T.Storage.emits (store_of self.entry).now.inner ≡ false → IsOk result }
     {

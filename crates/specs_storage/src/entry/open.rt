@@ -1,39 +1,69 @@
-//! How the place of a part is found.
-ghost use Rattle.std.specs.Prelude.{◌≡◌, ◌↔◌, ◌<◌, IfOk, IfErr, IsOk};
+//! How the place of an entity's part is found.
+ghost use Rattle.std.specs.Prelude.{◌≡◌, ◌↔◌, ◌<◌, IfOk, IfErr, IsOk, IsTrue, unwrap_or};
 ghost use Rattle.std.specs.Borrow.{sem};
-ghost use Rattle.specs_entity.specs.Births.{IsAlive, wrong_generation};
+ghost use Rattle.specs_entity.specs.Births.{IsAlive, persistent_at};
+ghost use Rattle.specs_entity.specs.Life.{first_life};
+ghost use Rattle.specs_storage.specs.StorageLends.{lends_store};
 ghost use Rattle.specs_storage.specs.EntryLends.{lends_open, store_of, id_of};
 
-use super::{OccupiedEntry, StorageEntry, VacantEntry};
+use super::{EntryOf, OccupiedEntry, StorageEntry, VacantEntry};
+use crate::storage::Storage;
 use hibitset::Index;
-use specs_entity::{EntitiesRes, Entity, Generation, WrongGeneration};
+use specs_entity::{Entity, Generation, WrongGeneration};
 use specs_store::{Component, MaskedStorage, UnprotectedStorage};
 
-impl<'a, T: Component> StorageEntry<'a, T> {
-    /// The place of an entity's part in a storage.
-    ///
-    /// Errors: `WrongGeneration` if the entity isn't alive, and nothing changed.
-    pub fn find(
-        store: &'a mut MaskedStorage<T>,
-        entities: &EntitiesRes,
-        e: Entity,
-    ) -> Result<Self, WrongGeneration>
-        ensures* rests { sem 𝓛 (lends_open T.row T.Storage.row T.Storage.UnprotectedStorage store.entry result) }
-        ensures same_reference { IfOk result (λ entry. (store_of entry).ghost_name ≡ store.entry.ghost_name) }
-        ensures value { IfOk result (λ entry. (store_of entry).now ≡ store.old) }
-        ensures id { IfOk result (λ entry. id_of entry ≡ e.id) }
-        ensures succeeds { IsOk result ↔ IsAlive entities.now e }
-        ensures wrong_generation { IfErr result (wrong_generation entities.now e) }
+impl<'e, T: Component> Storage<'e, T, &'e mut MaskedStorage<T>> {
+    /// The place of an entity's part, which `EntryOf::open` tells.
+    pub fn entry(&mut self, e: Entity) -> EntryOf<'_, T>
+        ensures* writes_back { sem 𝓛 (lends_store T.row T.Storage.row T.Storage.UnprotectedStorage self.entry result.store) }
+        ensures value { result.store.now ≡ self.old.store.now }
+        ensures entity { result.entity ≡ e }
+        ensures alive { IsTrue result.is_alive ↔ IsAlive self.old.entities.now e }
+        ensures last { result.last ≡ unwrap_or (persistent_at self.old.entities.now e.id) first_life }
     {
-        if !entities.is_alive(e) {
-            return Err(without_entry(entities, e));
+        let is_alive = self.entities.is_alive(e);
+        let last = self.entities.generation(e.id());
+        EntryOf {
+            store: self.store,
+            entity: e,
+            is_alive,
+            last: last.unwrap_or(Generation::one()),
         }
-        Ok(entry_at(store, e.id()))
+    }
+}
+
+impl<'a, T: Component> EntryOf<'a, T> {
+    /// The place, as one with a part or one without.
+    ///
+    /// Errors: `WrongGeneration` if the entity isn't alive, with the generation that `EntitiesRes::generation` gives for
+    /// its index, or 1 where that has none; and nothing changed.
+    pub fn open(self) -> Result<StorageEntry<'a, T>, WrongGeneration>
+        ensures* rests { sem 𝓛 (lends_open T.row T.Storage.row T.Storage.UnprotectedStorage self.entry.store result) }
+        ensures same_reference { IfOk result (λ entry. (store_of entry).ghost_name ≡ self.entry.store.ghost_name) }
+        ensures value { IfOk result (λ entry. (store_of entry).now ≡ self.entry.store.now) }
+        ensures id { IfOk result (λ entry. id_of entry ≡ self.entry.entity.id) }
+        ensures succeeds { IsOk result ↔ IsTrue self.entry.is_alive }
+        ensures wrong_generation { IfErr result (λ refusal. (refusal.entity ≡ self.entry.entity) × (refusal.actual_gen ≡ self.entry.last)) }
+    {
+        let EntryOf {
+            store,
+            entity,
+            is_alive,
+            last,
+        } = self;
+        if !is_alive {
+            return Err(WrongGeneration {
+                action: "take the entry",
+                actual_gen: last,
+                entity,
+            });
+        }
+        Ok(entry_at(store, entity.id()))
     }
 }
 
 /// The place of the part at an index.
-fn entry_at<T: Component>(store: &mut MaskedStorage<T>, id: Index) -> StorageEntry<'_, T>
+pub(crate) fn entry_at<T: Component>(store: &mut MaskedStorage<T>, id: Index) -> StorageEntry<'_, T>
     requires { id < 16777216 }
     ensures same_reference { (store_of result).ghost_name ≡ store.entry.ghost_name }
     ensures store { (store_of result).now ≡ store.old }
@@ -43,17 +73,5 @@ fn entry_at<T: Component>(store: &mut MaskedStorage<T>, id: Index) -> StorageEnt
         StorageEntry::Occupied(OccupiedEntry { store, id })
     } else {
         StorageEntry::Vacant(VacantEntry { store, id })
-    }
-}
-
-/// The refusal that an entity isn't alive, so that it has no entry.
-fn without_entry(entities: &EntitiesRes, e: Entity) -> WrongGeneration
-    ensures { wrong_generation entities.now e result }
-{
-    let last = entities.generation(e.id());
-    WrongGeneration {
-        action: "take the entry",
-        actual_gen: last.unwrap_or(Generation::one()),
-        entity: e,
     }
 }

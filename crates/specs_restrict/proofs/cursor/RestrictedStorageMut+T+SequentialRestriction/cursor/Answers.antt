@@ -4,7 +4,7 @@ use Rattle.hibitset_sets.specs.Walk.{walk, is_pending}
 use Rattle.hibitset_sets.proofs.WalkLemmas.{walk-same}
 use Rattle.specs_cursor.specs.Cursor.{shared}
 use Rattle.specs_cursor.proofs.CursorLemmas.{begun-at}
-use Rattle.specs_restrict.proofs.cursor.RestrictedStorage+T+mut+MaskedStorage+T+SequentialRestriction.cursor.Goals as goal
+use Rattle.specs_restrict.proofs.cursor.RestrictedStorageMut+T+SequentialRestriction.cursor.Goals as goal
 
 pub returns-clause-left : goal.returns-clause-left
 returns-clause-left g c =

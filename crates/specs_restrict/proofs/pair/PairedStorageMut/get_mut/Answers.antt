@@ -1,6 +1,6 @@
 use Rattle.std.proofs.Common.{IsSome, sym, subst}
 use Rattle.specs_restrict.proofs.PairLemmas.{still-there}
-use Rattle.specs_restrict.proofs.pair.PairedStorage+T+mut+MaskedStorage+T+SequentialRestriction.get_mut.Goals as goal
+use Rattle.specs_restrict.proofs.pair.PairedStorageMut.get_mut.Goals as goal
 
 pub invariant_of-self-lent : goal.invariant_of-self-lent
 invariant_of-self-lent g c =

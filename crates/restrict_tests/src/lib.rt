@@ -1,0 +1,5 @@
+//! Examples of use of restricted storages.
+#![tactic(auto)]
+
+#[cfg(test)]
+mod pairs;
