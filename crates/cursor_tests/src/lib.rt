@@ -1,6 +1,8 @@
-//! Rows and examples of use of `specs_cursor` and `specs_parallel`, which no contract says.
+//! Rows and examples of use of `specs_cursor` and `specs_parallel`, and of copied walks, which no contract says.
 #![tactic(auto)]
 
+#[cfg(test)]
+mod clones;
 #[cfg(test)]
 mod consumer;
 #[cfg(test)]

@@ -7,6 +7,7 @@ ghost use Rattle.hibitset_sets.specs.Steps.{TakesLowest};
 use crate::bit_set_like::BitSetLike;
 use crate::count::{Counter, Uncounted};
 use crate::util::{BITS, Index, LAYERS};
+use std::alloc::AllocError;
 
 /// A walk over the members of a set below `MAX_EID`, in ascending order.
 ///
@@ -161,6 +162,23 @@ impl<T: BitSetLike + Drop> Iterator for BitIter<T> {
 
     fn next(&mut self) -> Option<Index> {
         self.next_counted(&mut Uncounted)
+    }
+}
+
+impl<T: Copy> Clone for BitIter<T> {
+    ghost use Rattle.std.specs.Prelude.{◌≡◌, ⊤};
+
+    ghost is_clone = { λ one other. other ≡ one };
+
+    ghost is_infallible = { λ _. ⊤ };
+
+    /// The same walk, from where this one stands. Takes no memory.
+    fn clone(&self) -> Result<BitIter<T>, AllocError> {
+        Ok(BitIter {
+            set: self.set,
+            masks: self.masks,
+            prefix: self.prefix,
+        })
     }
 }
 

@@ -16,19 +16,19 @@ use crate::util::Index;
 pub use kept_walks::BitSetIter;
 
 /// The indices that are in both sets.
-#[derive(Clone, Drop)]
+#[derive(Clone, Copy, Drop)]
 pub struct BitSetAnd<A, B>(pub A, pub B);
 
 /// The indices that are in one of two sets, or in both.
-#[derive(Clone, Drop)]
+#[derive(Clone, Copy, Drop)]
 pub struct BitSetOr<A, B>(pub A, pub B);
 
 /// The indices that are in one of two sets, and not in both.
-#[derive(Clone, Drop)]
+#[derive(Clone, Copy, Drop)]
 pub struct BitSetXor<A, B>(pub A, pub B);
 
 /// The indices that a set lacks. `contains` is true past `MAX_EID`, and the walk stops below it.
-#[derive(Clone, Drop)]
+#[derive(Clone, Copy, Drop)]
 pub struct BitSetNot<A>(pub A);
 
 /// All indices.

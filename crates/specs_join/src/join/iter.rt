@@ -9,6 +9,7 @@ ghost use Rattle.specs_join.specs.Joining.{items_left, found};
 use super::Join;
 use hibitset::{BitIter, BitSetLike, Counter, Index, MAX_EID, Uncounted};
 use specs_entity::{EntitiesRes, Entity};
+use std::alloc::AllocError;
 use std::marker::Model;
 
 /// A walk over the items of a join, ascending by index. Items can be looked up by index too.
@@ -94,6 +95,26 @@ impl<J: Join> JoinIter<J> {
             Some(id) => Some(J::get(&self.values, id)),
             None => None,
         }
+    }
+}
+
+impl<J: Join> Clone for JoinIter<J>
+where
+    J::Mask: Copy,
+    J::Value: Copy,
+{
+    ghost use Rattle.std.specs.Prelude.{◌≡◌, ⊤};
+
+    ghost is_clone = { λ one other. other ≡ one };
+
+    ghost is_infallible = { λ _. ⊤ };
+
+    /// The same walk, from where this one stands. Takes no memory.
+    fn clone(&self) -> Result<JoinIter<J>, AllocError> {
+        Ok(JoinIter {
+            keys: self.keys.clone()?,
+            values: self.values,
+        })
     }
 }
 

@@ -1,0 +1,39 @@
+//! What is in just one of two sets joins by its indices.
+use crate::join::Join;
+use hibitset::{BitSetLike, BitSetXor, Index};
+
+impl<A: BitSetLike + Drop, B: BitSetLike + Drop> Join for BitSetXor<A, B> {
+    type Type = Index;
+
+    type Shown = Index;
+
+    type Value = ();
+
+    type Mask = BitSetXor<A, B>;
+
+    ghost use Rattle.std.specs.Prelude.{◌≡◌, Some, false};
+    ghost use Rattle.hibitset_sets.specs.Operators.{members_of_xor};
+    ghost use Rattle.specs_join.specs.Joins.{member};
+
+    ghost show = { λ index. index };
+
+    ghost joins = { λ mask index. member (members_of_xor (A.members mask.0) (B.members mask.1) index) index };
+
+    ghost opens = { λ set_ mask. mask ≡ set_ };
+
+    ghost unconstrained = { false };
+
+    ghost value_at = { λ _ index. Some index };
+
+    fn open(self) -> (BitSetXor<A, B>, ()) {
+        (self, ())
+    }
+
+    fn get(_values: &(), id: Index) -> Index {
+        id
+    }
+
+    fn is_unconstrained() -> bool {
+        false
+    }
+}
