@@ -40,10 +40,6 @@ pub on-err : {A E : Type 0} {P Q : Type 0} (result : Result A E) → OnErr resul
 on-err (Ok value) refused follows = tt
 on-err (Err error) refused follows = follows refused
 
-pub always-on-err : {A E : Type 0} {P : Type 0} (result : Result A E) → P → OnErr result P
-always-on-err (Ok value) holds = tt
-always-on-err (Err error) holds = holds
-
 -- a change that is added to the state before a call is added to an equal one
 adds-from : {T : Type 0} (sum : T → T → T) (fits : T → T → Type 0) (before between after : ℕ → Option T) (index : ℕ) (value : T) → SameParts before between → Adds sum fits between index value after → Adds sum fits before index value after
 adds-from sum fits before between after index value same adds =

@@ -1,17 +1,16 @@
 -- Values that are stored one after the other.
-use Rattle.std.proofs.Common.{◌≡◌, ℕ, zero, suc, ◌+◌, ◌<◌, ◌≤◌, List, [], ◌∷◌, ◌++◌, length, take, map, filter, cond, Bool, true, false, Option, Some, None, inl, inr, refl, sym, ap, subst, ◌∙◌, arith, append_assoc, append-nil, length-append}
+use Rattle.std.proofs.Common.{◌≡◌, ℕ, zero, suc, ◌+◌, ◌<◌, ◌≤◌, List, [], ◌∷◌, ◌++◌, length, map, filter, cond, Bool, true, false, Option, Some, None, inl, inr, refl, sym, ap, subst, ◌∙◌, arith, append_assoc, append-nil, length-append}
 use Rattle.std.proofs.lemmas.List.{map-append}
-use Rattle.std.proofs.Math.Seq.{take-append_seam}
 use Rattle.std.specs.List.{range_with_len, cons_option}
 use Rattle.hibitset_sets.specs.BitSet.{SetWithRoom}
 use Rattle.hibitset_sets.specs.Walk.{walk}
 use Rattle.specs_store.specs.ToCome.{IsToCome}
-use Rattle.specs_store.specs.Parts.{Puts, told}
+use Rattle.specs_store.specs.Parts.{Puts, SameParts, told}
 use Rattle.specs_store.specs.declared.track.ComponentEvent.{ComponentEvent}
 use Rattle.specs_store.specs.declared.track.ComponentEvent.TheVariants as event
 use Rattle.specs_join.specs.Joins.{values_at}
 use Rattle.specs_join.proofs.NewLemmas.{walk-members}
-use Rattle.specs_changes.specs.Storing.{Stores, all_told, left_at}
+use Rattle.specs_changes.specs.Storing.{all_told, left_at}
 
 -- a list goes up from a least number
 abbrev pub Ascends : ℕ → List ℕ → Type 0
@@ -73,8 +72,8 @@ told-none : (emits : Bool) (events : List ComponentEvent) → events ≡ all_tol
 told-none true events = sym (append-nil events)
 told-none false events = refl
 
-pub storing-begins : {T : Type 0} (before : ℕ → Option T) (indices left : List ℕ) (values remaining : List T) (emits : Bool) (events : List ComponentEvent) → left ≡ indices → remaining ≡ values → IsStoring before before indices left values remaining emits events events
-storing-begins before indices left values remaining emits events same_left same_remaining =
+pub storing-begins : {T : Type 0} (before now : ℕ → Option T) (indices left : List ℕ) (values remaining : List T) (emits : Bool) (events events_now : List ComponentEvent) → left ≡ indices → remaining ≡ values → SameParts before now → events_now ≡ events → IsStoring before now indices left values remaining emits events events_now
+storing-begins before now indices left values remaining emits events events_now same_left same_remaining same_parts same_events =
     record {
       done = [];
       taken = [];
@@ -82,8 +81,8 @@ storing-begins before indices left values remaining emits events same_left same_
       values_are = same_remaining;
       same = refl;
       stored = refl;
-      others = λ _ _. refl;
-      told_of = told-none emits events;
+      others = λ index _. same_parts index;
+      told_of = same_events ∙ told-none emits events;
     }
 
 put-one : {T : Type 0} (first : Option T) (rest : List T) (value : T) → cons_option first (rest ++ value ∷ []) ≡ cons_option first rest ++ value ∷ []
@@ -151,27 +150,6 @@ module _ {T : Type 0} (before now : ℕ → Option T) (indices left : List ℕ) 
         let two = ap length given in
         let three = ap length none in
         absurd (omega (arith, one, two, three))
-
-  taken-length : length remaining + length storing.taken ≡ length values
-  taken-length = let of_values = ap length storing.values_are in let other = length-append storing.taken remaining in omega (arith, of_values, other)
-
-  -- where a value is left, only some first ones are stored
-  pub storing-stops : (value : T) (others : List T) → remaining ≡ value ∷ others → (count : ℕ) × (count < length values) × Stores before indices (take count values) now × (events_now ≡ all_told emits events (take count indices))
-  storing-stops value others given =
-      let count = length storing.taken in
-      let first_values : take count values ≡ storing.taken = ap (take count) (sym storing.values_are) ∙ take-append_seam storing.taken remaining in
-      let first_indices : take count indices ≡ storing.done = ap (λ n. take n indices) (sym storing.same) ∙ ap (take (length storing.done)) (sym storing.indices_are) ∙ take-append_seam storing.done left in
-      let all_first : take (length (take count values)) indices ≡ storing.done = ap (λ list. take (length list) indices) first_values ∙ first_indices in
-      let longer = ap length given in
-      let total = taken-length in (
-        count,
-        omega (arith, longer, total),
-        record {
-          stored = ap (values_at now) all_first ∙ storing.stored ∙ sym first_values;
-          others = λ index away. storing.others index (λ come. away (subst (IsToCome index) (sym all_first) come));
-        },
-        storing.told_of ∙ ap (all_told emits events) (sym first_indices),
-      )
 
   -- where no value is left, all are stored
   module _ (as_many : length values ≡ length indices) (ended : remaining ≡ []) where

@@ -1,9 +1,10 @@
 //! Parts that are written all at once, from a list.
-ghost use Rattle.std.specs.Prelude.{◌≡◌, ℕ, ◌<◌, false, ◌∷◌, [], length, take, IsOk, OnOk, OnErr, MatchOption};
+ghost use Rattle.std.specs.Prelude.{◌≡◌, false, ◌∷◌, [], length, IsOk, OnOk, OnErr, MatchOption};
 ghost use Rattle.hibitset_sets.specs.BitSet.{has_member};
 ghost use Rattle.hibitset_sets.specs.Walk.{walk, IsPlaced};
 ghost use Rattle.specs_join.specs.Joins.{values_at};
-ghost use Rattle.specs_changes.specs.Storing.{Stores, all_told, left_at};
+ghost use Rattle.specs_store.specs.Parts.{SameParts};
+ghost use Rattle.specs_changes.specs.Storing.{all_told, left_at};
 
 use hibitset::{BitIter, BitSet, BitSetLike, Index, Uncounted};
 use specs_store::{Component, MaskedStorage};
@@ -28,7 +29,7 @@ fn next_index(set: &BitSet, masks: &mut [u64; 4], prefix: &mut [u32; 3]) -> Opti
 ///
 /// There have to be as many values as the mask has indices.
 ///
-/// Errors: `AllocError`, where the storage emits, and some first values are stored.
+/// Errors: `AllocError`, where the storage emits, and each index has the part that it had.
 pub fn store_all<T: Component>(
     storage: &mut MaskedStorage<T>,
     values: Vec<T>,
@@ -36,21 +37,24 @@ pub fn store_all<T: Component>(
     requires { length values.items ≡ length (walk (has_member storage.old.mask)) }
     ensures mask { storage.new.mask ≡ storage.old.mask }
     ensures ok { OnOk result (values_at (T.Storage.part_at storage.new.inner) (walk (has_member storage.old.mask)) ≡ values.items) }
-    ensures err { OnErr result ((count : ℕ) × (count < length values.items)
-        × Stores (T.Storage.part_at storage.old.inner) (walk (has_member storage.old.mask)) (take count values.items) (T.Storage.part_at storage.new.inner)
-        × (T.Storage.events storage.new.inner ≡ all_told (T.Storage.emits storage.old.inner) (T.Storage.events storage.old.inner) (take count (walk (has_member storage.old.mask))))) }
+    ensures err { OnErr result (SameParts (T.Storage.part_at storage.old.inner) (T.Storage.part_at storage.new.inner)) }
     ensures succeeds { T.Storage.emits storage.old.inner ≡ false → IsOk result }
 
-    // One event tells of each part that was lent.
+    // One event tells of each part that was lent, and a refusal writes none.
     ensures events { OnOk result (T.Storage.events storage.new.inner ≡ all_told (T.Storage.emits storage.old.inner) (T.Storage.events storage.old.inner) (walk (has_member storage.old.mask))) }
+    ensures silent { OnErr result (T.Storage.events storage.new.inner ≡ T.Storage.events storage.old.inner) }
     ensures emission { T.Storage.emits storage.new.inner ≡ T.Storage.emits storage.old.inner }
 {
+    storage.make_room(values.len())?;
     let (_, mut masks, mut prefix) = storage.mask().iter().into_parts();
     for value in values {
         let Some(index) = next_index(storage.mask(), &mut masks, &mut prefix) else {
             unreachable!()
         };
-        *storage.get_mut(index)? = value;
+        match storage.get_mut(index) {
+            Ok(place) => *place = value,
+            Err(_) => unreachable!(),
+        }
     }
     Ok(())
 }

@@ -1,15 +1,13 @@
 -- What a storage ends as, where a part of it, or the place of one, was lent.
 use mir.Syntax.{named}
-use Rattle.std.specs.Prelude.{◌≡◌, ℕ, Bool, true, false, [], Some, is_some, if◌then◌else◌, Result, IsOk, IfErr}
-use Rattle.std.specs.Borrow.{Fml, RattleType, MutBor, LendsIfOk, LendsSoOk, RestsIfErr, follows_if, follows_so, name_if_ok}
+use Rattle.std.specs.Prelude.{◌≡◌, ℕ, [], Some, is_some, if◌then◌else◌, Result}
+use Rattle.std.specs.Borrow.{Fml, RattleType, MutBor, LendsIfOk, LendsSoOk, RestsIfErr, follows_if, name_if_ok}
 use Rattle.specs_store.specs.Masked.{Masked}
 use Rattle.specs_store.specs.MaskedLends.{StorageMembers}
 use Rattle.specs_store.specs.declared.unprotected.UnprotectedStorage as unprotected
 use Rattle.specs_store.specs.declared.unprotected.TryDefault as try_default
 use Rattle.specs_store.specs.Parts.{Puts, SameParts, told}
 use Rattle.specs_store.specs.declared.track.ComponentEvent.TheVariants as event
-use Rattle.specs_storage.specs.declared.entry.EntryError.{EntryError}
-use Rattle.specs_storage.specs.declared.entry.EntryError.TheVariants.{Refused, NotLent}
 use Rattle.specs_storage.specs.declared.entry.OccupiedEntry.{OccupiedEntry}
 use Rattle.specs_storage.specs.declared.entry.Replaced.{Replaced}
 use Rattle.specs_storage.specs.declared.entry.StorageEntry.{StorageEntry}
@@ -36,11 +34,15 @@ module _ {T S : Type 0} {g : unprotected.Ghosts S T} {d : try_default.Ghosts S} 
   id_of (Occupied entry) = entry.id
   id_of (Vacant entry) = entry.id
 
+-- each index has the part that it had, and nothing was told
+pub record IsLeft {S T : Type 0} (g : StorageMembers S T) (before after : Masked S) : Type 0 where
+  pub parts : SameParts (g.part_at before.inner) (g.part_at after.inner)
+  pub events : g.events after.inner ≡ g.events before.inner
+  pub emission : g.emits after.inner ≡ g.emits before.inner
+
 -- where there is no entry, each index has the part that it had, and nothing was told
 abbrev pub rests_if_refused : (T S : RattleType) (g : StorageMembers S.Denot T.Denot) → MutBor (Masked S.Denot) → {E : Type 0} → Result (OccupiedEntry T.Denot S.Denot (layout_ghosts g) (default_ghosts g)) E → Fml
-rests_if_refused T S g m r =
-    RestsIfErr (masked_row T S g) m (λ entry. entry.store.ghost_name) r
-    (λ left. SameParts (g.part_at m.now.inner) (g.part_at left.inner) × (g.events left.inner ≡ g.events m.now.inner) × (g.emits left.inner ≡ g.emits m.now.inner))
+rests_if_refused T S g m r = RestsIfErr (masked_row T S g) m (λ entry. entry.store.ghost_name) r (IsLeft g m.now)
 
 -- the parts are those that were left through their entry, and where there is no entry nothing changed
 abbrev pub lends_open : (T S : RattleType) (g : StorageMembers S.Denot T.Denot) → MutBor (Masked S.Denot) → {E : Type 0} → Result (StorageEntry T.Denot S.Denot (layout_ghosts g) (default_ghosts g)) E → Fml
@@ -69,51 +71,20 @@ module _ {S T : Type 0} (g : StorageMembers S T) (before : Masked S) (index : �
     pub events : g.events after.inner ≡ told (g.emits before.inner) (told (g.emits before.inner) (g.events before.inner) (event.Inserted index)) (event.Modified index)
     pub emission : g.emits after.inner ≡ g.emits before.inner
 
-  -- a part was put at an index that had none
-  pub record IsPut (part : T) (after : Masked S) : Type 0 where
-    pub parts : Puts (g.part_at before.inner) index (Some part) (g.part_at after.inner)
-    pub events : g.events after.inner ≡ told (g.emits before.inner) (g.events before.inner) (event.Inserted index)
-    pub emission : g.emits after.inner ≡ g.emits before.inner
-
-  -- each index has the part that it had, and nothing was told
-  pub record IsLeft (after : Masked S) : Type 0 where
-    pub parts : SameParts (g.part_at before.inner) (g.part_at after.inner)
-    pub events : g.events after.inner ≡ g.events before.inner
-    pub emission : g.emits after.inner ≡ g.emits before.inner
-
-  -- what a refusal leaves: a part that wasn't put changed nothing, and one that isn't lent is there
-  abbrev pub left_by : T → EntryError T → Masked S → Type 0
-  left_by part (Refused value) after = IsLeft after
-  left_by part NotLent after = IsPut part after
-
--- the storage has the last part that was written, or what the refusal leaves
-abbrev pub lends_put : (T S : RattleType) → StorageMembers S.Denot T.Denot → MutBor (Masked S.Denot) → ℕ → T.Denot → Result (MutBor T.Denot) (EntryError T.Denot) → Fml
-lends_put T S g m index part r =
-    follows_so (masked_row T S g) T m.ghost_name (name_if_ok (λ lent. lent.ghost_name) r) (λ last after. IsOk r → IsFilled g m.now index last after) (λ after. IfErr r (λ refused. left_by g m.now index part refused after))
-
-module _ {S T : Type 0} (g : StorageMembers S T) (before : Masked S) (index : ℕ) where
   -- an index has the part that was lent last, which was put first where none was there
   pub record IsSettled (part : T) (after : Masked S) : Type 0 where
     pub parts : Puts (g.part_at before.inner) index (Some part) (g.part_at after.inner)
     pub events : g.events after.inner ≡ told (g.emits before.inner) (if is_some (g.part_at before.inner index) then g.events before.inner else told (g.emits before.inner) (g.events before.inner) (event.Inserted index)) (event.Modified index)
     pub emission : g.emits after.inner ≡ g.emits before.inner
 
-  -- what is left where a part isn't lent: nothing changed if it was there before, and else one that was made is there
-  abbrev pub unlent_by : (T → Type 0) → Bool → Masked S → Type 0
-  unlent_by made true after = IsLeft g before index after
-  unlent_by made false after = (part : T) × made part × IsPut g before index part after
+-- the storage has the last part that was written, and where none was lent each index has what it had
+abbrev pub lends_put : (T S : RattleType) → StorageMembers S.Denot T.Denot → MutBor (Masked S.Denot) → ℕ → {E : Type 0} → Result (MutBor T.Denot) E → Fml
+lends_put T S g m index r = LendsSoOk (masked_row T S g) T m r (λ after part. IsFilled g m.now index part after) (IsLeft g m.now)
 
-  -- what a refusal leaves
-  abbrev pub unsettled_by : (T → Type 0) → EntryError T → Masked S → Type 0
-  unsettled_by made (Refused part) after = IsLeft g before index after
-  unsettled_by made NotLent after = unlent_by made (is_some (g.part_at before.inner index)) after
+-- the same of a storage that may have a part there
+abbrev pub lends_or : (T S : RattleType) → StorageMembers S.Denot T.Denot → MutBor (Masked S.Denot) → ℕ → {E : Type 0} → Result (MutBor T.Denot) E → Fml
+lends_or T S g m index r = LendsSoOk (masked_row T S g) T m r (λ after part. IsSettled g m.now index part after) (IsLeft g m.now)
 
--- the storage has the last part that was written, or what the refusal leaves
-abbrev pub lends_or : (T S : RattleType) → StorageMembers S.Denot T.Denot → MutBor (Masked S.Denot) → ℕ → (T.Denot → Type 0) → Result (MutBor T.Denot) (EntryError T.Denot) → Fml
-lends_or T S g m index made r =
-    follows_so (masked_row T S g) T m.ghost_name (name_if_ok (λ lent. lent.ghost_name) r) (λ last after. IsOk r → IsSettled g m.now index last after) (λ after. IfErr r (λ refused. unsettled_by g m.now index made refused after))
-
--- the storage is that of the place that was settled, or what the refusal leaves
-abbrev pub rests_unsettled : (T S : RattleType) (g : StorageMembers S.Denot T.Denot) → MutBor (Masked S.Denot) → ℕ → T.Denot → Result (Replaced T.Denot S.Denot (layout_ghosts g) (default_ghosts g)) (EntryError T.Denot) → Fml
-rests_unsettled T S g m index part r =
-    follows_so (masked_row T S g) (masked_row T S g) m.ghost_name (name_if_ok (λ done. done.entry.store.ghost_name) r) (λ last after. IsOk r → after ≡ last) (λ after. IfErr r (λ refused. unsettled_by g m.now index (λ put. put ≡ part) refused after))
+-- where nothing was replaced, each index has the part that it had, and nothing was told
+abbrev pub rests_unless_replaced : (T S : RattleType) (g : StorageMembers S.Denot T.Denot) → MutBor (Masked S.Denot) → {E : Type 0} → Result (Replaced T.Denot S.Denot (layout_ghosts g) (default_ghosts g)) E → Fml
+rests_unless_replaced T S g m r = RestsIfErr (masked_row T S g) m (λ done. done.entry.store.ghost_name) r (IsLeft g m.now)

@@ -1,5 +1,5 @@
 -- What is found of entities: parts of those that are alive, and of no other.
-use Rattle.std.specs.Prelude.{◌≡◌, ◌≢◌, ℕ, ◌⊎◌, Bool, Option, None, Some, is_some, IsSome}
+use Rattle.std.specs.Prelude.{◌≡◌, ℕ, ◌⊎◌, Bool, Option, None, is_some, IsSome}
 use Rattle.std.specs.Borrow.{MutBor}
 use Rattle.specs_entity.specs.Life.{LifeAt}
 use Rattle.specs_entity.specs.Births.{Births, IsAlive, latest}
@@ -37,8 +37,3 @@ RefusesInsert births entity error =
 pub record KeepsLoans {T M : Type 0} (before after : Storage T (MutBor M)) : Type 0 where
   pub entities : after.entities ≡ before.entities
   pub store : after.store.ghost_name ≡ before.store.ghost_name
-
--- each index has what it had, but for one, which may have got a part that was made where it had none
-pub record LeavesOrPuts {T : Type 0} (made : T → Type 0) (before : ℕ → Option T) (index : ℕ) (after : ℕ → Option T) : Type 0 where
-  pub here : (after index ≡ before index) ⊎ ((before index ≡ None) × (part : T) × made part × (after index ≡ Some part))
-  pub others : (other : ℕ) → other ≢ index → after other ≡ before other

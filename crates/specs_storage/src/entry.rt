@@ -12,6 +12,7 @@ pub(crate) use open::entry_at;
 use specs_entity::{Entity, Generation};
 use specs_store::{Component, MaskedStorage, UnprotectedStorage};
 use std::alloc::{AllocError, AllocFailed};
+pub(crate) use vacant::fill;
 
 /// The answer to a question for the place of an entity's part.
 #[derive(Drop)]
@@ -62,12 +63,12 @@ pub struct Replaced<'a, T: Component> {
     pub entry: OccupiedEntry<'a, T>,
 }
 
-/// Why a place doesn't lend its part for writing.
+/// Why a place doesn't lend its part for writing. Each index has the part that it had.
 #[derive(Debug, Drop)]
 pub enum EntryError<T> {
     /// There was no memory to put this part there.
     Refused(T),
-    /// The part is there, and there was no memory to tell that it is lent.
+    /// A part was there, and there was no memory to tell that it is lent.
     NotLent,
 }
 

@@ -1,14 +1,17 @@
 //! Storages behind a trait, for callers that take any.
-ghost use Rattle.std.specs.Prelude.{◌≡◌, ◌↔◌, ℕ, Option, Some, None, IsSome, option_copied, IfOk, IfErr, IsErrOf, OnOk, OnErr};
+ghost use Rattle.std.specs.Prelude.{◌≡◌, ◌↔◌, ◌<◌, ℕ, Option, Some, None, IsSome, option_copied, IfOk, IfErr, IsErrOf, OnOk, OnErr};
 ghost use Rattle.std.specs.Borrow.{sem, LendsIfOk, LendsSoOk};
 ghost use Rattle.std.specs.Option.{UnwrapsOrElse};
 ghost use Rattle.specs_store.specs.Parts.{Puts, SameParts};
 ghost use Rattle.specs_entity.specs.Births.{Births, IsAlive};
-ghost use Rattle.specs_storage.specs.Found.{Finds, HasPart, LeavesOrPuts, RefusesInsert};
+ghost use Rattle.specs_storage.specs.EntryLends.{lends_or};
+ghost use Rattle.specs_storage.specs.Found.{Finds, HasPart, RefusesInsert};
 ghost use Rattle.specs_storage.specs.declared.storage.LendError.TheVariants as lending;
 
+use crate::entry::fill;
 use crate::loan::Loan;
 use crate::storage::{InsertResult, LendError, Storage};
+use hibitset::Index;
 use specs_entity::Entity;
 use specs_store::{Component, MaskedStorage, UnprotectedStorage};
 use std::alloc::AllocError;
@@ -56,14 +59,13 @@ pub trait GenericWriteStorage: GenericReadStorage {
 
     /// The part of an entity for writing, which is put by default where the entity has none.
     ///
-    /// Errors: `Absent` if the entity isn't alive, and `Memory`; then each index has the part that it had, but for a
-    /// default that was put and, where the storage emits, isn't lent.
+    /// Errors: `Absent` if the entity isn't alive, and `Memory`. Each index has the part that it had.
     fn get_mut_or_default(&mut self, entity: Entity) -> Result<&mut Self::Component, LendError>
     where
         Self::Component: Default,
         ensures* writes_back { sem 𝓛 (LendsSoOk Self.row Self.Component.row self.entry result
             (λ after part. Puts (Self.parts self.old) entity.id (Some part) (Self.parts after) × (Self.births after ≡ Self.births self.old))
-            (λ after. LeavesOrPuts Self.Component.is_default (Self.parts self.old) entity.id (Self.parts after) × (Self.births after ≡ Self.births self.old))) }
+            (λ after. SameParts (Self.parts self.old) (Self.parts after) × (Self.births after ≡ Self.births self.old))) }
         ensures value { IfOk result (λ part. UnwrapsOrElse (Self.parts self.old entity.id) Self.Component.is_default part.now) }
         ensures absent { IsErrOf result lending.Absent ↔ ¬ (IsAlive (Self.births self.old) entity) };
 
@@ -113,10 +115,7 @@ impl<'e, T: Component> GenericWriteStorage for Storage<'e, T, &'e mut MaskedStor
         if !self.entities.is_alive(entity) {
             return Err(LendError::Absent);
         }
-        if !self.contains(entity) && Storage::insert(self, entity, T::default()).is_err() {
-            return Err(LendError::Memory);
-        }
-        self.get_mut(entity)
+        lend_or_put(self.store, entity.id())
     }
 
     fn insert(&mut self, entity: Entity, part: T) -> InsertResult<T> {
@@ -130,4 +129,24 @@ impl<'e, T: Component> GenericWriteStorage for Storage<'e, T, &'e mut MaskedStor
     ghost written_puts = { λ s index part there. T.Storage.written_puts s.store.now.inner index part there };
 
     ghost written_leaves = { λ s index part. refl };
+}
+
+/// The part at an index, which is put by default where it has none.
+fn lend_or_put<T: Component + Default>(
+    store: &mut MaskedStorage<T>,
+    id: Index,
+) -> Result<&mut T, LendError>
+    requires { id < 16777216 }
+    ensures* writes_back { sem 𝓛 (lends_or T.row T.Storage.row T.Storage.UnprotectedStorage store.entry id result) }
+    ensures value { IfOk result (λ lent. UnwrapsOrElse (T.Storage.part_at store.old.inner id) T.is_default lent.now) }
+    ensures refused { IfErr result (λ refused. refused ≡ lending.Memory) }
+{
+    if store.contains(id) {
+        let place = store.get_mut(id)?;
+        return Ok(place);
+    }
+    match fill(store, id, T::default()) {
+        Ok(place) => Ok(place),
+        Err(_refused) => Err(LendError::Memory),
+    }
 }

@@ -1,5 +1,5 @@
 //! Storages of any kind, for callers that drop the parts of entities.
-ghost use Rattle.std.specs.Prelude.{◌≡◌, ℕ, ◌≤◌, ◌==◌, ◌&&◌, not, Bool, List, [], length, take, is_some, IsOk, OnOk, OnErr};
+ghost use Rattle.std.specs.Prelude.{◌≡◌, ℕ, ◌==◌, ◌&&◌, not, Bool, List, [], length, is_some, IsOk, OnOk, OnErr};
 ghost use Rattle.std.specs.List.{list_any};
 ghost use Rattle.specs_store.specs.Drops.{ids_of};
 
@@ -13,7 +13,7 @@ pub trait AnyStorage {
     /// Whether an index has a part.
     ghost has_part: { Self → ℕ → Bool };
 
-    /// Whether so many removals find the memory for their events.
+    /// Whether so many changes find the memory for their events.
     ghost has_room: { Self → ℕ → Type 0 };
 
     /// The parts of these indices are dropped, one after the other, and nothing else changed.
@@ -21,13 +21,13 @@ pub trait AnyStorage {
 
     /// Drops the parts of entities, by their indices, in their order.
     ///
-    /// Errors: `AllocError`, and the parts of some first entities are dropped.
+    /// Errors: `AllocError`, and all parts are there.
     fn drop(&mut self, entities: &[Entity]) -> Result<(), AllocError>
         ensures ok { OnOk result (drops self.old (ids_of entities.now) self.new) }
-        ensures err { OnErr result ((count : ℕ) × (count ≤ length entities.now) × drops self.old (ids_of (take count entities.now)) self.new) }
+        ensures err { OnErr result (drops self.old [] self.new) }
         ensures within_room { has_room self.old (length entities.now) → IsOk result };
 
-    /// Makes room for the events of so many removals: then a `drop` of so many isn't refused.
+    /// Makes room for the events of so many changes: then a `drop` of so many isn't refused.
     ///
     /// Errors: `AllocError`.
     fn make_room(&mut self, count: usize) -> Result<(), AllocError>
@@ -52,8 +52,12 @@ impl<T: Component> AnyStorage for MaskedStorage<T> {
     ghost drops_parts = { λ before after indices dropped. dropped-parts (T.Storage.part_at before.inner) (T.Storage.part_at after.inner) indices dropped.parts };
 
     fn drop(&mut self, entities: &[Entity]) -> Result<(), AllocError> {
+        MaskedStorage::make_room(self, entities.len())?;
         for entity in entities {
-            MaskedStorage::drop(self, entity.id())?;
+            match MaskedStorage::drop(self, entity.id()) {
+                Ok(()) => {}
+                Err(_) => unreachable!(),
+            }
         }
         Ok(())
     }

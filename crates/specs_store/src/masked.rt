@@ -84,6 +84,7 @@ impl<T: Component> MaskedStorage<T> {
         ensures* writes_back { sem 𝓛 (lends_part T.row T.Storage.row T.Storage.UnprotectedStorage self.entry id result) }
         ensures value { IfOk result (λ part. T.Storage.part_at self.old.inner id ≡ Some part.now) }
         ensures succeeds { T.Storage.emits self.old.inner ≡ false → IsOk result }
+        ensures within_room { T.Storage.has_room self.old.inner 1 → IsOk result }
     {
         self.inner.get_mut(id)
     }
@@ -124,6 +125,7 @@ impl<T: Component> MaskedStorage<T> {
         ensures events { T.Storage.events self.new.inner
             ≡ (if is_ok result then told (T.Storage.emits self.old.inner) (T.Storage.events self.old.inner) (event.Inserted id) else T.Storage.events self.old.inner) }
         ensures emission { T.Storage.emits self.new.inner ≡ T.Storage.emits self.old.inner }
+        ensures room { (count : ℕ) → T.Storage.has_room self.old.inner (count + 1) → T.Storage.has_room self.new.inner count }
     {
         if self.mask.reserve(id + 1).is_err() {
             return Err(AllocFailed { value: part });
@@ -151,6 +153,7 @@ impl<T: Component> MaskedStorage<T> {
             (if is_some (T.Storage.part_at self.old.inner id) then event.Modified id else event.Inserted id)) }
         ensures silent { OnErr result (T.Storage.events self.new.inner ≡ T.Storage.events self.old.inner) }
         ensures emission { T.Storage.emits self.new.inner ≡ T.Storage.emits self.old.inner }
+        ensures room { (count : ℕ) → T.Storage.has_room self.old.inner (count + 1) → T.Storage.has_room self.new.inner count }
     {
         if self.mask.contains(id) {
             match self.replace(id, part) {
@@ -174,6 +177,8 @@ impl<T: Component> MaskedStorage<T> {
         ensures ok { OnOk result (Puts (T.Storage.part_at self.old.inner) id None (T.Storage.part_at self.new.inner)) }
         ensures err { OnErr result (SameParts (T.Storage.part_at self.old.inner) (T.Storage.part_at self.new.inner)) }
         ensures succeeds { T.Storage.emits self.old.inner ≡ false → IsOk result }
+        ensures within_room { T.Storage.has_room self.old.inner 1 → IsOk result }
+        ensures room { (count : ℕ) → T.Storage.has_room self.old.inner (count + 1) → T.Storage.has_room self.new.inner count }
 
         // One event tells of a part that was taken out, and a refusal writes none.
         ensures events { OnOk result (T.Storage.events self.new.inner ≡ (if is_some (T.Storage.part_at self.old.inner id)
@@ -215,15 +220,19 @@ impl<T: Component> MaskedStorage<T> {
         Ok(())
     }
 
-    /// Makes room for the events of so many removals.
+    /// Makes room for the events of so many changes.
     ///
     /// Errors: `AllocError`, where the storage emits.
     pub fn make_room(&mut self, count: usize) -> Result<(), AllocError>
         ensures ok { OnOk result (T.Storage.has_room self.new.inner count) }
+        ensures mask { self.new.mask ≡ self.old.mask }
         ensures same { SameParts (T.Storage.part_at self.old.inner) (T.Storage.part_at self.new.inner) }
         ensures events { T.Storage.events self.new.inner ≡ T.Storage.events self.old.inner }
         ensures emission { T.Storage.emits self.new.inner ≡ T.Storage.emits self.old.inner }
+
+        // With room for them, or without events, it is never refused.
         ensures succeeds { T.Storage.emits self.old.inner ≡ false → IsOk result }
+        ensures within_room { T.Storage.has_room self.old.inner count → IsOk result }
     {
         self.inner.make_room(count)
     }

@@ -58,7 +58,7 @@ pub trait UnprotectedStorage<T: Drop>: TryDefault {
     /// Whether a change writes an event.
     ghost emits: { Self → Bool };
 
-    /// Whether so many removals find the memory for their events.
+    /// Whether so many changes find the memory for their events.
     ghost has_room: { Self → ℕ → Type 0 };
 
     /// Takes out all parts, whose indices are the members of `has`. No event is written.
@@ -81,7 +81,8 @@ pub trait UnprotectedStorage<T: Drop>: TryDefault {
         requires { IsSome (part_at self.old id) }
         ensures* writes_back { sem 𝓛 (LendsIfOk Self.row T.row self.entry result (written self.old id) self.old) }
         ensures value { IfOk result (λ part. part_at self.old id ≡ Some part.now) }
-        ensures succeeds { emits self.old ≡ false → IsOk result };
+        ensures succeeds { emits self.old ≡ false → IsOk result }
+        ensures within_room { has_room self.old 1 → IsOk result };
 
     /// Puts `part` at `id`, which has none.
     ///
@@ -93,7 +94,8 @@ pub trait UnprotectedStorage<T: Drop>: TryDefault {
         ensures err { OnErr result (SameParts (part_at self.old) (part_at self.new)) }
         ensures handed_back { IfErr result (λ refused. refused.value ≡ part) }
         ensures events { events self.new ≡ (if is_ok result then told (emits self.old) (events self.old) (event.Inserted id) else events self.old) }
-        ensures emission { emits self.new ≡ emits self.old };
+        ensures emission { emits self.new ≡ emits self.old }
+        ensures room { (count : ℕ) → has_room self.old (count + 1) → has_room self.new count };
 
     /// Takes out the part at `id`, which has one.
     ///
@@ -132,7 +134,7 @@ pub trait UnprotectedStorage<T: Drop>: TryDefault {
         }
     }
 
-    /// Makes room for the events of so many removals.
+    /// Makes room for the events of so many changes.
     ///
     /// Errors: `AllocError`, where the storage emits.
     fn make_room(&mut self, count: usize) -> Result<(), AllocError>
@@ -140,7 +142,10 @@ pub trait UnprotectedStorage<T: Drop>: TryDefault {
         ensures same { SameParts (part_at self.old) (part_at self.new) }
         ensures events { events self.new ≡ events self.old }
         ensures emission { emits self.new ≡ emits self.old }
-        ensures succeeds { emits self.old ≡ false → IsOk result };
+
+        // With room for them, or without events, it is never refused.
+        ensures succeeds { emits self.old ≡ false → IsOk result }
+        ensures within_room { has_room self.old count → IsOk result };
 
     /// What was written is there, and no other part changed.
     ghost written_puts: { (s : Self) (index : ℕ) (part : T) → IsSome (part_at s index) → Puts (part_at s) index (Some part) (part_at (written s index part)) };
@@ -151,7 +156,10 @@ pub trait UnprotectedStorage<T: Drop>: TryDefault {
     /// Writing leaves the emission.
     ghost written_emits: { (s : Self) (index : ℕ) (part : T) → emits (written s index part) ≡ emits s };
 
-    /// Room for one removal more is room for these.
+    /// Lending a part for writing uses up the room of one.
+    ghost written_room: { (s : Self) (index : ℕ) (part : T) (count : ℕ) → has_room s (count + 1) → has_room (written s index part) count };
+
+    /// Room for one change more is room for these.
     ghost room_for_fewer: { (s : Self) (count : ℕ) → has_room s (count + 1) → has_room s count };
 
     /// A default has no part.

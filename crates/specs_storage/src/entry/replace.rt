@@ -1,30 +1,28 @@
 //! Places whose part is replaced.
-ghost use Rattle.std.specs.Prelude.{◌≡◌, ◌<◌, is_some, false, IsSome, IfOk, IsOk, IsErrOf};
+ghost use Rattle.std.specs.Prelude.{◌≡◌, ◌<◌, is_some, false, IsSome, IfOk, IfErr, IsOk};
 ghost use Rattle.std.specs.Borrow.{sem};
-ghost use Rattle.specs_storage.specs.declared.entry.EntryError.TheVariants as refusal;
-ghost use Rattle.specs_storage.specs.EntryLends.{store_of, id_of, IsSettled, rests_unsettled};
+ghost use Rattle.specs_storage.specs.EntryLends.{store_of, id_of, IsSettled, rests_unless_replaced};
 
 use super::occupied::swap;
 use super::vacant::fill;
-use super::{EntryError, OccupiedEntry, Replaced, StorageEntry, VacantEntry};
+use super::{OccupiedEntry, Replaced, StorageEntry, VacantEntry};
 use hibitset::Index;
 use specs_store::{Component, MaskedStorage, UnprotectedStorage};
+use std::alloc::AllocFailed;
 
 impl<'a, T: Component> StorageEntry<'a, T> {
     /// Puts `part` there, and answers the part that was there, or none, with the place.
     ///
     /// A storage that emits writes `Modified`, and before it `Inserted` where none was there.
     ///
-    /// Errors: `Refused` with the part, for want of memory, and each index has the part that it had; `NotLent`, where none
-    /// was there and the storage emits, and the part stays there.
-    pub fn replace(self, part: T) -> Result<Replaced<'a, T>, EntryError<T>>
-        ensures* rests { sem 𝓛 (rests_unsettled T.row T.Storage.row T.Storage.UnprotectedStorage (store_of self.entry) (id_of self.entry) part result) }
+    /// Errors: want of memory, which hands `part` back, and each index has the part that it had.
+    pub fn replace(self, part: T) -> Result<Replaced<'a, T>, AllocFailed<T>>
+        ensures* rests { sem 𝓛 (rests_unless_replaced T.row T.Storage.row T.Storage.UnprotectedStorage (store_of self.entry) result) }
         ensures same_reference { IfOk result (λ done. done.entry.store.ghost_name ≡ (store_of self.entry).ghost_name) }
         ensures value { IfOk result (λ done. done.old ≡ T.Storage.part_at (store_of self.entry).now.inner (id_of self.entry)) }
         ensures id { IfOk result (λ done. done.entry.id ≡ id_of self.entry) }
         ensures ok { IfOk result (λ done. IsSettled T.Storage.UnprotectedStorage (store_of self.entry).now (id_of self.entry) part done.entry.store.now) }
-        ensures handed_back { (value : T) → IsErrOf result (refusal.Refused value) → value ≡ part }
-        ensures lent { T.Storage.emits (store_of self.entry).now.inner ≡ false → ¬ (IsErrOf result refusal.NotLent) }
+        ensures handed_back { IfErr result (λ refused. refused.value ≡ part) }
         ensures succeeds { IsSome (T.Storage.part_at (store_of self.entry).now.inner (id_of self.entry)) → T.Storage.emits (store_of self.entry).now.inner ≡ false → IsOk result }
     {
         match self {
@@ -38,14 +36,13 @@ impl<'a, T: Component> StorageEntry<'a, T> {
 fn change<T: Component>(
     entry: OccupiedEntry<'_, T>,
     part: T,
-) -> Result<Replaced<'_, T>, EntryError<T>>
-    ensures* rests { sem 𝓛 (rests_unsettled T.row T.Storage.row T.Storage.UnprotectedStorage entry.entry.store entry.entry.id part result) }
+) -> Result<Replaced<'_, T>, AllocFailed<T>>
+    ensures* rests { sem 𝓛 (rests_unless_replaced T.row T.Storage.row T.Storage.UnprotectedStorage entry.entry.store result) }
     ensures same_reference { IfOk result (λ done. done.entry.store.ghost_name ≡ entry.entry.store.ghost_name) }
     ensures value { IfOk result (λ done. done.old ≡ T.Storage.part_at entry.entry.store.now.inner entry.entry.id) }
     ensures id { IfOk result (λ done. done.entry.id ≡ entry.entry.id) }
     ensures ok { IfOk result (λ done. IsSettled T.Storage.UnprotectedStorage entry.entry.store.now entry.entry.id part done.entry.store.now) }
-    ensures handed_back { (value : T) → IsErrOf result (refusal.Refused value) → value ≡ part }
-    ensures lent { ¬ (IsErrOf result refusal.NotLent) }
+    ensures handed_back { IfErr result (λ refused. refused.value ≡ part) }
     ensures succeeds { T.Storage.emits entry.entry.store.now.inner ≡ false → IsOk result }
 {
     let OccupiedEntry { store, id } = entry;
@@ -56,14 +53,13 @@ fn change<T: Component>(
 fn settle<T: Component>(
     entry: VacantEntry<'_, T>,
     part: T,
-) -> Result<Replaced<'_, T>, EntryError<T>>
-    ensures* rests { sem 𝓛 (rests_unsettled T.row T.Storage.row T.Storage.UnprotectedStorage entry.entry.store entry.entry.id part result) }
+) -> Result<Replaced<'_, T>, AllocFailed<T>>
+    ensures* rests { sem 𝓛 (rests_unless_replaced T.row T.Storage.row T.Storage.UnprotectedStorage entry.entry.store result) }
     ensures same_reference { IfOk result (λ done. done.entry.store.ghost_name ≡ entry.entry.store.ghost_name) }
     ensures value { IfOk result (λ done. done.old ≡ T.Storage.part_at entry.entry.store.now.inner entry.entry.id) }
     ensures id { IfOk result (λ done. done.entry.id ≡ entry.entry.id) }
     ensures ok { IfOk result (λ done. IsSettled T.Storage.UnprotectedStorage entry.entry.store.now entry.entry.id part done.entry.store.now) }
-    ensures handed_back { (value : T) → IsErrOf result (refusal.Refused value) → value ≡ part }
-    ensures lent { T.Storage.emits entry.entry.store.now.inner ≡ false → ¬ (IsErrOf result refusal.NotLent) }
+    ensures handed_back { IfErr result (λ refused. refused.value ≡ part) }
 {
     let VacantEntry { store, id } = entry;
     settle_at(store, id, part)
@@ -74,16 +70,15 @@ fn change_at<T: Component>(
     store: &mut MaskedStorage<T>,
     id: Index,
     part: T,
-) -> Result<Replaced<'_, T>, EntryError<T>>
+) -> Result<Replaced<'_, T>, AllocFailed<T>>
     requires there { IsSome (T.Storage.part_at store.old.inner id) }
     requires range { id < 16777216 }
-    ensures* rests { sem 𝓛 (rests_unsettled T.row T.Storage.row T.Storage.UnprotectedStorage store.entry id part result) }
+    ensures* rests { sem 𝓛 (rests_unless_replaced T.row T.Storage.row T.Storage.UnprotectedStorage store.entry result) }
     ensures same_reference { IfOk result (λ done. done.entry.store.ghost_name ≡ store.entry.ghost_name) }
     ensures value { IfOk result (λ done. done.old ≡ T.Storage.part_at store.old.inner id) }
     ensures id { IfOk result (λ done. done.entry.id ≡ id) }
     ensures ok { IfOk result (λ done. IsSettled T.Storage.UnprotectedStorage store.old id part done.entry.store.now) }
-    ensures handed_back { (value : T) → IsErrOf result (refusal.Refused value) → value ≡ part }
-    ensures lent { ¬ (IsErrOf result refusal.NotLent) }
+    ensures handed_back { IfErr result (λ refused. refused.value ≡ part) }
     ensures succeeds { T.Storage.emits store.old.inner ≡ false → IsOk result }
 {
     let old = swap(store, id, part)?;
@@ -98,16 +93,15 @@ fn settle_at<T: Component>(
     store: &mut MaskedStorage<T>,
     id: Index,
     part: T,
-) -> Result<Replaced<'_, T>, EntryError<T>>
+) -> Result<Replaced<'_, T>, AllocFailed<T>>
     requires lacking { is_some (T.Storage.part_at store.old.inner id) ≡ false }
     requires range { id < 16777216 }
-    ensures* rests { sem 𝓛 (rests_unsettled T.row T.Storage.row T.Storage.UnprotectedStorage store.entry id part result) }
+    ensures* rests { sem 𝓛 (rests_unless_replaced T.row T.Storage.row T.Storage.UnprotectedStorage store.entry result) }
     ensures same_reference { IfOk result (λ done. done.entry.store.ghost_name ≡ store.entry.ghost_name) }
     ensures value { IfOk result (λ done. done.old ≡ T.Storage.part_at store.old.inner id) }
     ensures id { IfOk result (λ done. done.entry.id ≡ id) }
     ensures ok { IfOk result (λ done. IsSettled T.Storage.UnprotectedStorage store.old id part done.entry.store.now) }
-    ensures handed_back { (value : T) → IsErrOf result (refusal.Refused value) → value ≡ part }
-    ensures lent { T.Storage.emits store.old.inner ≡ false → ¬ (IsErrOf result refusal.NotLent) }
+    ensures handed_back { IfErr result (λ refused. refused.value ≡ part) }
 {
     fill(store, id, part)?;
     Ok(Replaced {

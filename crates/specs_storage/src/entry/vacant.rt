@@ -1,12 +1,11 @@
 //! Places without a part.
-ghost use Rattle.std.specs.Prelude.{◌≡◌, ◌<◌, is_some, false, Some, IfOk, IfErr, IsErrOf};
+ghost use Rattle.std.specs.Prelude.{◌≡◌, ◌<◌, is_some, false, Some, IfOk, IfErr};
 ghost use Rattle.std.specs.Borrow.{sem};
 ghost use Rattle.specs_store.specs.Parts.{Puts, told};
 ghost use Rattle.specs_store.specs.declared.track.ComponentEvent.TheVariants as event;
-ghost use Rattle.specs_storage.specs.declared.entry.EntryError.TheVariants as refusal;
 ghost use Rattle.specs_storage.specs.EntryLends.{rests_if_refused, lends_put};
 
-use super::{EntryError, OccupiedEntry, VacantEntry};
+use super::{OccupiedEntry, VacantEntry};
 use hibitset::Index;
 use specs_store::{Component, MaskedStorage, UnprotectedStorage};
 use std::alloc::AllocFailed;
@@ -16,13 +15,11 @@ impl<'a, T: Component> VacantEntry<'a, T> {
     ///
     /// A storage that emits writes `Inserted`, and then `Modified`, since the part is lent.
     ///
-    /// Errors: `Refused` with the part, for want of memory, and each index has the part that it had; `NotLent`, where the
-    /// storage emits, and the part stays there.
-    pub fn insert(self, part: T) -> Result<&'a mut T, EntryError<T>>
-        ensures* writes_back { sem 𝓛 (lends_put T.row T.Storage.row T.Storage.UnprotectedStorage self.entry.store self.entry.id part result) }
+    /// Errors: want of memory, which hands `part` back, and each index has the part that it had.
+    pub fn insert(self, part: T) -> Result<&'a mut T, AllocFailed<T>>
+        ensures* writes_back { sem 𝓛 (lends_put T.row T.Storage.row T.Storage.UnprotectedStorage self.entry.store self.entry.id result) }
         ensures value { IfOk result (λ lent. lent.now ≡ part) }
-        ensures handed_back { (value : T) → IsErrOf result (refusal.Refused value) → value ≡ part }
-        ensures lent { T.Storage.emits self.entry.store.now.inner ≡ false → ¬ (IsErrOf result refusal.NotLent) }
+        ensures handed_back { IfErr result (λ refused. refused.value ≡ part) }
     {
         let VacantEntry { store, id } = self;
         fill(store, id, part)
@@ -66,21 +63,23 @@ fn put<T: Component>(
 }
 
 /// Puts a part at an index that has none, and lends it.
-pub(super) fn fill<T: Component>(
+pub(crate) fn fill<T: Component>(
     store: &mut MaskedStorage<T>,
     id: Index,
     part: T,
-) -> Result<&mut T, EntryError<T>>
+) -> Result<&mut T, AllocFailed<T>>
     requires lacking { is_some (T.Storage.part_at store.old.inner id) ≡ false }
     requires range { id < 16777216 }
-    ensures* writes_back { sem 𝓛 (lends_put T.row T.Storage.row T.Storage.UnprotectedStorage store.entry id part result) }
+    ensures* writes_back { sem 𝓛 (lends_put T.row T.Storage.row T.Storage.UnprotectedStorage store.entry id result) }
     ensures value { IfOk result (λ lent. lent.now ≡ part) }
-    ensures handed_back { (value : T) → IsErrOf result (refusal.Refused value) → value ≡ part }
-    ensures lent { T.Storage.emits store.old.inner ≡ false → ¬ (IsErrOf result refusal.NotLent) }
+    ensures handed_back { IfErr result (λ refused. refused.value ≡ part) }
 {
-    if let Err(refused) = store.insert(id, part) {
-        return Err(EntryError::Refused(refused.value));
+    if store.make_room(2).is_err() {
+        return Err(AllocFailed { value: part });
     }
-    let place = store.get_mut(id)?;
-    Ok(place)
+    store.insert(id, part)?;
+    match store.get_mut(id) {
+        Ok(place) => Ok(place),
+        Err(_) => unreachable!(),
+    }
 }

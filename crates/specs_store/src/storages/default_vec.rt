@@ -124,6 +124,8 @@ impl<T: Default + Drop> UnprotectedStorage<T> for DefaultVecStorage<T> {
 
     ghost written_emits = { λ _ _ _. refl };
 
+    ghost written_room = { λ _ _ _ _ room. room };
+
     ghost room_for_fewer = { λ _ _ room. room };
 
     ghost starts_empty = { filled-starts };

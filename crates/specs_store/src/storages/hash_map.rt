@@ -80,6 +80,8 @@ impl<T: Drop> UnprotectedStorage<T> for HashMapStorage<T> {
 
     ghost written_emits = { λ _ _ _. refl };
 
+    ghost written_room = { λ _ _ _ _ room. room };
+
     ghost room_for_fewer = { λ _ _ room. room };
 
     ghost starts_empty = { table-starts };

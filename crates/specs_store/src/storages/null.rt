@@ -57,6 +57,8 @@ impl<T: Single> UnprotectedStorage<T> for NullStorage<T> {
 
     ghost written_emits = { λ _ _ _. refl };
 
+    ghost written_room = { λ _ _ _ _ room. room };
+
     ghost room_for_fewer = { λ _ _ room. room };
 
     ghost starts_empty = { flags-start };

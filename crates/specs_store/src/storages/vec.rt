@@ -89,6 +89,8 @@ impl<T: Drop> UnprotectedStorage<T> for VecStorage<T> {
 
     ghost written_emits = { λ _ _ _. refl };
 
+    ghost written_room = { λ _ _ _ _ room. room };
+
     ghost room_for_fewer = { λ _ _ room. room };
 
     ghost starts_empty = { λ s. slots-start s.slots.items };

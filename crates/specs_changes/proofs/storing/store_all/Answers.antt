@@ -1,11 +1,13 @@
-use Rattle.std.proofs.Common.{length, refl, sym, ap, ◌∙◌, arith}
+use Rattle.std.proofs.Common.{◌≡◌, ◌+◌, length, sym, ap, subst, refl, ◌∙◌, arith}
+use Rattle.std.proofs.lemmas.Bool.{false≢true}
+use Rattle.std.specs.Vec.Iter.{into_iter_items}
 use Rattle.hibitset_sets.specs.BitSet.{has_member}
 use Rattle.hibitset_sets.specs.Walk.{walk}
 use Rattle.specs_store.specs.Parts.{told}
 use Rattle.specs_store.specs.declared.track.ComponentEvent.TheVariants as event
 use Rattle.specs_changes.specs.Storing.{left_at}
-use Rattle.specs_changes.proofs.ChangeLemmas.{always-on-err}
-use Rattle.specs_changes.proofs.StoreLemmas.{moved-on, storing-begins, storing-goes-on, storing-member, storing-stops}
+use Rattle.specs_store.proofs.DropSteps.{room-for-one}
+use Rattle.specs_changes.proofs.StoreLemmas.{moved-on, storing-begins, storing-goes-on, storing-member}
 use Rattle.specs_changes.proofs.storing.store_all.Goals as goal
 
 pub loop-value-init : goal.loop-value-init
@@ -15,13 +17,14 @@ loop-value-init g c =
     (λ j. left_at (sym c.mask.ensures.value j) (c.into_parts.ensures.masks j) (c.into_parts.ensures.prefix j))
     ∙ (λ j. left_at (sym c.iter.ensures.set j).now c.iter.result.masks c.iter.result.prefix)
     ∙ c.iter.ensures.items
-    ∙ ap (λ set. walk (has_member set)) c.mask.ensures.value in
+    ∙ ap (λ set. walk (has_member set)) (c.mask.ensures.value ∙ c.in_ok-make_room.ensures.mask) in
     record {
-      mask = refl;
+      mask = c.in_ok-make_room.ensures.mask;
       placed = c.into_parts.ensures.placed;
-      emission = refl;
+      emission = c.in_ok-make_room.ensures.emission;
       counted = made.1 ∙ c.args.values.ok.0 ∙ ap length (sym made.0);
-      storing = storing-begins _ _ _ _ _ _ _ begins made.0;
+      room = subst (g.T.Storage.UnprotectedStorage.has_room c.make_room.new.self.inner) (c.len.ensures ∙ c.args.values.ok.0 ∙ ap length (sym made.0)) c.in_ok-make_room.ensures.ok;
+      storing = storing-begins _ _ _ _ _ _ _ _ _ begins made.0 c.in_ok-make_room.ensures.same c.in_ok-make_room.ensures.events;
     }
 
 pub get_mut-requires : goal.get_mut-requires
@@ -32,9 +35,14 @@ get_mut-requires g c =
     ∙ ap (λ set. has_member set c.in-Some-next_index.index) at.invariant.mask
     ∙ storing-member _ _ _ _ _ _ _ _ _ at.invariant.storing (has_member c.args.storage.now.mask) refl c.in-Some-next_index.index _ next
 
-pub returns-in_err-get_mut-clause-err : goal.returns-in_err-get_mut-clause-err
-returns-in_err-get_mut-clause-err g c =
-    always-on-err c.from_residual.result (storing-stops _ _ _ _ _ _ _ _ _ c.loop-value.invariant.storing c.in-Some.value _ c.in-Some.ensures.steps.0)
+pub unreachable-requires-in-Err : goal.unreachable-requires-in-Err
+unreachable-requires-in-Err g c =
+    let at = c.loop-value in
+    let room = g.T.Storage.UnprotectedStorage.has_room at.storage.inner in
+    let count = length (into_iter_items c.next.new.self) in
+    let longer = ap length c.in-Some.ensures.steps.0 in
+    let left : length (into_iter_items at.value-iterator) ≡ count + 1 = omega (arith, longer) in
+    absurd (false≢true (c.in-Err.ensures.within_room (room-for-one room (g.met.T.Storage.UnprotectedStorage.room_for_fewer at.storage.inner) count (subst room left at.invariant.room))))
 
 pub loop-value-preserved : goal.loop-value-preserved
 loop-value-preserved g c =
@@ -44,6 +52,8 @@ loop-value-preserved g c =
     let next = moved-on c.mask-in-loop-value.result.now at.storage.mask c.mask-in-loop-value.ensures.value at.masks at.prefix index c.next_index.new.masks c.next_index.new.prefix c.in-Some-next_index.ensures.item in
     let storage = g.met.T.Storage.UnprotectedStorage in
     let longer = ap length given.0 in
+    let count = length (into_iter_items c.next.new.self) in
+    let left : length (into_iter_items at.value-iterator) ≡ count + 1 = omega (arith, longer) in
     let counted = at.invariant.counted in
     let one = given.1 in
     let member =
@@ -55,6 +65,7 @@ loop-value-preserved g c =
       placed = c.next_index.ensures.placed;
       emission = storage.written_emits at.storage.inner index c.in-Some.value ∙ at.invariant.emission;
       counted = omega (arith, longer, counted, one);
+      room = storage.written_room at.storage.inner index c.in-Some.value count (subst (g.T.Storage.UnprotectedStorage.has_room at.storage.inner) left at.invariant.room);
       storing =
           storing-goes-on _ _ _ _ _ _ _ _ _ at.invariant.storing (has_member c.args.storage.now.mask) refl index _ next c.in-Some.value _ given.0 _
           (storage.written_puts at.storage.inner index c.in-Some.value member)

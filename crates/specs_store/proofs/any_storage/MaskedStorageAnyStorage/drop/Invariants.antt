@@ -7,5 +7,5 @@ invariant-loop-entity g l =
     let storage = g.T.Storage.UnprotectedStorage in
     record {
       dropped : DropsAll (storage.part_at l.fn.self.inner) (storage.events l.fn.self.inner) (storage.emits l.fn.self.inner) (ids_of (take l.entity-index l.entities)) (storage.part_at l.self.inner) (storage.events l.self.inner) (storage.emits l.self.inner);
-      room : storage.has_room l.fn.self.inner (length l.entities) → storage.has_room l.self.inner (length l.entities - l.entity-index);
+      room : storage.has_room l.self.inner (length l.entities - l.entity-index);
     }
