@@ -93,6 +93,48 @@ fn each_part_is_raised_once(rt: HostRuntime) {
     assert!(rt; are_raised(&parts, 50));
 }
 
+/// Adds the part at the cursor's index to that of an entity, and answers whether that was lent.
+fn add_to<R: Join>(cursor: &mut PairCursor<'_, Score, R>, sum: Entity) -> bool
+    requires { (index : ℕ) × (cursor.old.index ≡ Some index) × IsAt R.value_at cursor.old.store.now.mask cursor.old.values index }
+    ensures parts { cursor.new.store.now.mask ≡ cursor.old.store.now.mask }
+    ensures mask { cursor.new.mask ≡ cursor.old.mask }
+    ensures values { cursor.new.values ≡ cursor.old.values }
+    ensures masks { cursor.new.masks ≡ cursor.old.masks }
+    ensures prefix { cursor.new.prefix ≡ cursor.old.prefix }
+{
+    let own = cursor.get_unchecked().0;
+    match cursor.get_mut(sum) {
+        Ok(part) => {
+            part.0 = part.0.wrapping_add(own);
+            true
+        }
+        Err(_) => false,
+    }
+}
+
+/// Adds each part at an index of the join to that of an entity, and answers what that has then.
+fn add_all<R: Join>(storage: &mut WriteStorage<'_, Score>, read: R, sum: Entity) -> Option<u32> {
+    let mut cursor = storage.restrict_mut().cursor(read);
+    while cursor.advance() {
+        if !add_to(&mut cursor, sum) {
+            return None;
+        }
+    }
+    cursor.get(sum).map(|part| part.0)
+}
+
+#[test]
+fn all_parts_are_added_to_one(rt: HostRuntime) {
+    let mut entities = EntitiesRes::new(rt.alloc());
+    assert!(rt; entities.create_iter(2).is_ok());
+    let sum = entities.entity(1);
+    let mut parts = scores(rt.alloc());
+    assert!(rt; put_doubles(&mut parts, 50));
+    let nothing = BitSet::new(rt.alloc());
+    let mut storage = Storage::new(&entities, &mut parts);
+    assert_eq!(rt; add_all(&mut storage, (&nothing).maybe(), sum), Some(2452));
+}
+
 /// What the first two pairs show, each with the part of one entity.
 fn shown(
     storage: &ReadStorage<'_, Score>,

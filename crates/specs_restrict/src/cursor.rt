@@ -1,17 +1,20 @@
 //! A walk over the parts of a storage, which lends one pair after the other.
 ghost use mir.Syntax.{named};
-ghost use Rattle.std.specs.Prelude.{◌≡◌, ℕ, ◌<◌, ◌&&◌, [], ◌∷◌, true, false, Some, is_some, unwrap_or, IsSome, IsTrue, IsOk, IfOk};
+ghost use Rattle.std.specs.Prelude.{◌≡◌, ◌↔◌, ℕ, ◌<◌, ◌&&◌, [], ◌∷◌, true, false, Some, is_some, option_copied, unwrap_or, IsSome, IsTrue, IsOk, IfOk, IsErrOf};
 ghost use Rattle.std.specs.Borrow.{sem, Lends, LendsIfOk};
 ghost use Rattle.hibitset_sets.specs.BitSet.{has_member};
 ghost use Rattle.hibitset_sets.specs.Walk.{walk};
 ghost use Rattle.specs_cursor.specs.Cursor.{left_in, IsReady, IsAt};
 ghost use Rattle.specs_storage.specs.StorageLends.{masked_row};
+ghost use Rattle.specs_storage.specs.Found.{Finds, HasPart};
+ghost use Rattle.specs_storage.specs.declared.storage.LendError.TheVariants as lending;
 
-use crate::pair::PairedStorageMut;
+use crate::pair::{PairedStorageMut, has_part, lend_at, part_of};
 use crate::restricted::{RestrictedStorageMut, SequentialRestriction};
 use hibitset::{BitIter, BitSetAnd, BitSetLike, Index, Uncounted};
-use specs_entity::EntitiesRes;
+use specs_entity::{EntitiesRes, Entity};
 use specs_join::Join;
+use specs_storage::LendError;
 use specs_store::{Component, MaskedStorage, UnprotectedStorage};
 use std::alloc::AllocError;
 
@@ -137,5 +140,43 @@ impl<'a, T: Component, R: Join> PairCursor<'a, T, R> {
         };
         let _mask = self.store.mask();
         self.store.get_mut(place)
+    }
+
+    /// The storage's part at the index.
+    pub fn get_unchecked(&self) -> &T
+        requires { (index : ℕ) × (self.now.index ≡ Some index) × IsAt R.value_at self.now.store.now.mask self.now.values index }
+        ensures { (index : ℕ) → self.now.index ≡ Some index → T.Storage.part_at self.now.store.now.inner index ≡ Some result.now }
+    {
+        let Some(index) = self.index else {
+            unreachable!()
+        };
+        let _mask = self.store.mask();
+        self.store.get(index)
+    }
+
+    /// The storage's part of an entity, or none where the entity isn't alive or has none.
+    pub fn get(&self, entity: Entity) -> Option<&T>
+        ensures { Finds self.now.entities.now (T.Storage.part_at self.now.store.now.inner) entity (option_copied result) }
+    {
+        part_of(self.store, self.entities, entity)
+    }
+
+    /// The storage's part of an entity, for writing.
+    ///
+    /// Errors: `Absent` if the entity isn't alive or has no part, and `Memory`, where the storage emits. Nothing changed.
+    pub fn get_mut(&mut self, entity: Entity) -> Result<&mut T, LendError>
+        ensures* writes_back { sem 𝓛 (LendsIfOk (the_row (record { mir = named 1; lft = [] }) T.row R.row T.Storage.row R.Type.row R.Shown.row R.Value.row R.Mask.row
+            (record { part_at = T.Storage.part_at; written = T.Storage.written; events = T.Storage.events; emits = T.Storage.emits; has_room = T.Storage.has_room })
+            (record { is_default = T.Storage.is_default; always = T.Storage.always })) T.row self.entry result
+            (λ part. record self.old { store = record self.old.store { now = record self.old.store.now { inner = T.Storage.written self.old.store.now.inner entity.id part } } }) self.old) }
+        ensures value { IfOk result (λ part. T.Storage.part_at self.old.store.now.inner entity.id ≡ Some part.now) }
+        ensures absent { IsErrOf result lending.Absent ↔ ¬ (HasPart self.old.entities.now (T.Storage.part_at self.old.store.now.inner) entity) }
+        ensures succeeds { T.Storage.emits self.old.store.now.inner ≡ false → HasPart self.old.entities.now (T.Storage.part_at self.old.store.now.inner) entity → IsOk result }
+    {
+        let entities = self.entities;
+        if !has_part(self.store, entities, entity) {
+            return Err(LendError::Absent);
+        }
+        lend_at(self.store, entity.id())
     }
 }

@@ -99,7 +99,7 @@ impl<'a, T: Component> PairedStorageMut<'a, T> {
 }
 
 /// The part of an entity in a storage, or none where the entity isn't alive or has none.
-fn part_of<'a, T: Component>(
+pub(crate) fn part_of<'a, T: Component>(
     store: &'a MaskedStorage<T>,
     entities: &EntitiesRes,
     entity: Entity,
@@ -114,14 +114,21 @@ fn part_of<'a, T: Component>(
 }
 
 /// Whether an entity is alive and has a part in a storage.
-fn has_part<T: Component>(store: &MaskedStorage<T>, entities: &EntitiesRes, entity: Entity) -> bool
+pub(crate) fn has_part<T: Component>(
+    store: &MaskedStorage<T>,
+    entities: &EntitiesRes,
+    entity: Entity,
+) -> bool
     ensures { IsTrue result ↔ HasPart entities.now (T.Storage.part_at store.now.inner) entity }
 {
     store.contains(entity.id()) && entities.is_alive(entity)
 }
 
 /// The part at an index that has one, for writing.
-fn lend_at<T: Component>(store: &mut MaskedStorage<T>, index: Index) -> Result<&mut T, LendError>
+pub(crate) fn lend_at<T: Component>(
+    store: &mut MaskedStorage<T>,
+    index: Index,
+) -> Result<&mut T, LendError>
     requires { IsSome (T.Storage.part_at store.old.inner index) }
     ensures* writes_back { sem 𝓛 (lends_at T.row T.Storage.row T.Storage.UnprotectedStorage store.entry index result) }
     ensures value { IfOk result (λ part. T.Storage.part_at store.old.inner index ≡ Some part.now) }
