@@ -136,26 +136,45 @@ impl Component for Marked {
     type Storage = NullStorage<Marked>;
 }
 
+/// Whether so many entities are born.
+fn are_born(entities: &mut EntitiesRes, count: u32) -> bool {
+    for _ in 0..count {
+        if entities.allocate().is_err() {
+            return false;
+        }
+    }
+    true
+}
+
+/// Whether the entities at the indices from 0 on, so many, are killed.
+fn are_killed(entities: &mut EntitiesRes, count: u32) -> bool {
+    for id in 0..count {
+        let entity = entities.entity(id);
+        if entities.kill(&[entity]).is_err() {
+            return false;
+        }
+    }
+    true
+}
+
 /// So many entities, at the indices from 0 on.
 fn people(alloc: Global, count: u32) -> Option<EntitiesRes> {
     let mut entities = EntitiesRes::new(alloc);
-    for _ in 0..count {
-        entities.allocate().ok()?;
+    if are_born(&mut entities, count) {
+        Some(entities)
+    } else {
+        None
     }
-    Some(entities)
 }
 
 /// The same, each born for the second time at its index.
 fn born_again(alloc: Global, count: u32) -> Option<EntitiesRes> {
     let mut entities = people(alloc, count)?;
-    for id in 0..count {
-        let entity = entities.entity(id);
-        entities.kill(&[entity]).ok()?;
+    if are_killed(&mut entities, count) && are_born(&mut entities, count) {
+        Some(entities)
+    } else {
+        None
     }
-    for _ in 0..count {
-        entities.allocate().ok()?;
-    }
-    Some(entities)
 }
 
 /// A storage without parts.
@@ -344,19 +363,27 @@ fn a_later_generation_reaches_no_part(rt: HostRuntime) {
     assert_eq!(rt; found, [Some(true); 5]);
 }
 
+/// Whether the first entities have no part that could be taken out.
+fn takes_none<C: Numbered>(
+    storage: &mut WriteStorage<'_, C>,
+    entities: &EntitiesRes,
+    count: u32,
+) -> bool {
+    for id in 0..count {
+        if !matches!(storage.remove(entities.entity(id)), Ok(None)) {
+            return false;
+        }
+    }
+    true
+}
+
 /// Whether nothing is there to be taken out where only later generations were asked to put.
 fn stays_empty<C: Numbered>(alloc: Global) -> Option<bool> {
     let entities = people(alloc, 1000)?;
     let later = born_again(alloc, 1000)?;
     let mut parts = made::<C>(alloc)?;
     let mut storage = Storage::new(&entities, &mut parts);
-    let is_refused = refuses(&mut storage, &later, 1000);
-    for id in 0..1000u32 {
-        if !matches!(storage.remove(entities.entity(id)), Ok(None)) {
-            return Some(false);
-        }
-    }
-    Some(is_refused)
+    Some(refuses(&mut storage, &later, 1000) && takes_none(&mut storage, &entities, 1000))
 }
 
 #[test]
@@ -417,19 +444,25 @@ fn no_index_has_a_part_and_has_none(rt: HostRuntime) {
     assert_eq!(rt; both_ways(rt.alloc()), Some((10, 0)));
 }
 
+/// Whether the parts of the first entities, numbered from 0 on, give way to those numbered from 7000 on.
+fn replaces_all(storage: &mut WriteStorage<'_, Slot>, entities: &EntitiesRes, count: u32) -> bool {
+    for id in 0..count {
+        match storage.insert(entities.entity(id), Slot(id.wrapping_add(7000))) {
+            Ok(Some(old)) if old.0 == id => {}
+            _ => return false,
+        }
+    }
+    true
+}
+
 /// Whether a second part at an entity takes the first one's place.
 fn puts_twice(alloc: Global) -> Option<bool> {
     let entities = people(alloc, 1000)?;
     let mut parts = made::<Slot>(alloc)?;
     let mut storage = Storage::new(&entities, &mut parts);
     let is_full = fills(&mut storage, 1000, 0);
-    for id in 0..1000u32 {
-        match storage.insert(entities.entity(id), Slot(id.wrapping_add(7000))) {
-            Ok(Some(old)) if old.0 == id => {}
-            _ => return Some(false),
-        }
-    }
-    Some(is_full && has(&storage, 1000, 7000))
+    let is_replaced = replaces_all(&mut storage, &entities, 1000);
+    Some(is_full && is_replaced && has(&storage, 1000, 7000))
 }
 
 #[test]
