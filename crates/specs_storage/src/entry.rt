@@ -19,12 +19,6 @@ pub(crate) use vacant::fill;
 pub struct EntryOf<'a, T: Component> {
     /// The storage.
     pub store: &'a mut MaskedStorage<T>,
-    asked: Asked,
-}
-
-/// An entity that was asked for, and what is known of it.
-#[derive(Drop)]
-struct Asked {
     entity: Entity,
     is_alive: bool,
     last: Generation,

@@ -6,46 +6,28 @@ ghost use Rattle.specs_entity.specs.Life.{first_life};
 ghost use Rattle.specs_storage.specs.StorageLends.{lends_store};
 ghost use Rattle.specs_storage.specs.EntryLends.{lends_open, store_of, id_of};
 
-use super::{Asked, EntryOf, OccupiedEntry, StorageEntry, VacantEntry};
+use super::{EntryOf, OccupiedEntry, StorageEntry, VacantEntry};
 use crate::storage::Storage;
 use hibitset::Index;
 use specs_entity::{Entity, Generation, WrongGeneration};
 use specs_store::{Component, MaskedStorage, UnprotectedStorage};
 
 impl<'e, T: Component> Storage<'e, T, &'e mut MaskedStorage<T>> {
-    /// The place of an entity's part, as one with a part or one without.
-    ///
-    /// What becomes of the storage where the place is used is not said here: `entry_of` and `EntryOf::open`, the two steps of
-    /// this call, say it.
-    ///
-    /// Errors: `WrongGeneration` if the entity isn't alive, with the generation that `EntitiesRes::generation` gives for
-    /// its index, or 1 where that has none.
-    pub fn entry(&mut self, e: Entity) -> Result<StorageEntry<'_, T>, WrongGeneration>
-        ensures value { IfOk result (λ entry. (store_of entry).now ≡ self.old.store.now) }
-        ensures id { IfOk result (λ entry. id_of entry ≡ e.id) }
-        ensures succeeds { IsOk result ↔ IsAlive self.old.entities.now e }
-        ensures wrong_generation { IfErr result (λ refusal. (refusal.entity ≡ e) × (refusal.actual_gen ≡ unwrap_or (persistent_at self.old.entities.now e.id) first_life)) }
-    {
-        self.entry_of(e).open()
-    }
-
-    /// The storage with what is known of an entity's place, which `EntryOf::open` tells.
-    pub fn entry_of(&mut self, e: Entity) -> EntryOf<'_, T>
+    /// The place of an entity's part, which `EntryOf::open` tells.
+    pub fn entry(&mut self, e: Entity) -> EntryOf<'_, T>
         ensures* writes_back { sem 𝓛 (lends_store T.row T.Storage.row T.Storage.UnprotectedStorage self.entry result.store) }
         ensures value { result.store.now ≡ self.old.store.now }
-        ensures entity { result.asked.entity ≡ e }
-        ensures alive { IsTrue result.asked.is_alive ↔ IsAlive self.old.entities.now e }
-        ensures last { result.asked.last ≡ unwrap_or (persistent_at self.old.entities.now e.id) first_life }
+        ensures entity { result.entity ≡ e }
+        ensures alive { IsTrue result.is_alive ↔ IsAlive self.old.entities.now e }
+        ensures last { result.last ≡ unwrap_or (persistent_at self.old.entities.now e.id) first_life }
     {
         let is_alive = self.entities.is_alive(e);
         let last = self.entities.generation(e.id());
         EntryOf {
             store: self.store,
-            asked: Asked {
-                entity: e,
-                is_alive,
-                last: last.unwrap_or(Generation::one()),
-            },
+            entity: e,
+            is_alive,
+            last: last.unwrap_or(Generation::one()),
         }
     }
 }
@@ -59,16 +41,16 @@ impl<'a, T: Component> EntryOf<'a, T> {
         ensures* rests { sem 𝓛 (lends_open T.row T.Storage.row T.Storage.UnprotectedStorage self.entry.store result) }
         ensures same_reference { IfOk result (λ entry. (store_of entry).ghost_name ≡ self.entry.store.ghost_name) }
         ensures value { IfOk result (λ entry. (store_of entry).now ≡ self.entry.store.now) }
-        ensures id { IfOk result (λ entry. id_of entry ≡ self.entry.asked.entity.id) }
-        ensures succeeds { IsOk result ↔ IsTrue self.entry.asked.is_alive }
-        ensures wrong_generation { IfErr result (λ refusal. (refusal.entity ≡ self.entry.asked.entity) × (refusal.actual_gen ≡ self.entry.asked.last)) }
+        ensures id { IfOk result (λ entry. id_of entry ≡ self.entry.entity.id) }
+        ensures succeeds { IsOk result ↔ IsTrue self.entry.is_alive }
+        ensures wrong_generation { IfErr result (λ refusal. (refusal.entity ≡ self.entry.entity) × (refusal.actual_gen ≡ self.entry.last)) }
     {
-        let EntryOf { store, asked } = self;
-        let Asked {
+        let EntryOf {
+            store,
             entity,
             is_alive,
             last,
-        } = asked;
+        } = self;
         if !is_alive {
             return Err(WrongGeneration {
                 action: "take the entry",
