@@ -24,7 +24,7 @@ fn replaced(
     entity: Entity,
     number: u32,
 ) -> Option<Option<u32>> {
-    let Ok(place) = storage.entry(entity).open() else {
+    let Ok(place) = storage.entry(entity) else {
         return None;
     };
     match place.replace(Score(number)) {
@@ -47,7 +47,7 @@ fn replace_answers_what_was_there(rt: HostRuntime) {
 
 /// The double of the number at an entity's place, which is put first where none was there.
 fn doubled(storage: &mut WriteStorage<'_, Score>, entity: Entity, number: u32) -> Option<u32> {
-    let Ok(place) = storage.entry(entity).open() else {
+    let Ok(place) = storage.entry(entity) else {
         return None;
     };
     match place.or_insert(Score(number)) {
@@ -61,7 +61,7 @@ fn doubled(storage: &mut WriteStorage<'_, Score>, entity: Entity, number: u32) -
 
 /// The number at an entity's place, which a closure gives where none was there.
 fn made(storage: &mut WriteStorage<'_, Score>, entity: Entity, number: u32) -> Option<u32> {
-    let Ok(place) = storage.entry(entity).open() else {
+    let Ok(place) = storage.entry(entity) else {
         return None;
     };
     match place.or_insert_with(|| Score(number)) {
@@ -86,7 +86,7 @@ fn a_part_is_put_only_where_none_is(rt: HostRuntime) {
 
 /// Raises the number at an entity's place by one, or puts 8 where none was there and makes it 9; answers what is there then.
 fn raised(storage: &mut WriteStorage<'_, Score>, entity: Entity) -> Option<u32> {
-    match storage.entry(entity).open() {
+    match storage.entry(entity) {
         Ok(StorageEntry::Occupied(mut place)) => {
             if let Ok(score) = place.get_mut() {
                 score.0 = score.0.wrapping_add(1);

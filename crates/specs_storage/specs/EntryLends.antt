@@ -8,12 +8,13 @@ use Rattle.specs_store.specs.declared.unprotected.UnprotectedStorage as unprotec
 use Rattle.specs_store.specs.declared.unprotected.TryDefault as try_default
 use Rattle.specs_store.specs.Parts.{Puts, SameParts, told}
 use Rattle.specs_store.specs.declared.track.ComponentEvent.TheVariants as event
+use Rattle.specs_storage.specs.declared.storage.Storage.{Storage}
 use Rattle.specs_storage.specs.declared.entry.OccupiedEntry.{OccupiedEntry}
 use Rattle.specs_storage.specs.declared.entry.Replaced.{Replaced}
 use Rattle.specs_storage.specs.declared.entry.StorageEntry.{StorageEntry}
 use Rattle.specs_storage.specs.declared.entry.StorageEntry.TheVariants.{Occupied, Vacant}
 use Rattle.specs_storage.specs.contracts.entry.OccupiedEntry as occupied
-use Rattle.specs_storage.specs.StorageLends.{layout_ghosts, default_ghosts, masked_row}
+use Rattle.specs_storage.specs.StorageLends.{layout_ghosts, default_ghosts, masked_row, storage_row, with_store}
 
 -- the storage with a part at an index
 abbrev pub with_written : {S T : Type 0} → (S → ℕ → T → S) → Masked S → ℕ → T → Masked S
@@ -47,6 +48,10 @@ rests_if_refused T S g m r = RestsIfErr (masked_row T S g) m (λ entry. entry.st
 -- the parts are those that were left through their entry, and where there is no entry nothing changed
 abbrev pub lends_open : (T S : RattleType) (g : StorageMembers S.Denot T.Denot) → MutBor (Masked S.Denot) → {E : Type 0} → Result (StorageEntry T.Denot S.Denot (layout_ghosts g) (default_ghosts g)) E → Fml
 lends_open T S g m r = follows_if (masked_row T S g) (masked_row T S g) m.ghost_name (name_if_ok (λ entry. (store_of entry).ghost_name) r) (λ left. left) m.now
+
+-- the storage has the parts that were left through the entry, and where there is no entry nothing changed
+abbrev pub lends_entry : (T S : RattleType) (g : StorageMembers S.Denot T.Denot) → MutBor (Storage T.Denot (MutBor (Masked S.Denot))) → {E : Type 0} → Result (StorageEntry T.Denot S.Denot (layout_ghosts g) (default_ghosts g)) E → Fml
+lends_entry T S g m r = follows_if (storage_row T S g) (masked_row T S g) m.ghost_name (name_if_ok (λ entry. (store_of entry).ghost_name) r) (with_store m.now) m.now
 
 -- the place is that of the same index, in the same storage, which has the last part that was written
 pub record WritesAt {T S : Type 0} {g : unprotected.Ghosts S T} {d : try_default.Ghosts S} (before : OccupiedEntry T S g d) (part : T) (after : OccupiedEntry T S g d) : Type 0 where

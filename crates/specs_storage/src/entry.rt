@@ -14,11 +14,10 @@ use specs_store::{Component, MaskedStorage, UnprotectedStorage};
 use std::alloc::{AllocError, AllocFailed};
 pub(crate) use vacant::fill;
 
-/// The answer to a question for the place of an entity's part.
+/// What is known of an entity whose place is asked for.
 #[derive(Drop)]
-pub struct EntryOf<'a, T: Component> {
-    /// The storage.
-    pub store: &'a mut MaskedStorage<T>,
+struct EntryOf<'a, T: Component> {
+    store: &'a mut MaskedStorage<T>,
     entity: Entity,
     is_alive: bool,
     last: Generation,

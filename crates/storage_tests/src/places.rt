@@ -6,7 +6,7 @@ use specs_store::MaskedStorage;
 
 /// Puts a number at an entity's place, and answers the one that was there.
 fn replaced(storage: &mut WriteStorage<'_, Health>, entity: Entity, number: u32) -> Option<u32> {
-    match storage.entry(entity).open() {
+    match storage.entry(entity) {
         Ok(StorageEntry::Occupied(mut place)) => match place.insert(Health(number)) {
             Ok(old) => Some(old.0),
             Err(_) => None,
@@ -21,12 +21,12 @@ fn replaced(storage: &mut WriteStorage<'_, Health>, entity: Entity, number: u32)
 
 /// The number at an entity's place, which is doubled there, and then taken out.
 fn doubled(storage: &mut WriteStorage<'_, Health>, entity: Entity) -> Option<u32> {
-    if let Ok(StorageEntry::Occupied(place)) = storage.entry(entity).open() {
+    if let Ok(StorageEntry::Occupied(place)) = storage.entry(entity) {
         if let Ok(health) = place.into_mut() {
             health.0 = health.0.wrapping_mul(2);
         }
     }
-    match storage.entry(entity).open() {
+    match storage.entry(entity) {
         Ok(StorageEntry::Occupied(place)) => {
             let number = place.get().0;
             if place.remove().is_ok() {
@@ -56,7 +56,7 @@ fn a_place_has_what_was_put_last(rt: HostRuntime) {
     let mut parts = healths(rt.alloc());
     let mut storage = Storage::new(&entities, &mut parts);
     let numbers = used(&mut storage, one);
-    let is_refused = storage.entry(nobody).open().is_err();
+    let is_refused = storage.entry(nobody).is_err();
     assert_eq!(rt;
         (numbers, is_refused),
         ([None, Some(1337), Some(18002), None], true)

@@ -4,7 +4,7 @@ ghost use Rattle.std.specs.Borrow.{sem};
 ghost use Rattle.specs_entity.specs.Births.{IsAlive, persistent_at};
 ghost use Rattle.specs_entity.specs.Life.{first_life};
 ghost use Rattle.specs_storage.specs.StorageLends.{lends_store};
-ghost use Rattle.specs_storage.specs.EntryLends.{lends_open, store_of, id_of};
+ghost use Rattle.specs_storage.specs.EntryLends.{lends_open, lends_entry, store_of, id_of};
 
 use super::{EntryOf, OccupiedEntry, StorageEntry, VacantEntry};
 use crate::storage::Storage;
@@ -13,8 +13,23 @@ use specs_entity::{Entity, Generation, WrongGeneration};
 use specs_store::{Component, MaskedStorage, UnprotectedStorage};
 
 impl<'e, T: Component> Storage<'e, T, &'e mut MaskedStorage<T>> {
-    /// The place of an entity's part, which `EntryOf::open` tells.
-    pub fn entry(&mut self, e: Entity) -> EntryOf<'_, T>
+    /// The place of an entity's part, as one with a part or one without.
+    ///
+    /// Errors: `WrongGeneration` if the entity isn't alive, with the generation that `EntitiesRes::generation` gives for
+    /// its index, or 1 where that has none; and nothing changed.
+    pub fn entry(&mut self, e: Entity) -> Result<StorageEntry<'_, T>, WrongGeneration>
+        ensures* rests { sem 𝓛 (lends_entry T.row T.Storage.row T.Storage.UnprotectedStorage self.entry result) }
+        ensures value { IfOk result (λ entry. (store_of entry).now ≡ self.old.store.now) }
+        ensures id { IfOk result (λ entry. id_of entry ≡ e.id) }
+        ensures succeeds { IsOk result ↔ IsAlive self.old.entities.now e }
+        ensures wrong_generation { IfErr result (λ refusal. (refusal.entity ≡ e) × (refusal.actual_gen ≡ unwrap_or (persistent_at self.old.entities.now e.id) first_life)) }
+    {
+        let asked = self.entry_of(e);
+        asked.open()
+    }
+
+    /// The parts, with what is known of an entity.
+    fn entry_of(&mut self, e: Entity) -> EntryOf<'_, T>
         ensures* writes_back { sem 𝓛 (lends_store T.row T.Storage.row T.Storage.UnprotectedStorage self.entry result.store) }
         ensures value { result.store.now ≡ self.old.store.now }
         ensures entity { result.entity ≡ e }
@@ -33,11 +48,8 @@ impl<'e, T: Component> Storage<'e, T, &'e mut MaskedStorage<T>> {
 }
 
 impl<'a, T: Component> EntryOf<'a, T> {
-    /// The place, as one with a part or one without.
-    ///
-    /// Errors: `WrongGeneration` if the entity isn't alive, with the generation that `EntitiesRes::generation` gives for
-    /// its index, or 1 where that has none; and nothing changed.
-    pub fn open(self) -> Result<StorageEntry<'a, T>, WrongGeneration>
+    /// The place, or the refusal of an entity that isn't alive.
+    fn open(self) -> Result<StorageEntry<'a, T>, WrongGeneration>
         ensures* rests { sem 𝓛 (lends_open T.row T.Storage.row T.Storage.UnprotectedStorage self.entry.store result) }
         ensures same_reference { IfOk result (λ entry. (store_of entry).ghost_name ≡ self.entry.store.ghost_name) }
         ensures value { IfOk result (λ entry. (store_of entry).now ≡ self.entry.store.now) }
