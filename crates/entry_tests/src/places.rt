@@ -1,6 +1,6 @@
 //! Places whose part is put, replaced, lent and raised.
 use specs_entity::{EntitiesRes, Entity};
-use specs_storage::{Replaced, Storage, StorageEntry, WriteStorage};
+use specs_storage::{Storage, StorageEntry, WriteStorage};
 use specs_store::{Component, DenseVecStorage, MaskedStorage, TryDefault};
 use std::alloc::Global;
 
@@ -28,7 +28,7 @@ fn replaced(
         return None;
     };
     match place.replace(Score(number)) {
-        Ok(Replaced { old, entry: _ }) => Some(old.map(|score| score.0)),
+        Ok(old) => Some(old.map(|score| score.0)),
         Err(_) => None,
     }
 }

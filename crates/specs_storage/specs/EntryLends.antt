@@ -10,7 +10,6 @@ use Rattle.specs_store.specs.Parts.{Puts, SameParts, told}
 use Rattle.specs_store.specs.declared.track.ComponentEvent.TheVariants as event
 use Rattle.specs_storage.specs.declared.storage.Storage.{Storage}
 use Rattle.specs_storage.specs.declared.entry.OccupiedEntry.{OccupiedEntry}
-use Rattle.specs_storage.specs.declared.entry.Replaced.{Replaced}
 use Rattle.specs_storage.specs.declared.entry.StorageEntry.{StorageEntry}
 use Rattle.specs_storage.specs.declared.entry.StorageEntry.TheVariants.{Occupied, Vacant}
 use Rattle.specs_storage.specs.contracts.entry.OccupiedEntry as occupied
@@ -89,7 +88,3 @@ lends_put T S g m index r = LendsSoOk (masked_row T S g) T m r (λ after part. I
 -- the same of a storage that may have a part there
 abbrev pub lends_or : (T S : RattleType) → StorageMembers S.Denot T.Denot → MutBor (Masked S.Denot) → ℕ → {E : Type 0} → Result (MutBor T.Denot) E → Fml
 lends_or T S g m index r = LendsSoOk (masked_row T S g) T m r (λ after part. IsSettled g m.now index part after) (IsLeft g m.now)
-
--- where nothing was replaced, each index has the part that it had, and nothing was told
-abbrev pub rests_unless_replaced : (T S : RattleType) (g : StorageMembers S.Denot T.Denot) → MutBor (Masked S.Denot) → {E : Type 0} → Result (Replaced T.Denot S.Denot (layout_ghosts g) (default_ghosts g)) E → Fml
-rests_unless_replaced T S g m r = RestsIfErr (masked_row T S g) m (λ done. done.entry.store.ghost_name) r (IsLeft g m.now)

@@ -1,3 +1,4 @@
 pub mod Found
+pub mod Left
 pub mod StorageLends
 pub mod EntryLends

@@ -53,13 +53,12 @@ pub enum StorageEntry<'a, T: Component> {
     Vacant(VacantEntry<'a, T>),
 }
 
-/// The place of a part that was put, with the part that was there before.
+/// The storage and the index of a place.
 #[derive(Drop)]
-pub struct Replaced<'a, T: Component> {
-    /// The part that was there, or none.
-    pub old: Option<T>,
-    /// The place of the part that was put.
-    pub entry: OccupiedEntry<'a, T>,
+struct Spot<'a, T: Component> {
+    store: &'a mut MaskedStorage<T>,
+    id: Index,
+    ghost range: { id < 16777216 },
 }
 
 /// Why a place doesn't lend its part for writing. Each index has the part that it had.

@@ -11,7 +11,7 @@ pub mod storage;
 
 pub use drain::Drain;
 pub use entries::{Entries, EntryCursor, Place};
-pub use entry::{EntryError, OccupiedEntry, Replaced, StorageEntry, VacantEntry};
+pub use entry::{EntryError, OccupiedEntry, StorageEntry, VacantEntry};
 pub use generic::{GenericReadStorage, GenericWriteStorage};
 pub use loan::Loan;
 pub use storage::{InsertResult, LendError, ReadStorage, Storage, WriteStorage};
