@@ -2,3 +2,4 @@ pub mod Life
 pub mod RefusalLemmas
 pub mod Births
 pub mod Layout
+pub mod Building

@@ -45,13 +45,16 @@ impl Drop for EntityResBuilder<'_> {
 }
 
 impl EntitiesRes {
+    ghost use Rattle.std.specs.Borrow.{sem};
     ghost use Rattle.specs_entity.specs.Births.{newborn, created, IndicesAreSpent, GenerationsAreSpent, RefusesBirth};
+    ghost use Rattle.specs_entity.specs.Building.{rests_if_refused};
     ghost use Rattle.specs_entity.specs.declared.errors.Error.TheVariants as refusal;
 
     /// Creates an entity, and answers it as one that is being built.
     ///
     /// Errors: those of `create`, and the entities are as they were.
     pub fn build_entity(&mut self) -> Result<EntityResBuilder<'_>, Error>
+        ensures* rests { sem 𝓛 (rests_if_refused self.entry result) }
         ensures value { IfOk result (λ builder. builder.entity ≡ newborn self.old) }
         ensures ok { IfOk result (λ builder. builder.entities.now ≡ created self.old) }
         ensures same_reference { IfOk result (λ builder. builder.entities.ghost_name ≡ self.entry.ghost_name) }

@@ -1,6 +1,5 @@
 use Rattle.std.proofs.Common.{◌≢◌, ◌++◌, ◌∷◌, [], None, Some, false, ap, sym, ◌∙◌, subst, arith, cond, set, refl}
 use Rattle.std.proofs.Math.ListN.{length-set}
-use Rattle.std.specs.FinSet as fin
 use Rattle.specs_entity.specs.Life.{Life}
 use Rattle.specs_entity.specs.Births.{Births, MarksLiving, buried, living}
 use Rattle.specs_entity.specs.Layout.{AreBirths, births_of}
