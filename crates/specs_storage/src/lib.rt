@@ -1,6 +1,7 @@
 //! Storages lent together with the entities: what is reached by an entity is reached only while it lives.
 #![tactic(auto)]
 
+pub mod builder;
 pub mod drain;
 pub mod entries;
 pub mod entry;
@@ -9,6 +10,7 @@ mod joins;
 pub mod loan;
 pub mod storage;
 
+pub use builder::BuildWith;
 pub use drain::Drain;
 pub use entries::{Entries, EntryCursor, Place};
 pub use entry::{EntryError, OccupiedEntry, StorageEntry, VacantEntry};

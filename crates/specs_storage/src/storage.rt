@@ -13,6 +13,7 @@ use specs_entity::{Entities, EntitiesRes, Entity, Error};
 use specs_store::{Component, MaskedStorage, SliceAccess, UnprotectedStorage};
 use std::alloc::AllocError;
 use std::marker::PhantomData;
+pub(crate) use write::not_alive;
 
 /// What an insertion answers: the part that was there, or a refusal with the part that was to be put.
 pub type InsertResult<T> = Result<Option<T>, (Error, T)>;

@@ -97,7 +97,7 @@ impl<'e, T: Component> Storage<'e, T, &'e mut MaskedStorage<T>> {
 }
 
 /// The refusal of an insertion at an entity that isn't alive.
-fn not_alive(entities: &EntitiesRes, e: Entity) -> WrongGeneration
+pub(crate) fn not_alive(entities: &EntitiesRes, e: Entity) -> WrongGeneration
     ensures entity { result.entity ≡ e }
     ensures generation { result.actual_gen ≡ latest entities.now e.id }
 {

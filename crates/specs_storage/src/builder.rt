@@ -1,0 +1,81 @@
+//! Parts for an entity that is being built.
+ghost use Rattle.std.specs.Prelude.{◌≡◌, Some, IfOk, IfErr, OnOk, OnErr, IsOk, IsSome, is_some, false, if◌then◌else◌};
+ghost use Rattle.specs_entity.specs.Births.{IsAlive};
+ghost use Rattle.specs_store.specs.Parts.{Puts, SameParts, told};
+ghost use Rattle.specs_store.specs.declared.track.ComponentEvent.TheVariants as event;
+ghost use Rattle.specs_storage.specs.Found.{RefusesInsert};
+
+use crate::storage::not_alive;
+use specs_entity::{EntityResBuilder, Error};
+use specs_store::{Component, MaskedStorage, UnprotectedStorage};
+
+/// Entities in the making that can be given parts.
+pub trait BuildWith: Sized {
+    /// Puts `part` at the entity, in the place of the one that it has, and answers the builder.
+    ///
+    /// A storage that emits writes `Modified` where a part was, else `Inserted`.
+    ///
+    /// Errors: `WrongGeneration`, with the generation of the entity that `EntitiesRes::entity` gives for the index, if the
+    /// entity isn't alive, as where it was killed through the builder's entities; `Memory`. Both hand builder and `part`
+    /// back, and each index has the part that it had.
+    fn with<T: Component>(
+        self,
+        part: T,
+        storage: &mut MaskedStorage<T>,
+    ) -> Result<Self, (Error, Self, T)>;
+}
+
+impl<'a> BuildWith for EntityResBuilder<'a> {
+    fn with<T: Component>(
+        self,
+        part: T,
+        storage: &mut MaskedStorage<T>,
+    ) -> Result<EntityResBuilder<'a>, (Error, EntityResBuilder<'a>, T)>
+        ensures builder { IfOk result (λ builder. builder ≡ self.entry) }
+        ensures alive { OnOk result (IsAlive self.entry.entities.now self.entry.entity) }
+        ensures ok { OnOk result (Puts (T.Storage.part_at storage.old.inner) self.entry.entity.id (Some part) (T.Storage.part_at storage.new.inner)) }
+        ensures err { OnErr result (SameParts (T.Storage.part_at storage.old.inner) (T.Storage.part_at storage.new.inner)) }
+        ensures refused { IfErr result (λ refused. RefusesInsert self.entry.entities.now self.entry.entity refused.0) }
+        ensures handed_back { IfErr result (λ refused. (refused.1 ≡ self.entry) × (refused.2 ≡ part)) }
+        ensures succeeds { IsAlive self.entry.entities.now self.entry.entity → IsSome (T.Storage.part_at storage.old.inner self.entry.entity.id) → T.Storage.emits storage.old.inner ≡ false → IsOk result }
+
+        // One event tells of it, and a refusal writes none.
+        ensures events { OnOk result (T.Storage.events storage.new.inner ≡ told (T.Storage.emits storage.old.inner) (T.Storage.events storage.old.inner)
+            (if is_some (T.Storage.part_at storage.old.inner self.entry.entity.id) then event.Modified self.entry.entity.id else event.Inserted self.entry.entity.id)) }
+        ensures silent { OnErr result (T.Storage.events storage.new.inner ≡ T.Storage.events storage.old.inner) }
+        ensures emission { T.Storage.emits storage.new.inner ≡ T.Storage.emits storage.old.inner }
+    {
+        match put(&self, storage, part) {
+            Ok(()) => Ok(self),
+            Err((error, part)) => Err((error, self, part)),
+        }
+    }
+}
+
+/// Puts a part at the entity that is built.
+fn put<T: Component>(
+    builder: &EntityResBuilder<'_>,
+    storage: &mut MaskedStorage<T>,
+    part: T,
+) -> Result<(), (Error, T)>
+    ensures alive { OnOk result (IsAlive builder.now.entities.now builder.now.entity) }
+    ensures ok { OnOk result (Puts (T.Storage.part_at storage.old.inner) builder.now.entity.id (Some part) (T.Storage.part_at storage.new.inner)) }
+    ensures err { OnErr result (SameParts (T.Storage.part_at storage.old.inner) (T.Storage.part_at storage.new.inner)) }
+    ensures refused { IfErr result (λ refused. RefusesInsert builder.now.entities.now builder.now.entity refused.0) }
+    ensures handed_back { IfErr result (λ refused. refused.1 ≡ part) }
+    ensures succeeds { IsAlive builder.now.entities.now builder.now.entity → IsSome (T.Storage.part_at storage.old.inner builder.now.entity.id) → T.Storage.emits storage.old.inner ≡ false → IsOk result }
+    ensures events { OnOk result (T.Storage.events storage.new.inner ≡ told (T.Storage.emits storage.old.inner) (T.Storage.events storage.old.inner)
+        (if is_some (T.Storage.part_at storage.old.inner builder.now.entity.id) then event.Modified builder.now.entity.id else event.Inserted builder.now.entity.id)) }
+    ensures silent { OnErr result (T.Storage.events storage.new.inner ≡ T.Storage.events storage.old.inner) }
+    ensures emission { T.Storage.emits storage.new.inner ≡ T.Storage.emits storage.old.inner }
+{
+    let entity = builder.entity;
+    if !builder.entities.is_alive(entity) {
+        let refusal = not_alive(builder.entities, entity);
+        return Err((Error::WrongGeneration(refusal), part));
+    }
+    match storage.insert(entity.id(), part) {
+        Ok(_) => Ok(()),
+        Err(refused) => Err((Error::Memory, refused.value)),
+    }
+}
