@@ -1,7 +1,10 @@
 //! Sets join by their indices.
 mod and;
+mod atomic;
+mod lent;
 mod not;
 mod or;
+mod owned;
 mod xor;
 
 use super::Join;

@@ -1,0 +1,39 @@
+//! What is in just one of two sets that are read in place joins by its indices.
+use crate::join::Join;
+use hibitset::{BitSetLike, BitSetXor, Index};
+
+impl<'a, A: BitSetLike, B: BitSetLike> Join for &'a BitSetXor<A, B> {
+    type Type = Index;
+
+    type Shown = Index;
+
+    type Value = ();
+
+    type Mask = &'a BitSetXor<A, B>;
+
+    ghost use Rattle.std.specs.Prelude.{◌≡◌, Some, false};
+    ghost use Rattle.hibitset_sets.specs.Operators.{members_of_xor};
+    ghost use Rattle.specs_join.specs.Joins.{member};
+
+    ghost show = { λ index. index };
+
+    ghost joins = { λ mask index. member (members_of_xor (A.members mask.now.0) (B.members mask.now.1) index) index };
+
+    ghost opens = { λ set_ mask. mask.now ≡ set_.now };
+
+    ghost unconstrained = { false };
+
+    ghost value_at = { λ _ index. Some index };
+
+    fn open(self) -> (&'a BitSetXor<A, B>, ()) {
+        (self, ())
+    }
+
+    fn get(_values: &(), id: Index) -> Index {
+        id
+    }
+
+    fn is_unconstrained() -> bool {
+        false
+    }
+}
