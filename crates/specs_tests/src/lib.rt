@@ -6,6 +6,4 @@ mod entities;
 #[cfg(test)]
 mod joins;
 #[cfg(test)]
-mod sets;
-#[cfg(test)]
 mod storages;
