@@ -73,7 +73,7 @@ fn speeds(alloc: Global, indices: &[u32]) -> Option<MaskedStorage<Speed>> {
 }
 
 /// A set of these indices.
-fn indices(alloc: Global, members: &[u32]) -> Option<BitSet> {
+pub(crate) fn indices(alloc: Global, members: &[u32]) -> Option<BitSet> {
     let mut set = BitSet::new(alloc);
     for index in members {
         if *index < 16777216 {
@@ -84,7 +84,7 @@ fn indices(alloc: Global, members: &[u32]) -> Option<BitSet> {
 }
 
 /// Whether a list was made, and is this one.
-fn is<T: PartialEq + Drop>(list: Option<Vec<T>>, wanted: &[T]) -> bool {
+pub(crate) fn is<T: PartialEq + Drop>(list: Option<Vec<T>>, wanted: &[T]) -> bool {
     match list {
         Some(list) => list.as_slice() == wanted,
         None => false,

@@ -6,4 +6,6 @@ mod entities;
 #[cfg(test)]
 mod joins;
 #[cfg(test)]
+mod sets;
+#[cfg(test)]
 mod storages;
