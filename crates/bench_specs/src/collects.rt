@@ -1,8 +1,8 @@
 //! Joins of two storages that several threads collect.
 use crate::joins::{Joined, each, filled};
 use crate::parts::{Mass, Numbered, Speed};
-use specs_parallel::ParJoin;
-use specs_store::MaskedStorage;
+use specs_join::ParJoin;
+use specs_layouts::MaskedStorage;
 use std::alloc::{AllocError, Global};
 use std::io;
 use std::thread::Threads;

@@ -1,7 +1,7 @@
 //! Joins of two and of four storages.
 use crate::parts::{Heat, Mass, Numbered, Rank, Speed, empty, fill};
 use specs_join::Join;
-use specs_store::MaskedStorage;
+use specs_layouts::MaskedStorage;
 use std::alloc::{AllocError, Global};
 use std::io;
 use std::time::{Clock, Instant};

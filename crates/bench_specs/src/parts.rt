@@ -1,7 +1,7 @@
 //! The parts that are measured, a kind for each storage.
 ghost use Rattle.std.specs.Prelude.{refl};
 
-use specs_store::{
+use specs_layouts::{
     BTreeStorage, Component, DefaultVecStorage, DenseVecStorage, HashMapStorage, MaskedStorage,
     NullStorage, Single, TryDefault, VecStorage,
 };

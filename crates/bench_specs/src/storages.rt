@@ -1,6 +1,6 @@
 //! Parts that are put into each storage and looked up.
 use crate::parts::{Frozen, Heat, Mass, Name, Numbered, Rank, Speed, empty, fill};
-use specs_store::MaskedStorage;
+use specs_layouts::MaskedStorage;
 use std::alloc::Global;
 use std::io;
 use std::time::{Clock, Instant};

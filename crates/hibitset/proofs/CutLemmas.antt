@@ -5,17 +5,15 @@ use Rattle.std.proofs.lemmas.Bool.{cases_eq, cases_lt, true≢false, eq-eqb, eqb
 use Rattle.hibitset_sets.specs.Bits.{has_bit}
 use Rattle.hibitset_sets.specs.Words.{is_marked, StandsOver}
 use Rattle.hibitset_sets.specs.Walk.{walk, is_left, is_pending, IsPlacedAt, IsPlaced}
-use Rattle.hibitset_sets.proofs.StepLemmas.{left-empty}
+use Rattle.hibitset_sets.proofs.CallerLemmas.{left-empty, ones-set, ones-clear, walk-same}
 use Rattle.hibitset_sets.specs.Average.{IsAverage, ones_below}
 use Rattle.hibitset_sets.specs.BitLemmas.{has_bit-and, has_bit-not, nonzero_of_has_bit}
-use Rattle.hibitset_sets.proofs.CountLemmas.{ones-set, ones-clear}
 use Rattle.hibitset.specs.Standing.{IsFirstBit, IsBelow, IsFrom, IsFound, IsCutOf}
 use Rattle.std.proofs.Common.{mul_comm, bit_and, not, ◌-◌, ◌^◌, length, Option, Some, None, MatchOption}
 use Rattle.std.proofs.lemmas.List.{get_or_past}
 use Rattle.hibitset.specs.Producer.{IsAlone, IsCut}
 use Rattle.std.specs.Int.{bit_not, w64}
 use Rattle.std.proofs.lemmas.Nat.Bits.{bit_at_ones, bit_at_ones_above, bit_at_above}
-use Rattle.hibitset_sets.proofs.WalkLemmas.{walk-same}
 use Rattle.hibitset.specs.Cut.{number_in, first_under, IsOnlyBit, IsCutAt, is_under}
 
 -- ---- a walk cut at an index

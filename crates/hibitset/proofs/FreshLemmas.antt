@@ -15,8 +15,7 @@ use Rattle.std.proofs.Common.{not}
 use Rattle.hibitset_sets.specs.Walk.{walk}
 use Rattle.hibitset_sets.specs.Average.{IsAverage, ones_below}
 use Rattle.hibitset_sets.specs.BitLemmas.{lowest_bit}
-use Rattle.hibitset_sets.proofs.CountLemmas.{ones-set, ones-clear, ones-none}
-use Rattle.hibitset_sets.proofs.AssignLemmas.{any-walk}
+use Rattle.hibitset_sets.proofs.CallerLemmas.{ones-set, ones-clear, ones-none, any-walk}
 use Rattle.hibitset.specs.Cut.{number_in, first_under, IsCutAt, IsExact, Differ}
 use Rattle.hibitset.specs.Producer.{IsCut, items_of, items_of_other}
 use Rattle.hibitset.specs.declared.producer.BitProducer.{BitProducer}

@@ -1,3 +1,4 @@
 pub mod CutLemmas
 pub mod FoldLemmas
 pub mod FreshLemmas
+pub mod CallerLemmas

@@ -9,3 +9,4 @@ pub mod ExtendLemmas
 pub mod LawLemmas
 pub mod CostLemmas
 pub mod AssignLemmas
+pub mod CallerLemmas

@@ -19,7 +19,7 @@ use Rattle.scene_rules.specs.declared.command.Command.{Command as CodeCommand}
 use Rattle.scene_rules.specs.Slots.{in_column, filled, HoldsOnly}
 use Rattle.scene_rules.specs.Commands.{CommandsAccepted, CommandsRefused}
 use Rattle.scene_rules.specs.Lending.{StepIsRefused, SavesBefore, SameBefore, NothingSaved, scene_in, before, before_at, Fits, IsSound}
-use Rattle.scene_rules.proofs.FragmentLemmas.{same_scene}
+use Rattle.scene_rules.proofs.CallerLemmas.{same_scene}
 use Rattle.scene_commands.specs.Together.{all_of}
 use Rattle.scene.specs.Frames.{Queues, SystemsRun, SystemsRefuse, SystemsFill, entered, by_place, all_commands, Accepts, Refuses}
 use Rattle.scene.specs.Engine.{plain_queues, AllLawful, HasRun, HaveRun, SystemsAreRefused}

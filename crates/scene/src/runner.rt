@@ -11,7 +11,7 @@ ghost use Rattle.scene.specs.Limits.{AreLimits};
 ghost use Rattle.scene.specs.Outcomes.{IsRunOf, IsNoDocument, RunsDocument, bounds_of, full_bounds};
 
 use crate::frame::Scene;
-use scene_devices::{CountedRead, CountedWrite, ReadError, read_document, write_text};
+use scene_devices::{CountedRead, CountedWrite, ReadFailure, read_document, write_text};
 use scene_document::{Limits, LoadError};
 use scene_rules::{DocRefusal, Report, Rules};
 
@@ -106,8 +106,8 @@ pub fn run_with<R: Rules + Drop, H: AllocGlobal, I: CountedRead, O: CountedWrite
 {
     let bytes = match read_document(rt.alloc(), reader) {
         Ok(bytes) => bytes,
-        Err(ReadError::Read) => return Err(RunError::Read),
-        Err(ReadError::Memory) => return Err(RunError::Memory),
+        Err(ReadFailure::Read) => return Err(RunError::Read),
+        Err(ReadFailure::Memory) => return Err(RunError::Memory),
     };
     let (report, text) = match play(rt, rules, limits, bytes.as_slice()) {
         Ok(played) => played,

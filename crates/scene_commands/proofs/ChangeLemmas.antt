@@ -18,7 +18,7 @@ use Rattle.scene_rules.specs.Lending.{IsSound}
 use Rattle.scene_commands.specs.Over.{cut, dead, given, left, scene_from, scene_over, IsOver, IsGood, set_part, with_spawned}
 use Rattle.scene_commands.proofs.LivingLemmas.{undead, lives-given, lives-next, lives-front, lives-append}
 use Rattle.scene_commands.proofs.CutLemmas.{cut-live}
-use Rattle.scene_rules.proofs.ColumnsLemmas.{under_name}
+use Rattle.scene_rules.proofs.CallerLemmas.{under_name}
 use Rattle.scene_commands.proofs.ColumnLemmas.{in_column-slot}
 use Rattle.std.specs.Str.{bytes_eq}
 use Rattle.scene_commands.proofs.OverLemmas.{same_scene, ref_lives-RefLives, bare, scene-set, sound-set, scene-give, sound-give}

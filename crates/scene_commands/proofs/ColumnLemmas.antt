@@ -12,7 +12,7 @@ use Rattle.std.specs.Ordering.{nat_cmp}
 use Rattle.std.specs.BTreeMap.{BTreeMap, get, is_at}
 use Rattle.scene_rules.specs.Parts.{Name, place_of, is_among}
 use Rattle.scene_rules.specs.Slots.{in_column, filled}
-use Rattle.scene_rules.proofs.ColumnsLemmas.{slice_get-set_same, slice_get-set_other, under_name, under_name-set}
+use Rattle.scene_rules.proofs.CallerLemmas.{slice_get-set_same, slice_get-set_other, under_name, under_name-set}
 use Rattle.scene_commands.specs.Over.{slot, slot_in}
 
 -- a column that was updated at an id has this slot there, and what it had elsewhere

@@ -9,7 +9,7 @@ use Rattle.std.specs.Ordering.{nat_cmp}
 use Rattle.std.specs.BTreeMap.{BTreeMap, get, is_at}
 use Rattle.scene_rules.specs.Slots.{in_column, filled}
 use Rattle.scene_commands.specs.Over.{slot_in, put_over, HasRoom}
-use Rattle.scene_rules.proofs.ColumnsLemmas.{slice_get-set_same, slice_get-set_other}
+use Rattle.scene_rules.proofs.CallerLemmas.{slice_get-set_same, slice_get-set_other}
 use Rattle.scene_commands.proofs.ColumnLemmas.{slot_in-new}
 
 -- a place of a list in which a place was set is that place or as it was

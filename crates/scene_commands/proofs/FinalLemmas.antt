@@ -20,8 +20,7 @@ use Rattle.scene_rules.specs.Lending.{IsSound, scene_in}
 use Rattle.scene_commands.specs.Over.{cut, cut_ref, dead, given, left, slot, slot_in, put_over, datum_over, scene_over, IsOver, SameColumns, PutIn}
 use Rattle.scene_commands.proofs.CutLemmas.{cut-none}
 use Rattle.scene_commands.proofs.LivingLemmas.{lives-filter, lives-front}
-use Rattle.scene_rules.proofs.ColumnsLemmas.{under_name}
-use Rattle.scene_rules.proofs.FragmentLemmas.{cond_same}
+use Rattle.scene_rules.proofs.CallerLemmas.{under_name, cond_same}
 use Rattle.scene_commands.proofs.ColumnLemmas.{in_column-slot}
 use Rattle.scene_commands.proofs.OverLemmas.{same_scene, bare, ref-append}
 use Rattle.scene_commands.proofs.GoneLemmas.{live_datum}

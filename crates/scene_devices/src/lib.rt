@@ -9,11 +9,9 @@
 mod counted;
 mod faults;
 mod reading;
-#[cfg(test)]
-mod tests;
 mod writing;
 
 pub use counted::Counted;
 pub use faults::{CountedRead, CountedWrite, Faults};
-pub use reading::{MOST_READS, ReadError, read_document, read_within};
-pub use writing::{WriteError, write_text};
+pub use reading::{MOST_READS, ReadFailure, read_document, read_within};
+pub use writing::{WriteFailure, write_text};

@@ -16,7 +16,7 @@ const CHUNK: usize = 8192;
 
 /// Why a document wasn't read.
 #[derive(Debug, Clone, Copy, PartialEq, Eq, Error)]
-pub enum ReadError {
+pub enum ReadFailure {
     /// A read failed, or the reader gave bytes as often as it may and its end wasn't seen.
     #[error("read failed")]
     Read,
@@ -30,7 +30,7 @@ pub enum ReadError {
 /// Errors: `Read`, if a read failed, whatever its error (a signal that came between is one too), or if
 /// the reader gave bytes `MOST_READS` times and its end wasn't seen; `Memory`, if there was no room for
 /// what it gave. Both drop what was read, and the reader stands after it.
-pub fn read_document<R: CountedRead>(alloc: Global, reader: &mut R) -> Result<Vec<u8>, ReadError>
+pub fn read_document<R: CountedRead>(alloc: Global, reader: &mut R) -> Result<Vec<u8>, ReadFailure>
     // All that the reader had left, and no failure.
     ensures whole { IfOk result (λ document. IfSome (R.remaining reader.old)
         (λ bytes. document.items ≡ bytes)) }
@@ -38,12 +38,12 @@ pub fn read_document<R: CountedRead>(alloc: Global, reader: &mut R) -> Result<Ve
     ensures sound { OnOk result (R.fault_count reader.new ≡ R.fault_count reader.old) }
 
     // When each refusal comes.
-    ensures read { result ≡ Err ReadError.Read
+    ensures read { result ≡ Err ReadFailure.Read
         → HasFailed (R.fault_count reader.old) (R.fault_count reader.new)
         ⊎ GivesAtLeast MOST_READS (R.remaining reader.old) (R.remaining reader.new) }
-    ensures memory { result ≡ Err ReadError.Memory
+    ensures memory { result ≡ Err ReadFailure.Memory
         → GivesAtLeast 1 (R.remaining reader.old) (R.remaining reader.new) }
-    ensures memory_sound { result ≡ Err ReadError.Memory
+    ensures memory_sound { result ≡ Err ReadFailure.Memory
         → R.fault_count reader.new ≡ R.fault_count reader.old }
 
     // What is left in each case.
@@ -61,7 +61,7 @@ pub fn read_within<R: CountedRead>(
     alloc: Global,
     reader: &mut R,
     reads: u32,
-) -> Result<Vec<u8>, ReadError>
+) -> Result<Vec<u8>, ReadFailure>
     // All that the reader had left, and no failure.
     ensures whole { IfOk result (λ document. IfSome (R.remaining reader.old)
         (λ bytes. document.items ≡ bytes)) }
@@ -69,12 +69,12 @@ pub fn read_within<R: CountedRead>(
     ensures sound { OnOk result (R.fault_count reader.new ≡ R.fault_count reader.old) }
 
     // When each refusal comes.
-    ensures read { result ≡ Err ReadError.Read
+    ensures read { result ≡ Err ReadFailure.Read
         → HasFailed (R.fault_count reader.old) (R.fault_count reader.new)
         ⊎ GivesAtLeast reads (R.remaining reader.old) (R.remaining reader.new) }
-    ensures memory { result ≡ Err ReadError.Memory
+    ensures memory { result ≡ Err ReadFailure.Memory
         → GivesAtLeast 1 (R.remaining reader.old) (R.remaining reader.new) }
-    ensures memory_sound { result ≡ Err ReadError.Memory
+    ensures memory_sound { result ≡ Err ReadFailure.Memory
         → R.fault_count reader.new ≡ R.fault_count reader.old }
 
     // What is left in each case.
@@ -87,14 +87,14 @@ pub fn read_within<R: CountedRead>(
     for _ in 0..reads {
         let given = match reader.read_counted(&mut chunk) {
             Ok(given) => given,
-            Err(_) => return Err(ReadError::Read),
+            Err(_) => return Err(ReadFailure::Read),
         };
         if given == 0 {
             return Ok(document);
         }
         if document.extend_from_slice(&chunk[..given]).is_err() {
-            return Err(ReadError::Memory);
+            return Err(ReadFailure::Memory);
         }
     }
-    Err(ReadError::Read)
+    Err(ReadFailure::Read)
 }

@@ -9,7 +9,7 @@ use thiserror::Error;
 /// A text that didn't go out whole, or wasn't flushed.
 #[derive(Debug, Clone, Copy, PartialEq, Eq, Error)]
 #[error("write failed after {sent} bytes")]
-pub struct WriteError {
+pub struct WriteFailure {
     /// How many of its bytes went out: the first ones.
     pub sent: u64,
 }
@@ -18,7 +18,7 @@ pub struct WriteError {
 ///
 /// It takes no memory. Errors: if a write failed or took none of the bytes that were left, or if the
 /// flush failed. Just the first `sent` bytes of the text are out then: where the flush failed, all.
-pub fn write_text<W: CountedWrite>(writer: &mut W, text: &[u8]) -> Result<(), WriteError>
+pub fn write_text<W: CountedWrite>(writer: &mut W, text: &[u8]) -> Result<(), WriteFailure>
     // The whole text and no other byte, handed on.
     ensures written { OnOk result
         (Appends (W.contents writer.old) (W.contents writer.new) text.now) }
@@ -38,11 +38,11 @@ pub fn write_text<W: CountedWrite>(writer: &mut W, text: &[u8]) -> Result<(), Wr
     while sent < text.len() {
         match writer.write_counted(&text[sent..]) {
             Ok(taken) if taken > 0 => sent += taken,
-            _ => return Err(WriteError { sent: sent as u64 }),
+            _ => return Err(WriteFailure { sent: sent as u64 }),
         }
     }
     match writer.flush_counted() {
         Ok(()) => Ok(()),
-        Err(_) => Err(WriteError { sent: sent as u64 }),
+        Err(_) => Err(WriteFailure { sent: sent as u64 }),
     }
 }

@@ -14,7 +14,7 @@ use Rattle.scene_draft.specs.Drafts.{DraftSystem}
 use Rattle.scene_document.specs.Documents.{has_taken_name, has_unknown_dependency}
 use Rattle.scene_draft.specs.DraftViews.{systems_in}
 use Rattle.scene_document.specs.Names.{has_name, takes_name, lacks_one_of, comes_after_other}
-use Rattle.scene_draft.proofs.ShapeLemmas.{bytes_eq-symmetric}
+use Rattle.scene_draft.proofs.CallerLemmas.{bytes_eq-symmetric}
 
 -- a set has a name exactly where it is among its texts
 pub contains-among : (name : Name) (keys : List (Bor Name)) → list_any (λ key. is_eq (slice_cmp nat_cmp name key.now)) keys ≡ is_among name (texts keys)

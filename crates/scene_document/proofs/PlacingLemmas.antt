@@ -29,7 +29,7 @@ use Rattle.std.proofs.lemmas.Bool.Decides.{nat_tests}
 use Rattle.scene_rules.specs.Rulebook.{Facts}
 use Rattle.shred_plan.specs.Laws.{systems_added}
 use Rattle.scene_document.proofs.OrderLemmas.{times}
-use Rattle.scene_draft.proofs.ShapeLemmas.{bytes_eq-symmetric}
+use Rattle.scene_draft.proofs.CallerLemmas.{bytes_eq-symmetric}
 
 -- the places that are kept, with one more
 pub kept-updated : (place : ℕ) (other name : Name) (old new : BTreeMap (Bor Name) ℕ) → kept_place new other ≡ cond (is_eq (slice_cmp nat_cmp name other)) (Some place) (kept_place old other)

@@ -1,3 +1,4 @@
 pub mod TextLemmas
 pub mod ShapeLemmas
 pub mod ReadingLemmas
+pub mod CallerLemmas

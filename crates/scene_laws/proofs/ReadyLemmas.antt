@@ -20,7 +20,7 @@ use Rattle.scene_rules.specs.Laws.{Ascend}
 use Rattle.scene_rules.specs.Lending.{scene_in, IsSound}
 use Rattle.scene_draft.specs.Drafts.{Draft, each, members_list, items_list, global_under, entity_from, draft_from}
 use Rattle.scene_draft.specs.Texts.{json_of, members_with, entity_json, scene_json}
-use Rattle.scene_draft.proofs.ShapeLemmas.{is_some-place_of}
+use Rattle.scene_draft.proofs.CallerLemmas.{is_some-place_of}
 use Rattle.scene_document.specs.Documents.{document_from, document_of, of_reading, of_shape, unless_refused, refusal_of}
 use Rattle.scene_document.specs.Openings.{first_scene}
 use Rattle.scene_laws.specs.Printed.{CanBeRead, GlobalsAreRead}

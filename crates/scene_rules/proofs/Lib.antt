@@ -1,3 +1,4 @@
 pub mod NameLemmas
 pub mod ColumnsLemmas
 pub mod FragmentLemmas
+pub mod CallerLemmas

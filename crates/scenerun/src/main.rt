@@ -1,18 +1,8 @@
 //! Runs the scene of a JSON document: standard input to standard output.
 #![tactic(auto)]
 
-mod data;
-mod laws;
-mod lines;
-mod program;
-mod rules;
-mod systems;
-#[cfg(test)]
-mod tests;
-
-use crate::program::program;
 use scene::Counted;
-use std::io;
+use scene_basics::program::program;
 use std::process::ExitCode;
 
 fn main(rt: HostRuntime) -> ExitCode {

@@ -3,7 +3,7 @@ use Rattle.std.proofs.Common.{◌≡◌, sym, subst, refl, Bool, true, false, Li
 use Rattle.shred_world.specs.Bundles.{Holding, holding_of}
 use Rattle.shred_stages.specs.declared.stop.Stop.{Stop}
 use Rattle.shred_stages.specs.declared.error.DispatchError.{DispatchError}
-use Rattle.shred_stages.proofs.LeaveLemmas.{leaves-leaves}
+use Rattle.shred_stages.proofs.CallerLemmas.{leaves-leaves}
 use Rattle.shred_async.specs.declared.errand.Errand.{Errand}
 use Rattle.shred_async.specs.Away.{Leaves as ErrandLeaves}
 use Rattle.shred.specs.declared.async_error.AsyncError.{AsyncError}

@@ -9,7 +9,7 @@ use Rattle.std.proofs.lemmas.Bool.Decides.{Decides-eqb}
 use Rattle.shred_world.specs.declared.resource_id.ResourceId.{ResourceId}
 use Rattle.shred_plan.specs.Plan.{added}
 use Rattle.shred_plan.specs.Laws.{has, AreAmong, ComeAfter, StagesWait}
-use Rattle.shred_plan.proofs.WaitLemmas.{systems-wait}
+use Rattle.shred_plan.proofs.CallerLemmas.{systems-wait}
 use Rattle.shred.specs.declared.error.AddError.TheVariants.{NoSuchSystem, NameTaken, SystemsFull}
 use Rattle.shred.specs.Names.{Named, number_under, numbers_under, lacks_one, with_name}
 use Rattle.shred.specs.Building.{Building, nothing_built, refusal}

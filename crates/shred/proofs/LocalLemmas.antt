@@ -4,7 +4,7 @@ use Rattle.std.specs.Option.{MatchOption}
 use Rattle.shred_world.specs.Bundles.{Holding}
 use Rattle.shred_stages.specs.declared.stop.Stop.{Stop}
 use Rattle.shred_stages.specs.Views.{Leaves}
-use Rattle.shred_stages.proofs.LeaveLemmas.{leaves-itself, leaves-leaves, leaves-to}
+use Rattle.shred_stages.proofs.CallerLemmas.{leaves-itself, leaves-leaves, leaves-to}
 use Rattle.shred.specs.Locals.{LocalsRun}
 
 module _ {V L : Type 0} (meets : L → Holding V → Option Stop → L → Holding V → Type 0) where

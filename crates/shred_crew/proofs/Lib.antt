@@ -1,3 +1,4 @@
 pub mod ZipLemmas
 pub mod DealLemmas
 pub mod GatherLemmas
+pub mod CallerLemmas

@@ -6,3 +6,4 @@ pub mod EachLemmas
 pub mod LawLemmas
 pub mod StayLemmas
 pub mod WaitLemmas
+pub mod CallerLemmas

@@ -19,7 +19,7 @@ use Rattle.shred_stages.specs.Lending.{put_all}
 use Rattle.shred_stages.specs.Free.{IsNone, AreDistinct, ShareNone, IsFreeOfAll}
 use Rattle.shred_stages.specs.Away.{vacated, standing, returned, systems_in, AreIn, ArePutBack}
 use Rattle.shred_stages.specs.Loading.{IsAmong, stage_numbers, AtPlace, AreAway}
-use Rattle.shred_crew.proofs.DealLemmas.{length-set}
+use Rattle.shred_crew.proofs.CallerLemmas.{length-set}
 use Rattle.shred_stages.proofs.ApartLemmas.{set-other}
 
 -- places of a list

@@ -1,10 +1,15 @@
 -- What writers of systems cite.
+pub use Rattle.shred_stages.proofs.DisposeLemmas.{dispose-end, dispose-next, empty-by-length, map-itself}
+pub use Rattle.shred_stages.proofs.LeaveLemmas.{leaves-itself, leaves-leaves, leaves-to, step-leaves}
+pub use Rattle.shred_stages.proofs.LendLemmas.{left-other}
+pub use Rattle.shred_stages.proofs.SetupLemmas.{set-up-first, set-up-none}
+pub use Rattle.shred_stages.proofs.ViewLemmas.{turn-seat, turn-slots, turn-step}
 use Rattle.std.proofs.Common.{◌≡◌, Bool, true, false, refl, ap, sym, ◌∙◌, subst, Some}
 use Rattle.std.specs.Prelude.{if◌then◌else◌}
 use Rattle.shred_world.specs.declared.resource_id.ResourceId.{ResourceId}
 use Rattle.shred_world.specs.ResourceIds.{same_id}
 use Rattle.shred_world.specs.Bundles.{Slot, absent, out, shared, owned, Holding, takable, with_slot}
-use Rattle.shred_world.proofs.IdLemmas.{same_id-is, same_id-itself}
+use Rattle.shred_world.proofs.CallerLemmas.{same_id-is, same_id-itself}
 use Rattle.shred_stages.specs.Views.{IsLeft, Leaves}
 
 is_left-same : {V : Type 0} (slot : Slot V) → IsLeft slot slot

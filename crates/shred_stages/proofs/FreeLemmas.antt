@@ -10,10 +10,10 @@ use Rattle.std.proofs.lemmas.Map.Keys.{IsDistinct-IsPermutation}
 use Rattle.shred_world.specs.declared.resource_id.ResourceId.{ResourceId}
 use Rattle.shred_world.specs.ResourceIds.{same_id, id_of}
 use Rattle.shred_world.specs.Bundles.{is_listed}
-use Rattle.shred_world.proofs.IdLemmas.{same_id-is, same_id-itself}
+use Rattle.shred_world.proofs.CallerLemmas.{same_id-is, same_id-itself}
 use Rattle.shred_plan.specs.Plan.{Placing, Group, Stage, Planning, Added, fence, placing, added, plan, share, touches, conflict, hits, systems_of, plan_order}
 use Rattle.shred_plan.specs.Laws.{groups_conflict, systems_added}
-use Rattle.shred_plan.proofs.LawLemmas.{groups-apart, stands-once}
+use Rattle.shred_plan.proofs.CallerLemmas.{groups-apart, stands-once}
 use Rattle.shred_stages.specs.Apart.{group_reads, group_writes}
 use Rattle.shred_stages.specs.Free.{IsNone, AreDistinct, ShareNone, IsFreeOfAll, AreFree}
 use Rattle.shred_stages.specs.Seats.{AreNumbered, IsPlanned}

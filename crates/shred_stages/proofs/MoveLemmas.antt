@@ -8,7 +8,7 @@ use Rattle.std.proofs.lemmas.List.Folds.{list_any-append}
 use Rattle.shred_world.specs.declared.resource_id.ResourceId.{ResourceId}
 use Rattle.shred_world.specs.ResourceIds.{same_id}
 use Rattle.shred_world.specs.Bundles.{Slot, absent, out, shared, owned, Holding, takable, with_slot, is_listed}
-use Rattle.shred_world.proofs.IdLemmas.{same_id-is, same_id-itself}
+use Rattle.shred_world.proofs.CallerLemmas.{same_id-is, same_id-itself}
 use Rattle.shred_stages.specs.Moves.{emptied, filled, left_of, moved_to, HasSlots}
 
 -- an element of a list is listed

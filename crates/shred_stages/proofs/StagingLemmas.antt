@@ -10,7 +10,7 @@ use Rattle.shred_world.specs.declared.resource_id.ResourceId.{ResourceId}
 use Rattle.shred_world.specs.ResourceIds.{same_id}
 use Rattle.shred_world.specs.Worlds.{Slots}
 use Rattle.shred_world.specs.Bundles.{is_listed}
-use Rattle.shred_world.proofs.IdLemmas.{same_id-is}
+use Rattle.shred_world.proofs.CallerLemmas.{same_id-is}
 use Rattle.shred_plan.specs.declared.stage.Way.{Way}
 use Rattle.shred_plan.specs.declared.stage.Way.TheVariants.{Alone, Behind}
 use Rattle.shred_plan.specs.Plan.{Placing, Stage, Planning, admitted, placed, taken, rest_after, systems_of}

@@ -9,7 +9,7 @@ use Rattle.shred_world.specs.declared.resource_id.ResourceId.{ResourceId}
 use Rattle.shred_world.specs.ResourceIds.{same_id}
 use Rattle.shred_world.specs.Worlds.{Slots, value_at}
 use Rattle.shred_world.specs.Bundles.{Slot, absent, out, shared, owned, Holding, readable, takable, slot_of, holding_of, is_listed, with_slot}
-use Rattle.shred_world.proofs.IdLemmas.{ids_total, same_id-is, same_id-itself}
+use Rattle.shred_world.proofs.CallerLemmas.{ids_total, same_id-is, same_id-itself}
 use Rattle.shred_stages.specs.Views.{shared_of, owned_of, reading, cut, view_slots, FitsSeat, IsLeft, Leaves, merged}
 use Rattle.shred_stages.specs.declared.stop.Stop.{Stop}
 use Rattle.shred_stages.specs.Runs.{RunsInView, Step}

@@ -8,9 +8,9 @@ ghost use Rattle.shred_stages.specs.Away.{systems_in, AreIn};
 ghost use Rattle.shred_stages.specs.Free.{AreFree};
 ghost use Rattle.shred_stages.specs.Ends.{EndsAs};
 
-use crate::away::{empty_slots, fill_slots};
-use crate::lend::{give_back_all, lend_all};
+use crate::packing::{give_back_all, lend_all};
 use crate::run::Refusal;
+use crate::slots::{empty_slots, fill_slots};
 use crate::turn::Staged;
 use crate::{DispatchError, System};
 use shred_crew::{Refused, Want, work_dealt};

@@ -1,220 +1,202 @@
-//! What no contract says: which borrows are accepted, beside whom, and what threads leave in a cell.
-
+//! Which borrows of a cell are accepted, and beside whom.
+use shred_cells::TrustCell;
 use shred_cells::cell_core::{MOST_READERS, State, Step, next_state, run};
-use shred_cells::{InvalidBorrow, TrustCell};
-use std::process::Abort;
+use std::mem;
 use std::sync::Wait;
-use std::sync::atomic::AtomicU64;
-use std::sync::atomic::Ordering::SeqCst;
-use std::test::Fail;
-use std::thread::Threads;
-use std::{mem, thread};
 
-mod worlds;
+/// One reader.
+const ONE: State = State::Read(1);
 
-const ROUNDS: u64 = 1_000;
+/// Two readers.
+const TWO: State = State::Read(2);
 
-/// How often a reader looks for the other one at most.
-const LOOKS: u64 = 1_000_000_000;
+/// All readers but one.
+const NEARLY: State = State::Read(MOST_READERS - 1);
 
-/// Each step in each kind of state.
+/// As many readers as can be.
+const MOST: State = State::Read(MOST_READERS);
+
+/// A state, a step, and the state after it: none where it is refused.
+static STEPS: [(State, Step, Option<State>); 16] = [
+    (State::Free, Step::BorrowForReading, Some(ONE)),
+    (State::Free, Step::BorrowForWriting, Some(State::Written)),
+    (State::Free, Step::ReturnFromReading, None),
+    (State::Free, Step::ReturnFromWriting, None),
+    (ONE, Step::BorrowForReading, Some(TWO)),
+    (ONE, Step::BorrowForWriting, None),
+    (ONE, Step::ReturnFromReading, Some(State::Free)),
+    (ONE, Step::ReturnFromWriting, None),
+    (TWO, Step::ReturnFromReading, Some(ONE)),
+    (NEARLY, Step::BorrowForReading, Some(MOST)),
+    (MOST, Step::BorrowForReading, None),
+    (MOST, Step::ReturnFromReading, Some(NEARLY)),
+    (State::Written, Step::BorrowForReading, None),
+    (State::Written, Step::BorrowForWriting, None),
+    (State::Written, Step::ReturnFromReading, None),
+    (State::Written, Step::ReturnFromWriting, Some(State::Free)),
+];
+
+/// The state after a step; none where it is refused, or there can't be so many readers.
+fn after(state: State, step: Step) -> Option<State> {
+    match state {
+        State::Read(readers) if readers == 0 || readers > MOST_READERS => None,
+        _ => next_state(state, step),
+    }
+}
+
 #[test]
 fn a_step_is_accepted_where_it_should_be(rt: HostRuntime) {
-    let one = State::Read(1);
-    let two = State::Read(2);
-    let most = State::Read(MOST_READERS);
-    let nearly = State::Read(MOST_READERS - 1);
-    for (state, step, next) in [
-        (State::Free, Step::BorrowForReading, Some(one)),
-        (State::Free, Step::BorrowForWriting, Some(State::Written)),
-        (State::Free, Step::ReturnFromReading, None),
-        (State::Free, Step::ReturnFromWriting, None),
-        (one, Step::BorrowForReading, Some(two)),
-        (one, Step::BorrowForWriting, None),
-        (one, Step::ReturnFromReading, Some(State::Free)),
-        (one, Step::ReturnFromWriting, None),
-        (two, Step::ReturnFromReading, Some(one)),
-        (nearly, Step::BorrowForReading, Some(most)),
-        (most, Step::BorrowForReading, None),
-        (most, Step::ReturnFromReading, Some(nearly)),
-        (State::Written, Step::BorrowForReading, None),
-        (State::Written, Step::BorrowForWriting, None),
-        (State::Written, Step::ReturnFromReading, None),
-        (State::Written, Step::ReturnFromWriting, Some(State::Free)),
-    ] {
-        assert_eq!(rt; next_state(state, step), next, "{step:?} at {state:?}");
+    let mut wrong = None;
+    for (state, step, next) in STEPS.iter() {
+        if after(*state, *step) != *next {
+            wrong = Some((*state, *step));
+        }
     }
-    let refused_writer = [
-        Step::BorrowForReading,
-        Step::BorrowForReading,
-        Step::BorrowForWriting,
-        Step::ReturnFromReading,
-    ];
-    assert_eq!(rt; run(&refused_writer), one);
-    assert_eq!(rt; run(&[]), State::Free);
+    assert_eq!(rt; wrong, None);
 }
 
-/// One thread's borrows: readers beside readers, and a writer beside nobody.
+/// Steps of a cell that begins free, and the state that they lead to: a refused one changes nothing.
+static RUNS: [(&[Step], State); 2] = [
+    (&[], State::Free),
+    (
+        &[
+            Step::BorrowForReading,
+            Step::BorrowForReading,
+            Step::BorrowForWriting,
+            Step::ReturnFromReading,
+        ],
+        ONE,
+    ),
+];
+
 #[test]
-fn a_borrow_is_refused_beside_the_other_kind(rt: HostRuntime) -> Result<(), Fail> {
+fn a_refused_step_changes_nothing(rt: HostRuntime) {
+    let mut wrong = None;
+    for (steps, state) in RUNS.iter() {
+        if run(steps) != *state {
+            wrong = Some(*steps);
+        }
+    }
+    assert_eq!(rt; wrong, None);
+}
+
+/// Who has a cell that holds a 7.
+#[derive(Clone, Copy, Debug, PartialEq, Eq)]
+enum Holders {
+    Nobody,
+    Reader,
+    TwoReaders,
+    OneOfTwoReaders,
+    Writer,
+}
+
+/// Who has the cell, what one more reader sees, what one more writer finds, none where it is refused, and what is left.
+static BESIDE: [(Holders, Option<u64>, Option<u64>, u64); 5] = [
+    (Holders::Nobody, Some(7), Some(7), 11),
+    (Holders::Reader, Some(7), None, 7),
+    (Holders::TwoReaders, Some(7), None, 7),
+    (Holders::OneOfTwoReaders, Some(7), None, 7),
+    (Holders::Writer, None, None, 8),
+];
+
+/// What a reader sees, where it is accepted.
+fn seen(rt: &impl Wait, cell: &TrustCell<u64>) -> Option<u64> {
+    match cell.borrow(rt) {
+        Ok(lent) => Some(lent.map(|value| *value)),
+        Err(_) => None,
+    }
+}
+
+/// What a writer puts its own number in the place of, where it is accepted.
+fn replaced(rt: &impl Wait, cell: &TrustCell<u64>, number: u64) -> Option<u64> {
+    match cell.borrow_mut(rt) {
+        Ok(lent) => Some(lent.map(|value| mem::replace(value, number))),
+        Err(_) => None,
+    }
+}
+
+/// What a reader sees, and then what a writer finds.
+type Found = (Option<u64>, Option<u64>);
+
+/// What a reader sees, and then what a writer finds; none where those that only try are answered otherwise.
+fn tried(rt: &impl Wait, cell: &TrustCell<u64>) -> Option<Found> {
+    let reads = cell.try_borrow(rt).is_ok();
+    let writes = cell.try_borrow_mut(rt).is_ok();
+    let seen = seen(rt, cell);
+    let found = replaced(rt, cell, 11);
+    if seen.is_some() == reads && found.is_some() == writes {
+        Some((seen, found))
+    } else {
+        None
+    }
+}
+
+/// The same beside a reader, with another one there, or gone again, where said.
+fn tried_beside_readers(rt: &impl Wait, cell: &TrustCell<u64>, holders: Holders) -> Option<Found> {
+    let Ok(reader) = cell.try_borrow(rt) else {
+        return None;
+    };
+    if *reader != 7 {
+        return None;
+    }
+    match holders {
+        Holders::TwoReaders => match cell.try_borrow(rt) {
+            Ok(_other) => tried(rt, cell),
+            Err(_) => None,
+        },
+        Holders::OneOfTwoReaders => {
+            let _ = seen(rt, cell);
+            tried(rt, cell)
+        }
+        _ => tried(rt, cell),
+    }
+}
+
+/// The same beside a writer that writes an 8.
+fn tried_beside_a_writer(rt: &impl Wait, cell: &TrustCell<u64>) -> Option<Found> {
+    let Ok(mut writer) = cell.try_borrow_mut(rt) else {
+        return None;
+    };
+    *writer = 8;
+    tried(rt, cell)
+}
+
+/// What a reader sees and a writer finds beside these holders, and once they are gone what is left.
+fn beside(rt: &impl Wait, holders: Holders) -> (Option<Found>, Option<u64>) {
     let cell = TrustCell::new(7u64);
-    let reader = cell.try_borrow(&rt)?;
-    let other = cell.borrow(&rt)?;
-    assert_eq!(rt; (*reader, *other), (7, 7));
-    assert_eq!(rt;
-        cell.try_borrow_mut(&rt).is_err(),
-        true,
-        "a writer beside two readers"
-    );
-    drop(reader);
-    assert_eq!(rt;
-        cell.borrow_mut(&rt).is_err(),
-        true,
-        "a writer beside one reader"
-    );
-    assert_eq!(rt; other.map(|value| *value + 1), 8);
-    let mut writer = cell.try_borrow_mut(&rt)?;
-    *writer = 9;
-    assert_eq!(rt;
-        cell.try_borrow(&rt).is_err(),
-        true,
-        "a reader beside the writer"
-    );
-    assert_eq!(rt;
-        cell.try_borrow_mut(&rt).is_err(),
-        true,
-        "a writer beside the writer"
-    );
-    assert_eq!(rt; *writer, 9);
-    drop(writer);
-    assert_eq!(rt; *cell.try_borrow(&rt)?, 9);
-    assert_eq!(rt;
-        cell.borrow_mut(&rt)?.map(|value| mem::replace(value, 11)),
-        9
-    );
-    Ok(())
+    let told = match holders {
+        Holders::Nobody => tried(rt, &cell),
+        Holders::Writer => tried_beside_a_writer(rt, &cell),
+        _ => tried_beside_readers(rt, &cell, holders),
+    };
+    (told, cell.into_inner().ok())
 }
 
-/// What the cell's only holder writes stays in it.
 #[test]
-fn the_only_holder_writes(rt: HostRuntime) -> Result<(), Fail> {
+fn a_borrow_is_refused_beside_the_other_kind(rt: HostRuntime) {
+    let mut wrong = None;
+    for (holders, seen, found, left) in BESIDE.iter() {
+        if beside(&rt, *holders) != (Some((*seen, *found)), Some(*left)) {
+            wrong = Some(*holders);
+        }
+    }
+    assert_eq!(rt; wrong, None);
+}
+
+/// Whether what the only holder of a cell writes stays in it.
+fn only_holder_writes(rt: &impl Wait) -> bool {
     let mut cell = TrustCell::<u64>::default();
-    let mut lone = cell.get_mut()?;
-    assert_eq!(rt; *lone, 0);
-    *lone = 12;
-    drop(lone);
-    assert_eq!(rt; *cell.try_borrow(&rt)?, 12);
-    assert_eq!(rt; cell.into_inner(), Ok(12));
-    Ok(())
-}
-
-/// Adds 1 to both numbers, as often as said.
-fn add_often(rt: &impl Wait, cell: &TrustCell<(u64, u64)>, rounds: u64) {
-    for _ in 0..rounds {
-        for _ in rt.forever() {
-            if let Ok(mut both) = cell.try_borrow_mut(rt) {
-                both.0 = both.0.wrapping_add(1);
-                thread::yield_now();
-                both.1 = both.1.wrapping_add(1);
-                break;
-            }
-            thread::yield_now();
-        }
-    }
-}
-
-/// How often the two numbers were seen apart.
-fn look_often(rt: &impl Wait, cell: &TrustCell<(u64, u64)>, rounds: u64) -> u64 {
-    let mut apart = 0u64;
-    for _ in 0..rounds {
-        if let Ok(both) = cell.try_borrow(rt)
-            && both.0 != both.1
-        {
-            apart = apart.wrapping_add(1);
-        }
-    }
-    apart
-}
-
-/// What threads leave that add to one cell, each beside one that looks.
-fn sum_of_threads<R: Threads + Wait + Abort + Sync>(
-    rt: &R,
-    workers: u64,
-) -> Result<(u64, u64), InvalidBorrow> {
-    let cell = TrustCell::new((0u64, 0u64));
-    let shared = &cell;
-    thread::scope(thread::scope_env(), rt, |scope| {
-        for _ in 0..workers {
-            if scope.spawn(move || add_often(rt, shared, ROUNDS)).is_err() {
-                add_often(rt, shared, ROUNDS);
-            }
-            let looks = move || {
-                let apart = look_often(rt, shared, ROUNDS);
-                assert!(rt; apart == 0, "a writer was seen at work {apart} times");
-            };
-            let _ = scope.spawn(looks).is_ok();
-        }
-    });
-    cell.into_inner()
-}
-
-/// Writers of several threads each write alone, and no reader sees one at work.
-#[test]
-fn a_writer_is_alone(rt: HostRuntime) {
-    for workers in [1, 2, 8] {
-        let sum = workers * ROUNDS;
-        assert_eq!(rt;
-            sum_of_threads(&rt, workers),
-            Ok((sum, sum)),
-            "{workers} threads"
-        );
-    }
-}
-
-/// Borrows for reading and, while it does, sets its own flag and looks for the other's.
-fn stands_beside(
-    rt: &impl Wait,
-    cell: &TrustCell<u64>,
-    own: &AtomicU64,
-    other: &AtomicU64,
-) -> bool {
-    let Ok(lent) = cell.try_borrow(rt) else {
+    let Ok(mut lone) = cell.get_mut() else {
         return false;
     };
-    own.store(*lent, SeqCst);
-    for _ in 0..LOOKS {
-        if other.load(SeqCst) == *lent {
-            return true;
-        }
-    }
-    false
+    let began = *lone == 0;
+    *lone = 12;
+    drop(lone);
+    let seen = seen(rt, &cell);
+    began && seen == Some(12) && cell.into_inner() == Ok(12)
 }
 
-/// Two threads' readers have a cell at once: each sees the other's flag while it borrows.
-fn readers_meet<R: Threads + Wait + Abort + Sync>(rt: &R) {
-    let cell = TrustCell::new(1u64);
-    let flags = (AtomicU64::new(0), AtomicU64::new(0));
-    let (shared, left, right) = (&cell, &flags.0, &flags.1);
-    thread::scope(thread::scope_env(), rt, |scope| {
-        let beside = move || {
-            assert!(rt;
-                stands_beside(rt, shared, left, right),
-                "the first reader stood alone"
-            );
-        };
-        assert!(rt;
-            scope.spawn(beside).is_ok(),
-            "no thread for the first reader"
-        );
-        assert!(rt;
-            stands_beside(rt, shared, right, left),
-            "the second reader stood alone"
-        );
-    });
-}
-
-/// Readers of two threads stand beside each other.
 #[test]
-fn readers_stand_together(rt: HostRuntime) {
-    readers_meet(&rt);
+fn the_only_holder_writes(rt: HostRuntime) {
+    assert!(rt; only_holder_writes(&rt));
 }

@@ -1,13 +1,31 @@
-//! Rows and examples of use of the crates below `shred`, which no contract says.
+//! Rows and examples of use of `shred` and the crates below it, which no contract says.
 #![tactic(auto)]
 
+#[cfg(test)]
+mod asyncs;
+#[cfg(test)]
+mod builders;
+#[cfg(test)]
+mod bundles;
 #[cfg(test)]
 mod cells;
 #[cfg(test)]
 mod crews;
 #[cfg(test)]
+mod dispatches;
+#[cfg(test)]
 mod plans;
 #[cfg(test)]
+mod shared;
+#[cfg(test)]
+mod tables;
+#[cfg(test)]
+mod threads;
+#[cfg(test)]
 mod trees;
+#[cfg(test)]
+mod values;
+#[cfg(test)]
+mod workers;
 #[cfg(test)]
 mod worlds;

@@ -1,398 +1,490 @@
-//! Trees at work: sums in their order, refusals, conflicts, and halves that wait for one another.
-ghost use Rattle.std.specs.Prelude.{◌≡◌, IfOk, [], ◌∷◌};
-ghost use Rattle.std.specs.Option.{option_to_list};
-ghost use Rattle.shred_stages.specs.Views.{Leaves};
-
-mod number;
-
-use number::{Value, count, make_world, number_at, numbers_of, raised};
-use shred_plan::RunningTime;
-use shred_stages::{BatchAccessor, Stop, System};
+//! Trees at work: what they leave in their order or side by side, what refuses, and halves that wait for one another.
+use crate::values::Value;
+use crate::workers::{
+    Does, End, FIRST, FOURTH, IDLE, Plain, SECOND, THIRD, average, gates, numbers_of, world_of,
+};
+use shred_stages::{Stop, System};
+use shred_trees::laws::{par_means_seq, par_runs_either_way};
 use shred_trees::{Leaf, Nil, Par, ParError, ParSeq, RunWithPool, Seq};
-use shred_world::{Holder, ResourceId, World};
+use shred_world::{ResourceId, World};
 use std::alloc::{AllocError, Global};
-use std::sync::atomic::{AtomicBool, Ordering};
-use std::test::Fail;
 use std::thread::Threads;
 
-/// What a system of the tests does.
-#[derive(Clone, Copy, Debug, PartialEq, Eq)]
-enum Does {
-    Add(u64),
-    AddRead,
-    Refuse,
-    WantMemory,
+/// Three systems, one after another.
+type InTurn<S> = Seq<Seq<Seq<Nil, Leaf<Value, S>>, Leaf<Value, S>>, Leaf<Value, S>>;
+
+/// Three systems, side by side, the last of them in a half of its own.
+type SideBySide<S> = Par<
+    Value,
+    Par<Value, Par<Value, Nil, Leaf<Value, S>>, Leaf<Value, S>>,
+    Leaf<Value, S>,
+>;
+
+/// A call on a tree with its number of workers.
+enum Call {
+    SetUp,
+    Dispatch,
+    DispatchHere,
 }
 
-/// A system of the tests: it reads the number at one place, and writes that at another.
-#[derive(Clone, Copy, Debug, PartialEq, Eq)]
-struct Worker {
-    reads: Option<ResourceId>,
-    writes: ResourceId,
-    does: Does,
+/// Three leaves, what their tree declares, the calls on it with their ends, and the numbers of the world before and after.
+///
+/// The digits tell which of the four numbers it reads, from the first as 1 on, and then which it writes.
+struct Row {
+    name: &'static str,
+    leaves: [Plain; 3],
+    declares: u64,
+    calls: &'static [(Call, End)],
+    before: [u64; 4],
+    after: [u64; 4],
 }
 
-/// The id, where there is one, as a list.
-fn listed(alloc: Global, id: Option<ResourceId>) -> Result<Vec<ResourceId>, AllocError>
-    ensures { IfOk result (λ ids. ids.items ≡ option_to_list id) }
-{
-    match id {
-        Some(id) => Vec::from_slice(alloc, &[id]),
-        None => Ok(Vec::new(alloc)),
-    }
-}
+/// Leaves one after another.
+static IN_TURN: [Row; 3] = [
+    Row {
+        name: "each reads what the one before wrote",
+        leaves: [
+            (None, FIRST, Does::Add(2)),
+            (FIRST, SECOND, Does::AddRead),
+            (SECOND, FIRST, Does::AddRead),
+        ],
+        declares: 12121,
+        calls: &[(Call::Dispatch, End::Fine), (Call::DispatchHere, End::Fine)],
+        before: [0, 0, 0, 5],
+        after: [14, 8, 0, 5],
+    },
+    Row {
+        name: "a refusal stops it",
+        leaves: [
+            (None, FIRST, Does::Add(2)),
+            (None, SECOND, Does::Refuse),
+            (None, THIRD, Does::Add(3)),
+        ],
+        declares: 123,
+        calls: &[(Call::Dispatch, End::Full)],
+        before: [0, 0, 0, 0],
+        after: [2, 0, 0, 0],
+    },
+    Row {
+        name: "want of memory stops the setup",
+        leaves: [
+            (None, FIRST, Does::Add(2)),
+            (None, SECOND, Does::WantMemory),
+            (None, THIRD, Does::Add(3)),
+        ],
+        declares: 123,
+        calls: &[(Call::SetUp, End::Memory)],
+        before: [0, 0, 0, 0],
+        after: [2, 0, 0, 0],
+    },
+];
 
-/// Adds an amount to the number under an id.
-fn add_to<W: Holder<Value>>(view: &mut W, id: ResourceId, amount: u64) -> Result<(), Stop>
-    ensures leaves { Leaves (W.slots view.old) (W.slots view.new) }
-{
-    match view.take(id) {
-        Some(value) => {
-            view.put(id, raised(value, amount));
-            Ok(())
-        }
-        None => Err(Stop::Full),
-    }
-}
+/// Leaves side by side, the last of them in a half of its own.
+static SIDE_BY_SIDE: [Row; 5] = [
+    Row {
+        name: "each adds to a number of its own",
+        leaves: [
+            (FIRST, FIRST, Does::Add(2)),
+            (FOURTH, SECOND, Does::AddRead),
+            (FOURTH, THIRD, Does::AddRead),
+        ],
+        declares: 144123,
+        calls: &[(Call::Dispatch, End::Fine), (Call::Dispatch, End::Fine)],
+        before: [0, 0, 0, 5],
+        after: [4, 10, 10, 5],
+    },
+    Row {
+        name: "the tail runs where the head refuses",
+        leaves: [
+            (None, FIRST, Does::Refuse),
+            IDLE,
+            (None, SECOND, Does::Add(1)),
+        ],
+        declares: 12,
+        calls: &[(Call::Dispatch, End::Full)],
+        before: [0, 0, 0, 0],
+        after: [0, 1, 0, 0],
+    },
+    Row {
+        name: "the tail's refusal is told",
+        leaves: [
+            (None, FIRST, Does::Add(1)),
+            IDLE,
+            (None, SECOND, Does::WantMemory),
+        ],
+        declares: 12,
+        calls: &[(Call::Dispatch, End::Memory)],
+        before: [0, 0, 0, 0],
+        after: [1, 0, 0, 0],
+    },
+    Row {
+        name: "of two refusals the head's is told",
+        leaves: [
+            (None, FIRST, Does::Refuse),
+            IDLE,
+            (None, SECOND, Does::WantMemory),
+        ],
+        declares: 12,
+        calls: &[(Call::Dispatch, End::Full)],
+        before: [0, 0, 0, 0],
+        after: [0, 0, 0, 0],
+    },
+    Row {
+        name: "want of memory stops the setup",
+        leaves: [
+            (None, FIRST, Does::Add(2)),
+            (None, SECOND, Does::WantMemory),
+            (None, THIRD, Does::Add(3)),
+        ],
+        declares: 123,
+        calls: &[(Call::SetUp, End::Memory)],
+        before: [0, 0, 0, 0],
+        after: [2, 0, 0, 0],
+    },
+];
 
-/// The number that a worker reads, 0 where there is none.
-fn number_read<W: Holder<Value>>(worker: &Worker, view: &W) -> u64 {
-    match worker.reads {
-        Some(id) => number_at(view, id),
-        None => 0,
-    }
-}
-
-/// What a worker does.
-fn work<W: Holder<Value>>(worker: &Worker, view: &mut W) -> Result<(), Stop>
-    ensures leaves { Leaves (W.slots view.old) (W.slots view.new) }
-{
-    match worker.does {
-        Does::Add(amount) => add_to(view, worker.writes, amount),
-        Does::AddRead => {
-            let amount = number_read(worker, view);
-            add_to(view, worker.writes, amount)
-        }
-        Does::Refuse => Err(Stop::Full),
-        Does::WantMemory => Err(Stop::Memory),
-    }
-}
-
-impl System<Value> for Worker {
-    ghost meets = { λ _ _ _ _ _. Unit {0} };
-
-    ghost read_list = { λ worker. option_to_list worker.reads };
-
-    ghost write_list = { λ worker. worker.writes ∷ [] };
-
-    ghost said_time = { λ _. 3 };
-
-    ghost sets_up = { λ _ _ _ _ _. Unit {0} };
-
-    ghost disposes = { λ _ _ _ _. Unit {0} };
-
-    fn run<H: AllocGlobal, W: Holder<Value>>(&mut self, _rt: &H, view: &mut W) -> Result<(), Stop> {
-        work(self, view)
-    }
-
-    fn running_time(&self) -> RunningTime {
-        RunningTime::Average
-    }
-
-    fn accessor(&self, alloc: Global) -> Result<BatchAccessor, AllocError> {
-        let reads = listed(alloc, self.reads)?;
-        let writes = Vec::from_slice(alloc, &[self.writes])?;
-        Ok(BatchAccessor::new(reads, writes))
-    }
-
-    fn setup(&mut self, world: &mut World<Value>) -> Result<(), AllocError> {
-        if self.does == Does::WantMemory {
-            return Err(AllocError);
-        }
-        work(self, world).map_err(|_| AllocError)
-    }
-
-    fn dispose(self, _world: &mut World<Value>) -> Result<(), Stop> {
-        Ok(())
-    }
-}
-
-/// A tree of one worker.
-fn leaf(
+/// The tree of a system.
+pub(crate) fn leaf<S: System<Value> + Drop>(
     alloc: Global,
-    reads: Option<u64>,
-    writes: u64,
-    does: Does,
-) -> Result<Leaf<Value, Worker>, Fail> {
-    let worker = Worker {
-        reads: reads.map(count),
-        writes: count(writes),
-        does,
+    system: S,
+) -> Result<Leaf<Value, S>, AllocError> {
+    match Leaf::new(alloc, system) {
+        Ok(leaf) => Ok(leaf),
+        Err(_) => Err(AllocError),
+    }
+}
+
+/// Three systems, one after another.
+fn in_turn<S: System<Value> + Drop>(
+    alloc: Global,
+    first: S,
+    second: S,
+    third: S,
+) -> Result<InTurn<S>, AllocError> {
+    let Ok(first) = leaf(alloc, first) else {
+        return Err(AllocError);
     };
-    Leaf::new(alloc, worker).map_err(|_| Fail::from("memory"))
+    let Ok(second) = leaf(alloc, second) else {
+        return Err(AllocError);
+    };
+    let Ok(third) = leaf(alloc, third) else {
+        return Err(AllocError);
+    };
+    Ok(shred_trees::seq![first, second, third])
 }
 
-type OneLeaf = Leaf<Value, Worker>;
-
-type ThreeInTurn = Seq<Seq<Seq<Nil, OneLeaf>, OneLeaf>, OneLeaf>;
-
-type Two = Par<Value, Par<Value, Nil, OneLeaf>, OneLeaf>;
-
-type Three = Par<Value, Two, OneLeaf>;
-
-/// Three leaves, one after the other.
-fn in_turn(first: OneLeaf, second: OneLeaf, third: OneLeaf) -> ThreeInTurn {
-    shred_trees::seq![first, second, third]
-}
-
-/// Two leaves, side by side.
-fn two(alloc: Global, first: OneLeaf, second: OneLeaf) -> Result<Two, ParError> {
-    shred_trees::par![in alloc; first, second]
-}
-
-/// Three leaves, side by side.
-fn three(
+/// Three systems, side by side.
+fn side_by_side<S: System<Value> + Drop>(
     alloc: Global,
-    first: OneLeaf,
-    second: OneLeaf,
-    third: OneLeaf,
-) -> Result<Three, ParError> {
+    first: S,
+    second: S,
+    third: S,
+) -> Result<SideBySide<S>, ParError> {
+    let Ok(first) = leaf(alloc, first) else {
+        return Err(ParError::Memory);
+    };
+    let Ok(second) = leaf(alloc, second) else {
+        return Err(ParError::Memory);
+    };
+    let Ok(third) = leaf(alloc, third) else {
+        return Err(ParError::Memory);
+    };
     shred_trees::par![in alloc; first, second, third]
 }
 
-#[test]
-fn a_sequence_runs_in_its_order(rt: HostRuntime) -> Result<(), Fail> {
-    let alloc = rt.alloc();
-    let mut world = make_world(alloc, [0, 0, 0, 5])?;
-    let first = leaf(alloc, None, 0, Does::Add(2))?;
-    let second = leaf(alloc, Some(0), 1, Does::AddRead)?;
-    let third = leaf(alloc, Some(1), 0, Does::AddRead)?;
-    let mut pooled = ParSeq::new(in_turn(first, second, third), 2);
-    assert_eq!(rt; pooled.dispatch(&rt, &mut world), Ok(()));
-    assert_eq!(rt; pooled.dispatch_here(&rt, &mut world), Ok(()));
-    assert_eq!(rt; numbers_of(&world), [14, 8, 0, 5]);
-    Ok(())
-}
-
-#[test]
-fn a_sequence_stops_at_a_refusal(rt: HostRuntime) -> Result<(), Fail> {
-    let alloc = rt.alloc();
-    let mut world = make_world(alloc, [0, 0, 0, 0])?;
-    let first = leaf(alloc, None, 0, Does::Add(2))?;
-    let second = leaf(alloc, None, 1, Does::Refuse)?;
-    let third = leaf(alloc, None, 2, Does::Add(3))?;
-    let mut tree = in_turn(first, second, third);
-    assert_eq!(rt; tree.run(&rt, &mut world), Err(Stop::Full));
-    assert_eq!(rt; numbers_of(&world), [2, 0, 0, 0]);
-    Ok(())
-}
-
-/// The numbers after two runs of three leaves that write three numbers.
-fn sums<R: AllocGlobal + Threads + Sync>(rt: &R, workers: usize) -> Result<[u64; 4], Fail> {
-    let alloc = rt.alloc();
-    let mut world = make_world(alloc, [0, 0, 0, 5])?;
-    let first = leaf(alloc, Some(0), 0, Does::Add(2))?;
-    let second = leaf(alloc, Some(3), 1, Does::AddRead)?;
-    let third = leaf(alloc, Some(3), 2, Does::AddRead)?;
-    let mut pooled = ParSeq::new(three(alloc, first, second, third)?, workers);
-    pooled.dispatch(rt, &mut world).map_err(|_| "refused")?;
-    pooled.dispatch(rt, &mut world).map_err(|_| "refused")?;
-    Ok(numbers_of(&world))
-}
-
-#[test]
-fn sums_are_the_same_for_each_number_of_workers(rt: HostRuntime) -> Result<(), Fail> {
-    for workers in [0, 1, 2, 8] {
-        assert_eq!(rt; sums(&rt, workers)?, [4, 10, 10, 5]);
+/// How a run ends.
+pub(crate) fn end_of_run(outcome: Result<(), Stop>) -> End {
+    match outcome {
+        Ok(()) => End::Fine,
+        Err(Stop::Full) => End::Full,
+        Err(Stop::Memory) => End::Memory,
+        Err(Stop::Refused(_)) => End::Refused,
     }
-    Ok(())
 }
 
-/// Whether a second tree joins a first one.
-fn joins(
-    alloc: Global,
-    one: (Option<u64>, u64),
-    other: (Option<u64>, u64),
-) -> Result<Option<ParError>, Fail> {
-    let first = leaf(alloc, one.0, one.1, Does::AddRead)?;
-    let second = leaf(alloc, other.0, other.1, Does::AddRead)?;
-    Ok(two(alloc, first, second).err())
-}
-
-#[test]
-fn a_conflict_is_refused(rt: HostRuntime) -> Result<(), Fail> {
-    let alloc = rt.alloc();
-    for (one, other, answer) in [
-        ((None, 0), (None, 1), None),
-        ((Some(2), 0), (Some(2), 1), None),
-        ((None, 0), (None, 0), Some(ParError::Conflict)),
-        ((Some(1), 0), (None, 1), Some(ParError::Conflict)),
-        ((None, 0), (Some(0), 1), Some(ParError::Conflict)),
-    ] {
-        assert_eq!(rt; joins(alloc, one, other)?, answer);
+/// How a setup ends.
+pub(crate) fn end_of_setup(outcome: Result<(), AllocError>) -> End {
+    match outcome {
+        Ok(()) => End::Fine,
+        Err(_) => End::Memory,
     }
-    Ok(())
 }
 
-/// How a run of two leaves ends, and the numbers that it leaves.
-fn outcome<R: AllocGlobal + Threads + Sync>(
+/// The ids of the four numbers, from the first as 1 on, as the digits of a number.
+fn digits_of(ids: &Vec<ResourceId>) -> u64 {
+    let mut digits = 0u64;
+    for id in ids {
+        digits = digits
+            .wrapping_mul(10)
+            .wrapping_add(id.dynamic.wrapping_add(1));
+    }
+    digits
+}
+
+/// The ids that a tree reads and then those that it writes, as the digits of a number; 0 for want of memory.
+fn declared<T: RunWithPool<Value>>(alloc: Global, tree: &T) -> u64 {
+    let mut ids = Vec::new(alloc);
+    if tree.reads(&mut ids).is_ok() && tree.writes(&mut ids).is_ok() {
+        digits_of(&ids)
+    } else {
+        0
+    }
+}
+
+/// How a call on a tree ends that runs on the caller's thread.
+fn call_here<R: AllocGlobal, T: RunWithPool<Value>>(
+    rt: &R,
+    tree: &mut ParSeq<T>,
+    world: &mut World<Value>,
+    call: &Call,
+) -> End {
+    match call {
+        Call::SetUp => end_of_setup(tree.setup(world)),
+        _ => end_of_run(tree.dispatch_here(rt, world)),
+    }
+}
+
+/// Whether trees one after another declare what is said, and calls on them end as said.
+fn end_in_turn<R: AllocGlobal, H: RunWithPool<Value> + Drop, T: RunWithPool<Value> + Drop>(
+    rt: &R,
+    tree: Seq<H, T>,
+    world: &mut World<Value>,
+    row: &Row,
+) -> bool {
+    let mut as_said = declared(rt.alloc(), &tree) == row.declares;
+    let mut tree = ParSeq::new(tree, 2);
+    for (call, end) in row.calls {
+        let ended = match call {
+            Call::Dispatch => end_of_run(tree.dispatch(rt, world)),
+            _ => call_here(rt, &mut tree, world, call),
+        };
+        as_said = ended == *end && as_said;
+    }
+    as_said
+}
+
+/// Whether trees side by side declare what is said, and calls on them end as said with this number of workers.
+fn end_side_by_side<
+    R: AllocGlobal + Threads + Sync,
+    H: RunWithPool<Value> + Drop,
+    T: RunWithPool<Value> + Send + Drop,
+>(rt: &R, workers: usize, tree: Par<Value, H, T>, world: &mut World<Value>, row: &Row) -> bool {
+    let mut as_said = declared(rt.alloc(), &tree) == row.declares;
+    let mut tree = ParSeq::new(tree, workers);
+    for (call, end) in row.calls {
+        let ended = match call {
+            Call::Dispatch => end_of_run(tree.dispatch(rt, world)),
+            _ => call_here(rt, &mut tree, world, call),
+        };
+        as_said = ended == *end && as_said;
+    }
+    as_said
+}
+
+/// The same of three systems one after another.
+fn systems_end_in_turn<R: AllocGlobal, S: System<Value> + Drop>(
+    rt: &R,
+    systems: [S; 3],
+    world: &mut World<Value>,
+    row: &Row,
+) -> bool {
+    let [first, second, third] = systems;
+    match in_turn(rt.alloc(), first, second, third) {
+        Ok(tree) => end_in_turn(rt, tree, world, row),
+        Err(_) => false,
+    }
+}
+
+/// The same of three systems side by side.
+fn systems_end_side_by_side<R: AllocGlobal + Threads + Sync, S: System<Value> + Send + Drop>(
     rt: &R,
     workers: usize,
-    head: Does,
-    tail: Does,
-) -> Result<(Result<(), Stop>, [u64; 4]), Fail> {
-    let alloc = rt.alloc();
-    let mut world = make_world(alloc, [0, 0, 0, 0])?;
-    let first = leaf(alloc, None, 0, head)?;
-    let second = leaf(alloc, None, 1, tail)?;
-    let mut pooled = ParSeq::new(two(alloc, first, second)?, workers);
-    let answer = pooled.dispatch(rt, &mut world);
-    Ok((answer, numbers_of(&world)))
+    systems: [S; 3],
+    world: &mut World<Value>,
+    row: &Row,
+) -> bool {
+    let [first, second, third] = systems;
+    match side_by_side(rt.alloc(), first, second, third) {
+        Ok(tree) => end_side_by_side(rt, workers, tree, world, row),
+        Err(_) => false,
+    }
+}
+
+/// Whether the calls on leaves in turn end as the row says, and leave its numbers.
+fn holds_in_turn<R: AllocGlobal>(rt: &R, row: &Row) -> Result<bool, AllocError> {
+    let mut world = world_of(rt.alloc(), row.before)?;
+    let [first, second, third] = row.leaves;
+    let systems = [average(first), average(second), average(third)];
+    let as_said = systems_end_in_turn(rt, systems, &mut world, row);
+    Ok(as_said && numbers_of(&world) == row.after)
+}
+
+/// Whether the calls on leaves side by side end as the row says with this number of workers, and leave its numbers.
+fn holds_side_by_side<R: AllocGlobal + Threads + Sync>(
+    rt: &R,
+    workers: usize,
+    row: &Row,
+) -> Result<bool, AllocError> {
+    let mut world = world_of(rt.alloc(), row.before)?;
+    let [first, second, third] = row.leaves;
+    let systems = [average(first), average(second), average(third)];
+    let as_said = systems_end_side_by_side(rt, workers, systems, &mut world, row);
+    Ok(as_said && numbers_of(&world) == row.after)
 }
 
 #[test]
-fn both_halves_run_and_the_head_s_refusal_is_told(rt: HostRuntime) -> Result<(), Fail> {
-    for workers in [0, 2] {
-        for (head, tail, answer) in [
-            (Does::Refuse, Does::Add(1), (Err(Stop::Full), [0, 1, 0, 0])),
-            (
-                Does::Add(1),
-                Does::WantMemory,
-                (Err(Stop::Memory), [1, 0, 0, 0]),
-            ),
-            (
-                Does::Refuse,
-                Does::WantMemory,
-                (Err(Stop::Full), [0, 0, 0, 0]),
-            ),
-        ] {
-            assert_eq!(rt; outcome(&rt, workers, head, tail)?, answer);
+fn leaves_run_in_their_order(rt: HostRuntime) {
+    let mut wrong = None;
+    for row in IN_TURN.as_slice() {
+        if holds_in_turn(&rt, row) != Ok(true) {
+            wrong = Some(row.name);
         }
     }
-    Ok(())
+    assert_eq!(rt; wrong, None);
+}
+
+/// The first row that doesn't hold with this number of workers.
+fn first_wrong<R: AllocGlobal + Threads + Sync>(rt: &R, workers: usize) -> Option<&'static str> {
+    for row in SIDE_BY_SIDE.as_slice() {
+        if holds_side_by_side(rt, workers, row) != Ok(true) {
+            return Some(row.name);
+        }
+    }
+    None
 }
 
 #[test]
-fn systems_are_set_up_in_the_order_of_the_tree(rt: HostRuntime) -> Result<(), Fail> {
-    let alloc = rt.alloc();
-    let mut world = make_world(alloc, [0, 0, 0, 0])?;
-    let first = leaf(alloc, None, 0, Does::Add(2))?;
-    let second = leaf(alloc, None, 1, Does::WantMemory)?;
-    let third = leaf(alloc, None, 2, Does::Add(3))?;
-    let mut pooled = ParSeq::new(three(alloc, first, second, third)?, 0);
-    assert_eq!(rt; pooled.setup(&mut world), Err(AllocError));
-    assert_eq!(rt; numbers_of(&world), [2, 0, 0, 0]);
-    Ok(())
+fn halves_leave_the_same_with_any_number_of_workers(rt: HostRuntime) {
+    for workers in [0, 1, 2, 8] {
+        assert_eq!(rt; first_wrong(&rt, workers), None, "{workers} workers");
+    }
+}
+
+/// Leaves, and why they don't stand side by side.
+struct Joined {
+    name: &'static str,
+    leaves: [Plain; 3],
+    refusal: Option<ParError>,
+}
+
+static JOINED: [Joined; 6] = [
+    Joined {
+        name: "two that share nothing",
+        leaves: [
+            (None, FIRST, Does::AddRead),
+            (None, SECOND, Does::AddRead),
+            IDLE,
+        ],
+        refusal: None,
+    },
+    Joined {
+        name: "two that read the same",
+        leaves: [
+            (THIRD, FIRST, Does::AddRead),
+            (THIRD, SECOND, Does::AddRead),
+            IDLE,
+        ],
+        refusal: None,
+    },
+    Joined {
+        name: "two that write the same",
+        leaves: [
+            (None, FIRST, Does::AddRead),
+            (None, FIRST, Does::AddRead),
+            IDLE,
+        ],
+        refusal: Some(ParError::Conflict),
+    },
+    Joined {
+        name: "one that reads what the second writes",
+        leaves: [
+            (SECOND, FIRST, Does::AddRead),
+            (None, SECOND, Does::AddRead),
+            IDLE,
+        ],
+        refusal: Some(ParError::Conflict),
+    },
+    Joined {
+        name: "one that reads what the first writes",
+        leaves: [
+            (None, FIRST, Does::AddRead),
+            (FIRST, SECOND, Does::AddRead),
+            IDLE,
+        ],
+        refusal: Some(ParError::Conflict),
+    },
+    Joined {
+        name: "one that reads what the first of the other half writes",
+        leaves: [
+            (None, FIRST, Does::AddRead),
+            IDLE,
+            (FIRST, SECOND, Does::AddRead),
+        ],
+        refusal: Some(ParError::Conflict),
+    },
+];
+
+/// Why leaves don't stand side by side.
+fn refusal_of(alloc: Global, leaves: [Plain; 3]) -> Option<ParError> {
+    let [first, second, third] = leaves;
+    match side_by_side(alloc, average(first), average(second), average(third)) {
+        Ok(_) => None,
+        Err(refusal) => Some(refusal),
+    }
 }
 
 #[test]
-fn a_tree_declares_what_its_systems_declare(rt: HostRuntime) -> Result<(), Fail> {
-    let alloc = rt.alloc();
-    let first = leaf(alloc, Some(3), 0, Does::AddRead)?;
-    let second = leaf(alloc, Some(3), 1, Does::AddRead)?;
-    let tree = two(alloc, first, second)?;
-    let mut ids = Vec::new(alloc);
-    tree.reads(&mut ids)?;
-    tree.writes(&mut ids)?;
-    assert_eq!(rt;
-        ids.as_slice(),
-        [count(3), count(3), count(0), count(1)].as_slice()
-    );
-    Ok(())
-}
-
-/// A system that raises its own flag, and refuses where it never sees another's.
-#[derive(Drop)]
-struct Gate<'f> {
-    own: &'f AtomicBool,
-    other: &'f AtomicBool,
-}
-
-/// Raises a flag, and tells whether another one is seen in 1,000,000,000 looks.
-fn sees(own: &AtomicBool, other: &AtomicBool) -> bool {
-    own.store(true, Ordering::SeqCst);
-    for _look in 0..1_000_000_000_u32 {
-        if other.load(Ordering::SeqCst) {
-            return true;
+fn a_conflict_is_refused(rt: HostRuntime) {
+    let mut wrong = None;
+    for joined in JOINED.as_slice() {
+        if refusal_of(rt.alloc(), joined.leaves) != joined.refusal {
+            wrong = Some(joined.name);
         }
     }
-    false
+    assert_eq!(rt; wrong, None);
 }
 
-impl System<Value> for Gate<'_> {
-    ghost meets = { λ _ _ _ _ _. Unit {0} };
+/// Whether nothing runs as a tree, and leaves the world.
+fn nothing_runs<R: AllocGlobal>(rt: &R) -> Result<bool, AllocError> {
+    let mut world = world_of(rt.alloc(), [1, 2, 3, 4])?;
+    let end = end_of_run(ParSeq::new(Nil, 0).dispatch_here(rt, &mut world));
+    Ok(end == End::Fine && numbers_of(&world) == [1, 2, 3, 4])
+}
 
-    ghost read_list = { λ _. [] };
+#[test]
+fn nothing_is_a_tree(rt: HostRuntime) {
+    assert_eq!(rt; nothing_runs(&rt), Ok(true));
+}
 
-    ghost write_list = { λ _. [] };
+#[test]
+fn laws_hold_of_trees() {
+    par_means_seq::<Value, Nil, Nil>();
+    par_runs_either_way::<Value, Nil, Nil>();
+}
 
-    ghost said_time = { λ _. 3 };
+/// A dispatch of leaves that declare nothing.
+static DISPATCH: Row = Row {
+    name: "gates",
+    leaves: [IDLE, IDLE, IDLE],
+    declares: 0,
+    calls: &[(Call::Dispatch, End::Fine)],
+    before: [0, 0, 0, 0],
+    after: [0, 0, 0, 0],
+};
 
-    ghost sets_up = { λ _ _ _ _ _. Unit {0} };
-
-    ghost disposes = { λ _ _ _ _. Unit {0} };
-
-    fn run<H: AllocGlobal, W: Holder<Value>>(
-        &mut self,
-        _rt: &H,
-        _view: &mut W,
-    ) -> Result<(), Stop> {
-        if sees(self.own, self.other) {
-            Ok(())
-        } else {
-            Err(Stop::Full)
-        }
-    }
-
-    fn running_time(&self) -> RunningTime {
-        RunningTime::Average
-    }
-
-    fn accessor(&self, alloc: Global) -> Result<BatchAccessor, AllocError> {
-        Ok(BatchAccessor::new(Vec::new(alloc), Vec::new(alloc)))
-    }
-
-    fn setup(&mut self, _world: &mut World<Value>) -> Result<(), AllocError> {
-        Ok(())
-    }
-
-    fn dispose(self, _world: &mut World<Value>) -> Result<(), Stop> {
-        Ok(())
-    }
+/// Whether gates meet as the halves of a tree: the first of the head and the one of the tail wait for each other.
+fn halves_meet<R: AllocGlobal + Threads + Sync>(
+    rt: &R,
+    workers: usize,
+) -> Result<bool, AllocError> {
+    let mut world = World::empty(rt.alloc());
+    let gates = gates(rt.alloc(), [0, 1, 0])?;
+    Ok(systems_end_side_by_side(rt, workers, gates, &mut world, &DISPATCH))
 }
 
 /// The two halves of a `Par` in two threads: each raises its own flag and looks for the other's. On one thread the head runs to
 /// its end before the tail begins, so it never sees the tail's flag, refuses, and the test fails.
 #[test]
-fn gate_par(rt: HostRuntime) -> Result<(), Fail> {
-    let alloc = rt.alloc();
-    let (one, other) = (AtomicBool::new(false), AtomicBool::new(false));
-    let mut world = make_world(alloc, [0, 0, 0, 0])?;
-    let first = Gate {
-        own: &one,
-        other: &other,
-    };
-    let second = Gate {
-        own: &other,
-        other: &one,
-    };
-    let (Ok(head), Ok(tail)) = (Leaf::new(alloc, first), Leaf::new(alloc, second)) else {
-        return Err(Fail::from("memory"));
-    };
-    let Ok(tree) = Par::new(head).with(alloc, tail) else {
-        return Err(Fail::from("memory"));
-    };
-    let mut pooled = ParSeq::new(tree, 2);
-    assert_eq!(rt; pooled.dispatch(&rt, &mut world), Ok(()));
-    Ok(())
-}
-
-#[test]
-fn nothing_is_a_tree(rt: HostRuntime) -> Result<(), Fail> {
-    let alloc = rt.alloc();
-    let mut world = make_world(alloc, [1, 2, 3, 4])?;
-    let mut pooled = ParSeq::new(Nil, 0);
-    assert_eq!(rt; pooled.dispatch_here(&rt, &mut world), Ok(()));
-    assert_eq!(rt; numbers_of(&world), [1, 2, 3, 4]);
-    Ok(())
+fn gate_par(rt: HostRuntime) {
+    assert_eq!(rt; halves_meet(&rt, 2), Ok(true));
 }

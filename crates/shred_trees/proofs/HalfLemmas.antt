@@ -9,13 +9,12 @@ use Rattle.shred_world.specs.declared.resource_id.ResourceId.{ResourceId}
 use Rattle.shred_world.specs.ResourceIds.{same_id}
 use Rattle.shred_world.specs.Worlds.{Slots, value_at}
 use Rattle.shred_world.specs.Bundles.{Slot, absent, out, shared, owned, Holding, holding_of, readable, takable, is_listed}
-use Rattle.shred_world.proofs.IdLemmas.{same_id-is}
+use Rattle.shred_world.proofs.CallerLemmas.{same_id-is}
 use Rattle.shred_stages.specs.declared.stop.Stop.{Stop}
 use Rattle.shred_stages.specs.Views.{IsLeft, Leaves, FitsSeat, merged, cut, owned_of, shared_of, view_slots}
 use Rattle.shred_stages.specs.Moves.{IsSeat, HasSlots, emptied, filled, left_of, moved_to}
 use Rattle.shred_stages.specs.Runs.{Step, RunsInView}
-use Rattle.shred_stages.proofs.LendLemmas.{left-other}
-use Rattle.shred_stages.proofs.ViewLemmas.{turn-slots, turn-seat, turn-step}
+use Rattle.shred_stages.proofs.CallerLemmas.{left-other, turn-slots, turn-seat, turn-step}
 use Rattle.shred_trees.specs.Trees.{Within, CanBeTaken, have_common, conflict, ParRuns, StaysWithin, SeesWhatItDeclares}
 use Rattle.shred_trees.specs.TreeLaws.{read-stays}
 use Rattle.shred_trees.specs.Rooms.{Lends, Returns}

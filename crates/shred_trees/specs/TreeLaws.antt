@@ -10,7 +10,7 @@ use Rattle.shred_world.specs.Bundles.{Slot, absent, out, shared, owned, Holding,
 use Rattle.shred_stages.specs.declared.stop.Stop.{Stop}
 use Rattle.shred_stages.specs.Views.{IsLeft, Leaves, merged, cut, owned_of, shared_of}
 use Rattle.shred_stages.specs.Runs.{Step}
-use Rattle.shred_stages.proofs.LeaveLemmas.{leaves-itself, leaves-leaves, leaves-to, step-leaves}
+use Rattle.shred_stages.proofs.CallerLemmas.{leaves-itself, leaves-leaves, leaves-to, step-leaves}
 use Rattle.shred_trees.specs.Trees.{Halves, both_lists, Agree, carried, Within, SeqRuns, ParRuns, StaysWithin, SeesWhatItDeclares}
 
 -- ids of one of two lists

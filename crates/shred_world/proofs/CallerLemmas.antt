@@ -1,11 +1,12 @@
 -- What users of bundles cite.
+pub use Rattle.shred_world.proofs.IdLemmas.{ids_total, same_id-is, same_id-itself}
+pub use Rattle.shred_world.proofs.WorldLemmas.{get-insert_here, insert-insert, insert_value_same, one_put, one_removed, same_made, slot_at}
 use Rattle.std.proofs.Common.{◌≡◌, Option, Some, None, IsSome, is_some, cond, ap, ◌∙◌}
 use Rattle.std.specs.FinMap as map
 use Rattle.std.specs.Option.{option_and_then}
 use Rattle.shred_world.specs.declared.resource_id.ResourceId.{ResourceId}
 use Rattle.shred_world.specs.Bundles.{Holding, readable}
 use Rattle.shred_world.specs.Worlds.{Slots}
-use Rattle.shred_world.proofs.IdLemmas.{ids_total, same_id-itself}
 
 -- what is read in the slots that a fetch left is read in the holder
 pub reads_on : {V R : Type 0} (part : V → Option R) (holder left : Holding V) (id : ResourceId) → holder ≡ left → IsSome (option_and_then part (readable (left id)))

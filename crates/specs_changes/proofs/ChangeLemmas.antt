@@ -3,9 +3,9 @@ use Rattle.std.proofs.Common.{◌≡◌, ℕ, List, [], ◌∷◌, ◌++◌, Opt
 use Rattle.std.specs.Prelude.{option_map, MatchResult, IsErr}
 use Rattle.std.specs.Result.{IsErrAnd}
 use Rattle.std.proofs.lemmas.Bool.{cases_eq}
-use Rattle.specs_store.specs.Parts.{Puts, SameParts}
-use Rattle.specs_store.specs.Dense.{Dense, dense_part, with_dense_part}
-use Rattle.specs_store.specs.DenseLemmas.{with_dense_part-puts}
+use Rattle.specs_layouts.specs.Parts.{Puts, SameParts}
+use Rattle.specs_layouts.specs.Dense.{Dense, dense_part, with_dense_part}
+use Rattle.specs_layouts.specs.DenseLemmas.{with_dense_part-puts}
 use Rattle.specs_changes.specs.declared.changeset.Change.{Change}
 use Rattle.specs_entity.specs.declared.ids.Entity.{Entity}
 use Rattle.specs_changes.specs.declared.changeset.ChangeError.{ChangeError}

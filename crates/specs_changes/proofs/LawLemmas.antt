@@ -3,10 +3,10 @@ use Rattle.std.proofs.Common.{◌≡◌, ℕ, suc, List, [], ◌∷◌, length, 
 use Rattle.std.proofs.lemmas.Bool.{false≢true}
 use Rattle.std.specs.List.{cons_option}
 use Rattle.hibitset_sets.specs.Walk.{walk}
-use Rattle.hibitset_sets.proofs.WalkLemmas.{walk-same}
-use Rattle.specs_store.specs.ToCome.{IsToCome}
+use Rattle.hibitset_sets.proofs.CallerLemmas.{walk-same}
+use Rattle.specs_layouts.specs.ToCome.{IsToCome}
 use Rattle.specs_join.specs.Joins.{values_at, join_list}
-use Rattle.specs_join.proofs.NewLemmas.{walk-members}
+use Rattle.specs_join.proofs.CallerLemmas.{walk-members}
 
 one-there : {T : Type 0} (value : Option T) (rest : List T) → IsSome value → length (cons_option value rest) ≡ suc (length rest)
 one-there (Some value) rest there = refl

@@ -4,12 +4,12 @@ use Rattle.std.proofs.lemmas.List.{map-append}
 use Rattle.std.specs.List.{range_with_len, cons_option}
 use Rattle.hibitset_sets.specs.BitSet.{SetWithRoom}
 use Rattle.hibitset_sets.specs.Walk.{walk}
-use Rattle.specs_store.specs.ToCome.{IsToCome}
-use Rattle.specs_store.specs.Parts.{Puts, SameParts, told}
-use Rattle.specs_store.specs.declared.track.ComponentEvent.{ComponentEvent}
-use Rattle.specs_store.specs.declared.track.ComponentEvent.TheVariants as event
+use Rattle.specs_layouts.specs.ToCome.{IsToCome}
+use Rattle.specs_layouts.specs.Parts.{Puts, SameParts, told}
+use Rattle.specs_layouts.specs.declared.track.ComponentEvent.{ComponentEvent}
+use Rattle.specs_layouts.specs.declared.track.ComponentEvent.TheVariants as event
 use Rattle.specs_join.specs.Joins.{values_at}
-use Rattle.specs_join.proofs.NewLemmas.{walk-members}
+use Rattle.specs_join.proofs.CallerLemmas.{walk-members}
 use Rattle.specs_changes.specs.Storing.{all_told, left_at}
 
 -- a list goes up from a least number

@@ -7,13 +7,13 @@ use Rattle.std.specs.List.{range_with_len, cons_option}
 use Rattle.hibitset_sets.specs.BitSet.{SetWithRoom, has_member}
 use Rattle.hibitset_sets.specs.Walk.{walk}
 use Rattle.hibitset_sets.specs.Operators.{members_of_and}
-use Rattle.hibitset_sets.proofs.WalkLemmas.{walk-same, walk-first}
-use Rattle.specs_store.specs.Parts.{Puts}
-use Rattle.specs_store.specs.ToCome.{IsToCome}
+use Rattle.hibitset_sets.proofs.CallerLemmas.{walk-same, walk-first}
+use Rattle.specs_layouts.specs.Parts.{Puts}
+use Rattle.specs_layouts.specs.ToCome.{IsToCome}
 use Rattle.specs_join.specs.Joins.{values_at, join_list, both}
 use Rattle.specs_join.specs.JoinLemmas.{some-both}
-use Rattle.specs_join.proofs.NewLemmas.{walk-members, values-agree}
-use Rattle.specs_store.specs.Dense.{Dense, dense_part}
+use Rattle.specs_join.proofs.CallerLemmas.{walk-members, values-agree}
+use Rattle.specs_layouts.specs.Dense.{Dense, dense_part}
 use Rattle.specs_changes.specs.declared.changeset.Change.{Change}
 use Rattle.specs_changes.specs.Changes.{changes_in}
 use Rattle.specs_changes.specs.Taking.{masked, taken_with, without, IsTaking}

@@ -2,8 +2,8 @@
 use Rattle.std.specs.Prelude.{◌≡◌, ℕ, ◌<◌, ◌≤◌, ◌⊎◌, List, [], ◌∷◌, Option, None, Some, option_map, Result, MatchResult}
 use Rattle.std.specs.Iterator.{Yields, Drains}
 use Rattle.specs_entity.specs.declared.ids.Entity.{Entity}
-use Rattle.specs_store.specs.Parts.{Puts, SameParts}
-use Rattle.specs_store.specs.Dense.{Dense, dense_part}
+use Rattle.specs_layouts.specs.Parts.{Puts, SameParts}
+use Rattle.specs_layouts.specs.Dense.{Dense, dense_part}
 use Rattle.specs_changes.specs.declared.changeset.Change.{Change}
 use Rattle.specs_changes.specs.declared.changeset.ChangeSet.{ChangeSet}
 use Rattle.specs_changes.specs.declared.changeset.ChangeError.{ChangeError}

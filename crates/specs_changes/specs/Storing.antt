@@ -2,8 +2,8 @@
 use Rattle.std.specs.Prelude.{ℕ, Bool, List, ◌++◌, map, if◌then◌else◌}
 use Rattle.hibitset_sets.specs.BitSet.{SetWithRoom, has_member}
 use Rattle.hibitset_sets.specs.Walk.{walk, is_pending}
-use Rattle.specs_store.specs.declared.track.ComponentEvent.{ComponentEvent}
-use Rattle.specs_store.specs.declared.track.ComponentEvent.TheVariants as event
+use Rattle.specs_layouts.specs.declared.track.ComponentEvent.{ComponentEvent}
+use Rattle.specs_layouts.specs.declared.track.ComponentEvent.TheVariants as event
 
 -- the events after one for each index of a list, which is written where the storage emits
 abbrev pub all_told : Bool → List ComponentEvent → List ℕ → List ComponentEvent

@@ -1,7 +1,7 @@
 //! Sets of changes of parts.
 ghost use Rattle.std.specs.Prelude.{◌≡◌, IsSome, None, Some, OnOk, OnErr, IfErr};
 ghost use Rattle.std.specs.Iterator.{IsFinite};
-ghost use Rattle.specs_store.specs.Parts.{Puts, SameParts, HasNone};
+ghost use Rattle.specs_layouts.specs.Parts.{Puts, SameParts, HasNone};
 ghost use Rattle.specs_changes.specs.Changes.{change_at, with_change, FitsChange, Adds, RefusesChange, Extends, Makes};
 
 mod joins;
@@ -10,7 +10,7 @@ pub mod taking;
 use crate::accumulate::{Accumulate, Overflow};
 use hibitset::{Index, MAX_EID};
 use specs_entity::Entity;
-use specs_store::{Component, DenseVecStorage, MaskedStorage, TryDefault};
+use specs_layouts::{Component, DenseVecStorage, MaskedStorage, TryDefault};
 use std::alloc::Global;
 use thiserror::Error;
 

@@ -4,7 +4,7 @@ ghost use Rattle.hibitset_sets.specs.BitSet.{has_member};
 ghost use Rattle.hibitset_sets.specs.Walk.{walk};
 ghost use Rattle.specs_join.specs.Joins.{join_list};
 
-use specs_store::{Component, MaskedStorage};
+use specs_layouts::{Component, MaskedStorage};
 
 /// A join over a storage has as many items as the storage's mask has indices, so values that are made of
 /// its items, one of each, can be stored.

@@ -3,11 +3,11 @@ ghost use Rattle.std.specs.Prelude.{◌≡◌, false, ◌∷◌, [], length, IsO
 ghost use Rattle.hibitset_sets.specs.BitSet.{has_member};
 ghost use Rattle.hibitset_sets.specs.Walk.{walk, IsPlaced};
 ghost use Rattle.specs_join.specs.Joins.{values_at};
-ghost use Rattle.specs_store.specs.Parts.{SameParts};
+ghost use Rattle.specs_layouts.specs.Parts.{SameParts};
 ghost use Rattle.specs_changes.specs.Storing.{all_told, left_at};
 
 use hibitset::{BitIter, BitSet, BitSetLike, Index, Uncounted};
-use specs_store::{Component, MaskedStorage};
+use specs_layouts::{Component, MaskedStorage};
 use std::alloc::AllocError;
 
 /// Goes on to the next index of a walk over a set.

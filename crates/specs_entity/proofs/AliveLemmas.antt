@@ -3,7 +3,7 @@ use Rattle.std.proofs.Common.{◌≡◌, ◌≢◌, ℕ, ◌<◌, ◌||◌, ◌&
 use Rattle.std.specs.FinSet as fin
 use Rattle.std.specs.Ordering.{nat_cmp}
 use Rattle.std.proofs.lemmas.Bool.{cases_eq, eq-eqb}
-use Rattle.hibitset_sets.proofs.LayoutLemmas.{contains-with, contains-without}
+use Rattle.hibitset_sets.proofs.CallerLemmas.{contains-with, contains-without}
 use Rattle.specs_entity.specs.Births.{Births, none_born, persistent_at, living, MarksLiving, alive_of, living_of, next_life, with_life, buried, settled, created, next_index, with_next_taken, IndicesAreSpent}
 use Rattle.specs_entity.specs.Layout.{AreBirths, IsFree}
 use Rattle.specs_entity.proofs.BirthLemmas.{not-equal, living-fresh, living-lasting, living-with_life, living-freshened, living-buried, living-buried_other, living-settled, freshened, fresh-same, next-taken, dead-lasting, used-living}

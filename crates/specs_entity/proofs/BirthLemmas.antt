@@ -13,7 +13,7 @@ use Rattle.std.proofs.lemmas.List.{get_or_past, take_more}
 use Rattle.std.proofs.lemmas.List.Folds.{list_any-append}
 use Rattle.std.proofs.lemmas.Map.Keys.{IsDistinct-push}
 use Rattle.std.proofs.lemmas.Map.Steps.{length-le_from_distinct_below}
-use Rattle.hibitset_sets.proofs.LayoutLemmas.{contains-with, contains-without}
+use Rattle.hibitset_sets.proofs.CallerLemmas.{contains-with, contains-without}
 use Rattle.specs_entity.specs.Life.{Life}
 use Rattle.specs_entity.specs.Births.{Births, none_born, persistent_at, living, count, alive_of, living_of, number_of, next_life, with_life, deleted, buried, settled, next_index, with_next_taken, IndicesAreSpent}
 use Rattle.specs_entity.specs.Layout.{AreBirths, IsFree}

@@ -9,7 +9,7 @@ use Rattle.std.proofs.lemmas.List.{get_or_past}
 use Rattle.std.proofs.lemmas.Map.Steps.{length-le_from_distinct_below}
 use Rattle.std.specs.Option.{is_some, option_to_list, IsSome}
 use Rattle.std.specs.List.{list_any}
-use Rattle.hibitset_sets.proofs.LayoutLemmas.{contains-with, contains-without}
+use Rattle.hibitset_sets.proofs.CallerLemmas.{contains-with, contains-without}
 use Rattle.specs_entity.specs.Life.{Life, LifeAt}
 use Rattle.specs_entity.specs.Births.{Births, number_of, persistent_at, created, all_created, newborn, newborns, next_index, with_next_taken, CanCreate, IndicesAreSpent, GenerationsAreSpent}
 use Rattle.specs_entity.specs.Layout.{AreBirths, AreMade, IsCreated}

@@ -4,3 +4,4 @@ pub mod CreateLemmas
 pub mod LawLemmas
 pub mod NewLemmas
 pub mod AliveLemmas
+pub mod CallerLemmas

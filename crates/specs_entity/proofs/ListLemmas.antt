@@ -11,7 +11,7 @@ use Rattle.std.proofs.lemmas.List.Elements.{All-more, All-nil, All-get_or}
 use Rattle.std.proofs.lemmas.List.Folds.{list_any-append}
 use Rattle.std.proofs.lemmas.Map.Keys.{IsDistinct-push}
 use Rattle.hibitset_sets.specs.Walk.{walk}
-use Rattle.hibitset_sets.proofs.LayoutLemmas.{contains-with, contains-without}
+use Rattle.hibitset_sets.proofs.CallerLemmas.{contains-with, contains-without}
 use Rattle.specs_entity.specs.Life.{Life, LifeAt, first_life}
 use Rattle.specs_entity.specs.Births.{Births, living, buried, settled, all_buried, all_settled, indices_of, CanKill, IsFirstFault}
 use Rattle.specs_entity.proofs.BirthLemmas.{bool-cases, not-equal, living-buried_other, distinct-front, any-right}

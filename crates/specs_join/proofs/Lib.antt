@@ -1,1 +1,4 @@
 pub mod NewLemmas
+pub mod CursorLemmas
+pub mod CollectLemmas
+pub mod CallerLemmas

@@ -3,8 +3,8 @@ use Rattle.std.proofs.Common.{◌≡◌, ℕ, zero, suc, ◌+◌, ◌<◌, ◌�
 use Rattle.std.proofs.lemmas.Bool.{lt-ltb, true≢false}
 use Rattle.std.specs.List.{range_with_len, cons_option}
 use Rattle.hibitset_sets.specs.Walk.{walk}
-use Rattle.hibitset_sets.proofs.WalkLemmas.{walk-same}
-use Rattle.specs_store.specs.ToCome.{IsToCome}
+use Rattle.hibitset_sets.proofs.CallerLemmas.{walk-same}
+use Rattle.specs_layouts.specs.ToCome.{IsToCome}
 use Rattle.specs_join.specs.Joins.{values_at, join_list}
 use Rattle.specs_join.specs.Joining.{IsJoining}
 

@@ -1,7 +1,7 @@
 -- What contracts see of a join's walk that is under way.
 use Rattle.std.specs.Prelude.{◌≡◌, ℕ, ◌<◌, nat_lt, Bool, true, ◌&&◌, List, Option, None, IsSome, if◌then◌else◌, refl}
 use Rattle.std.specs.Coded.{Coded, code_by, coded×, coded_ℕ, coded_list}
-use Rattle.specs_store.specs.ToCome.{IsToCome}
+use Rattle.specs_layouts.specs.ToCome.{IsToCome}
 use Rattle.specs_join.specs.Joins.{values_at}
 
 -- the indices that are still to come, the join's mask, what its items are looked up in, and how many words of the mask are still to be read

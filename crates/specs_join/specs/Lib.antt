@@ -1,3 +1,5 @@
 pub mod Joins
 pub mod Joining
 pub mod JoinLemmas
+pub mod Cursor
+pub mod Collected

@@ -6,10 +6,12 @@ ghost use Rattle.specs_join.specs.Joining.{items_left, found};
 
 mod absent;
 pub mod and;
+pub mod cursor;
 pub mod iter;
 mod living;
 mod maybe;
 mod nothing;
+pub mod par_join;
 mod parts;
 mod sets;
 mod tuples;

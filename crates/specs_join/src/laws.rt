@@ -5,7 +5,7 @@ ghost use Rattle.hibitset_sets.specs.Walk.{words_walked};
 
 use crate::join::Join;
 use hibitset::{KeptMasks, Steps};
-use specs_store::{Component, MaskedStorage};
+use specs_layouts::{Component, MaskedStorage};
 use std::sync::ledger::Ledger;
 
 /// Goes through a join to its end, and tells of each word that is read from its mask.

@@ -5,5 +5,7 @@ pub mod join;
 pub mod laws;
 
 pub use join::and::BitAnd;
+pub use join::cursor::JoinCursor;
 pub use join::iter::JoinIter;
+pub use join::par_join::{JoinParIter, ParJoin};
 pub use join::{AntiStorage, Join, MaybeJoin};

@@ -1,3 +1,4 @@
 pub mod OpenLemmas
 pub mod PartLemmas
 pub mod PlaceLemmas
+pub mod PairLemmas

@@ -8,8 +8,8 @@ use seplogic.Ra.Ura.{Ura}
 use types.Logic.{Logic, sem}
 use Rattle.std.specs.Prelude.{Result}
 use Rattle.std.specs.Borrow.{RattleType, GName, MutBor, follows, follows_if, name_if_ok}
-use Rattle.specs_store.specs.Masked.{Masked}
-use Rattle.specs_store.specs.MaskedLends.{StorageMembers}
+use Rattle.specs_layouts.specs.Masked.{Masked}
+use Rattle.specs_layouts.specs.MaskedLends.{StorageMembers}
 use Rattle.specs_storage.specs.declared.storage.Storage.{Storage}
 use Rattle.specs_storage.specs.declared.entry.StorageEntry.{StorageEntry}
 use Rattle.specs_storage.specs.StorageLends.{layout_ghosts, default_ghosts, masked_row, storage_row, with_store, lends_store}

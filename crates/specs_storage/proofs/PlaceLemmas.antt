@@ -15,10 +15,10 @@ use seplogic.Ra.Ura.{Ura}
 use types.Kit.{‵, ◌$◌, ◌∵◌, !, qed, done, move, fjoin, rewrite}
 use types.Logic.{Logic, sem}
 use types.SemTy.{Body}
-use Rattle.specs_store.specs.Masked.{Masked}
-use Rattle.specs_store.specs.contracts.masked.MaskedStorage.{the_row as Parts}
-use Rattle.specs_store.specs.declared.unprotected.TryDefault as try_default
-use Rattle.specs_store.specs.declared.unprotected.UnprotectedStorage as unprotected
+use Rattle.specs_layouts.specs.Masked.{Masked}
+use Rattle.specs_layouts.specs.contracts.masked.MaskedStorage.{the_row as Parts}
+use Rattle.specs_layouts.specs.declared.unprotected.TryDefault as try_default
+use Rattle.specs_layouts.specs.declared.unprotected.UnprotectedStorage as unprotected
 use Rattle.specs_storage.specs.EntryLends.{store_of}
 use Rattle.specs_storage.specs.Left.{left_of}
 use Rattle.specs_storage.specs.contracts.entry.Spot.{the_row as Spot}

@@ -2,12 +2,12 @@
 use mir.Syntax.{named}
 use Rattle.std.specs.Prelude.{◌≡◌, ℕ, [], Some, is_some, if◌then◌else◌, Result}
 use Rattle.std.specs.Borrow.{Fml, RattleType, MutBor, LendsIfOk, LendsSoOk, RestsIfErr, follows_if, name_if_ok}
-use Rattle.specs_store.specs.Masked.{Masked}
-use Rattle.specs_store.specs.MaskedLends.{StorageMembers}
-use Rattle.specs_store.specs.declared.unprotected.UnprotectedStorage as unprotected
-use Rattle.specs_store.specs.declared.unprotected.TryDefault as try_default
-use Rattle.specs_store.specs.Parts.{Puts, SameParts, told}
-use Rattle.specs_store.specs.declared.track.ComponentEvent.TheVariants as event
+use Rattle.specs_layouts.specs.Masked.{Masked}
+use Rattle.specs_layouts.specs.MaskedLends.{StorageMembers}
+use Rattle.specs_layouts.specs.declared.unprotected.UnprotectedStorage as unprotected
+use Rattle.specs_layouts.specs.declared.unprotected.TryDefault as try_default
+use Rattle.specs_layouts.specs.Parts.{Puts, SameParts, told}
+use Rattle.specs_layouts.specs.declared.track.ComponentEvent.TheVariants as event
 use Rattle.specs_storage.specs.declared.storage.Storage.{Storage}
 use Rattle.specs_storage.specs.declared.entry.OccupiedEntry.{OccupiedEntry}
 use Rattle.specs_storage.specs.declared.entry.StorageEntry.{StorageEntry}

@@ -2,3 +2,4 @@ pub mod Found
 pub mod Left
 pub mod StorageLends
 pub mod EntryLends
+pub mod Pairs

@@ -3,11 +3,11 @@ use mir.Syntax.{named}
 use denote.Ref.{MutRef}
 use Rattle.std.specs.Prelude.{ℕ, [], Result}
 use Rattle.std.specs.Borrow.{Fml, RattleType, MutBor, Lends, LendsIfOk}
-use Rattle.specs_store.specs.Masked.{Masked}
-use Rattle.specs_store.specs.MaskedLends.{StorageMembers}
-use Rattle.specs_store.specs.declared.unprotected.UnprotectedStorage as unprotected
-use Rattle.specs_store.specs.declared.unprotected.TryDefault as try_default
-use Rattle.specs_store.specs.contracts.masked.MaskedStorage as masked
+use Rattle.specs_layouts.specs.Masked.{Masked}
+use Rattle.specs_layouts.specs.MaskedLends.{StorageMembers}
+use Rattle.specs_layouts.specs.declared.unprotected.UnprotectedStorage as unprotected
+use Rattle.specs_layouts.specs.declared.unprotected.TryDefault as try_default
+use Rattle.specs_layouts.specs.contracts.masked.MaskedStorage as masked
 use Rattle.specs_storage.specs.declared.storage.Storage.{Storage}
 use Rattle.specs_storage.specs.contracts.storage.Storage as storage
 

@@ -1,13 +1,13 @@
 //! Parts for an entity that is being built.
 ghost use Rattle.std.specs.Prelude.{◌≡◌, Some, IfOk, IfErr, OnOk, OnErr, IsOk, IsSome, is_some, false, if◌then◌else◌};
 ghost use Rattle.specs_entity.specs.Births.{IsAlive};
-ghost use Rattle.specs_store.specs.Parts.{Puts, SameParts, told};
-ghost use Rattle.specs_store.specs.declared.track.ComponentEvent.TheVariants as event;
+ghost use Rattle.specs_layouts.specs.Parts.{Puts, SameParts, told};
+ghost use Rattle.specs_layouts.specs.declared.track.ComponentEvent.TheVariants as event;
 ghost use Rattle.specs_storage.specs.Found.{RefusesInsert};
 
 use crate::storage::not_alive;
 use specs_entity::{EntityResBuilder, Error};
-use specs_store::{Component, MaskedStorage, UnprotectedStorage};
+use specs_layouts::{Component, MaskedStorage, UnprotectedStorage};
 
 /// Entities in the making that can be given parts.
 pub trait BuildWith: Sized {

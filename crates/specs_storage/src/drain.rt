@@ -3,12 +3,12 @@ ghost use Rattle.std.specs.Prelude.{◌≡◌, false, true, [], ◌∷◌, None,
 ghost use Rattle.std.specs.Borrow.{sem};
 ghost use Rattle.std.specs.FinSet as set;
 ghost use Rattle.hibitset_sets.specs.Walk.{walk};
-ghost use Rattle.specs_store.specs.Parts.{Puts, SameParts, told};
-ghost use Rattle.specs_store.specs.declared.track.ComponentEvent.TheVariants as event;
+ghost use Rattle.specs_layouts.specs.Parts.{Puts, SameParts, told};
+ghost use Rattle.specs_layouts.specs.declared.track.ComponentEvent.TheVariants as event;
 
 use crate::storage::Storage;
 use hibitset::{BitSet, BitSetLike, Index, Uncounted};
-use specs_store::{Component, MaskedStorage, UnprotectedStorage};
+use specs_layouts::{Component, MaskedStorage, UnprotectedStorage};
 use std::alloc::AllocError;
 
 /// The parts of a storage, to be taken out one at a time, ascending by index. What isn't taken stays.

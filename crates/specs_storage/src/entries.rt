@@ -4,7 +4,7 @@ ghost use Rattle.std.specs.Prelude.{◌≡◌, ℕ, ◌<◌, [], ◌∷◌, true
 ghost use Rattle.std.specs.Borrow.{sem, Lends};
 ghost use Rattle.hibitset_sets.specs.Walk.{walk};
 ghost use Rattle.hibitset_sets.specs.Iter.{left_of};
-ghost use Rattle.specs_store.specs.ToCome.{IsToCome};
+ghost use Rattle.specs_layouts.specs.ToCome.{IsToCome};
 ghost use Rattle.specs_storage.specs.EntryLends.{store_of, id_of};
 ghost use Rattle.specs_storage.specs.StorageLends.{masked_row, lends_store};
 
@@ -12,7 +12,7 @@ use crate::entry::{StorageEntry, entry_at};
 use crate::storage::Storage;
 use hibitset::{BitIter, BitSetAll, BitSetLike, Index, Uncounted};
 use specs_join::Join;
-use specs_store::{Component, MaskedStorage, UnprotectedStorage};
+use specs_layouts::{Component, MaskedStorage, UnprotectedStorage};
 
 /// The places of a storage's parts, one at every index.
 #[derive(Drop)]

@@ -10,7 +10,7 @@ mod vacant;
 use hibitset::Index;
 pub(crate) use open::entry_at;
 use specs_entity::{Entity, Generation};
-use specs_store::{Component, MaskedStorage, UnprotectedStorage};
+use specs_layouts::{Component, MaskedStorage, UnprotectedStorage};
 use std::alloc::{AllocError, AllocFailed};
 pub(crate) use vacant::fill;
 

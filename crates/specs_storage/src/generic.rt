@@ -2,7 +2,7 @@
 ghost use Rattle.std.specs.Prelude.{◌≡◌, ◌↔◌, ◌<◌, ℕ, Option, Some, None, IsSome, option_copied, IfOk, IfErr, IsErrOf, OnOk, OnErr};
 ghost use Rattle.std.specs.Borrow.{sem, LendsIfOk, LendsSoOk};
 ghost use Rattle.std.specs.Option.{UnwrapsOrElse};
-ghost use Rattle.specs_store.specs.Parts.{Puts, SameParts};
+ghost use Rattle.specs_layouts.specs.Parts.{Puts, SameParts};
 ghost use Rattle.specs_entity.specs.Births.{Births, IsAlive};
 ghost use Rattle.specs_storage.specs.EntryLends.{lends_or};
 ghost use Rattle.specs_storage.specs.Found.{Finds, HasPart, RefusesInsert};
@@ -13,7 +13,7 @@ use crate::loan::Loan;
 use crate::storage::{InsertResult, LendError, Storage};
 use hibitset::Index;
 use specs_entity::Entity;
-use specs_store::{Component, MaskedStorage, UnprotectedStorage};
+use specs_layouts::{Component, MaskedStorage, UnprotectedStorage};
 use std::alloc::AllocError;
 
 /// A storage that is lent for reading.

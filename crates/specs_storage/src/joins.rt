@@ -3,7 +3,7 @@ use crate::loan::Loan;
 use crate::storage::Storage;
 use hibitset::{BitSet, Index};
 use specs_join::{AntiStorage, Join};
-use specs_store::{Component, MaskedStorage, UnprotectedStorage};
+use specs_layouts::{Component, MaskedStorage, UnprotectedStorage};
 use std::alloc::AllocError;
 use std::clone::Clone;
 use std::ops::Not;
@@ -21,7 +21,7 @@ where
     type Mask = &'a BitSet;
 
     ghost use Rattle.std.specs.Prelude.{◌≡◌, false};
-    ghost use Rattle.specs_store.specs.Masked.{Agrees};
+    ghost use Rattle.specs_layouts.specs.Masked.{Agrees};
 
     ghost show = { λ part. part.now };
 
@@ -53,7 +53,7 @@ where
 {
     type Output = AntiStorage<'a>;
 
-    ghost use Rattle.specs_store.specs.Masked.{Agrees};
+    ghost use Rattle.specs_layouts.specs.Masked.{Agrees};
 
     ghost not_gives = { λ storage anti. Agrees anti.0.now (T.Storage.part_at (D.lent storage.now.store).inner) };
 

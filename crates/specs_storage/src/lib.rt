@@ -8,6 +8,7 @@ pub mod entry;
 pub mod generic;
 mod joins;
 pub mod loan;
+pub mod restrict;
 pub mod storage;
 
 pub use builder::BuildWith;
@@ -16,4 +17,10 @@ pub use entries::{Entries, EntryCursor, Place};
 pub use entry::{EntryError, OccupiedEntry, StorageEntry, VacantEntry};
 pub use generic::{GenericReadStorage, GenericWriteStorage};
 pub use loan::Loan;
+pub use restrict::cursor::PairCursor;
+pub use restrict::pair::{PairedStorage, PairedStorageMut};
+pub use restrict::{
+    ImmutableAliasing, ImmutableParallelRestriction, MutableParallelRestriction, Restrict,
+    RestrictMut, RestrictedStorage, RestrictedStorageMut, SequentialRestriction,
+};
 pub use storage::{InsertResult, LendError, ReadStorage, Storage, WriteStorage};

@@ -1,10 +1,10 @@
 //! Masked storages that are lent, for reading or for writing.
-use specs_store::{Component, MaskedStorage};
+use specs_layouts::{Component, MaskedStorage};
 
 /// A masked storage that is lent, in whatever way.
 pub trait Loan<T: Component> {
     ghost use Rattle.std.specs.Prelude.{◌≡◌};
-    ghost use Rattle.specs_store.specs.Masked.{Masked};
+    ghost use Rattle.specs_layouts.specs.Masked.{Masked};
 
     /// The storage that is lent.
     ghost lent: { Self → Masked T.Storage };

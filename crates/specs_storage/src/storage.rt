@@ -1,8 +1,8 @@
 //! A storage that is lent together with the entities.
 ghost use Rattle.std.specs.Prelude.{◌≡◌, ◌↔◌, length, IsTrue, option_copied};
 ghost use Rattle.hibitset_sets.specs.Walk.{walk};
-ghost use Rattle.specs_store.specs.Parts.{HasNone};
-ghost use Rattle.specs_store.specs.Masked.{Agrees};
+ghost use Rattle.specs_layouts.specs.Parts.{HasNone};
+ghost use Rattle.specs_layouts.specs.Masked.{Agrees};
 ghost use Rattle.specs_storage.specs.Found.{Finds, HasPart, has_some};
 
 mod write;
@@ -10,7 +10,7 @@ mod write;
 use crate::loan::Loan;
 use hibitset::{BitSet, BitSetLike};
 use specs_entity::{Entities, EntitiesRes, Entity, Error};
-use specs_store::{Component, MaskedStorage, SliceAccess, UnprotectedStorage};
+use specs_layouts::{Component, MaskedStorage, SliceAccess, UnprotectedStorage};
 use std::alloc::AllocError;
 use std::marker::PhantomData;
 pub(crate) use write::not_alive;

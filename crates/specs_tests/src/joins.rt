@@ -1,311 +1,526 @@
-//! Joins of parts and sets at the borders of words and layers, and the forms that nest.
+//! Joins of storages at the borders of words and layers, of tuples that nest, walked and collected by threads.
 ghost use Rattle.std.specs.Prelude.{◌≡◌, ◌<◌};
 
+use crate::parts::{Mass, Mood, Numbered, Speed};
 use hibitset::{BitSet, Counter, Steps};
-use specs_entity::EntitiesRes;
+use specs_entity::{EntitiesRes, Entity};
 use specs_join::laws::two_storages_cost_what_the_smaller_has;
-use specs_join::{AntiStorage, Join, MaybeJoin};
-use specs_store::{
-    BTreeStorage, Component, DenseVecStorage, HashMapStorage, MaskedStorage, TryDefault,
-};
+use specs_join::{AntiStorage, Join, JoinIter, JoinParIter, MaybeJoin, ParJoin};
+use specs_layouts::{BTreeStorage, DenseVecStorage, HashMapStorage, MaskedStorage, TryDefault};
 use std::alloc::Global;
 use std::marker::Brand;
 use std::sync::ledger::{Blank, Ledger};
+use std::thread::Threads;
 
-/// The indices before and after which a word of some layer ends, and the last index.
-const BORDERS: [u32; 8] = [0, 63, 64, 4095, 4096, 262143, 262144, 16777215];
+/// The indices before and after which a word of some layer ends, the last index, and two more.
+pub const SOME: [u32; 10] = [16777215, 64, 5, 4095, 0, 262144, 63, 262143, 4096, 70000];
 
+/// The same borders, and two other indices.
+pub const OTHERS: [u32; 10] = [7, 0, 63, 64, 4095, 4096, 262143, 262144, 16777215, 70001];
+
+/// The indices at which there are parts, and those in a set.
 #[derive(Drop)]
-struct Mass(u32);
-
-impl Component for Mass {
-    type Storage = BTreeStorage<Mass>;
+pub struct Parts {
+    /// Those that have a mass, which is one more than the index.
+    pub masses: &'static [u32],
+    /// Those that have a mood, which is twice the index.
+    pub moods: &'static [u32],
+    /// Those that have a speed, which is 100 more than the index.
+    pub speeds: &'static [u32],
+    /// Those in the set.
+    pub set: &'static [u32],
 }
 
+/// No index.
+pub const NOTHING: Parts = Parts {
+    masses: &[],
+    moods: &[],
+    speeds: &[],
+    set: &[],
+};
+
+/// Three storages and a set.
 #[derive(Drop)]
-struct Rank(u32);
-
-impl Component for Rank {
-    type Storage = HashMapStorage<Rank>;
+pub struct Scene {
+    pub masses: MaskedStorage<Mass>,
+    pub moods: MaskedStorage<Mood>,
+    pub speeds: MaskedStorage<Speed>,
+    set: BitSet,
 }
 
-#[derive(Drop)]
-struct Speed(u32);
-
-impl Component for Speed {
-    type Storage = DenseVecStorage<Speed>;
+/// What is joined, and the items that this has.
+pub enum Joins {
+    /// Masses and moods.
+    Both(&'static [(u32, u32)]),
+    /// Masses, and moods that may be there.
+    Maybe(&'static [(u32, Option<u32>)]),
+    /// Masses where no mood is.
+    Absent(&'static [u32]),
+    /// Masses, moods and speeds.
+    Three(&'static [[u32; 3]]),
+    /// Masses, moods, speeds and the set.
+    Four(&'static [[u32; 4]]),
+    /// The same in tuples that nest.
+    Nested(&'static [[u32; 4]]),
 }
 
-/// A mass at each of these indices: one more than the index.
-fn masses(alloc: Global, indices: &[u32]) -> Option<MaskedStorage<Mass>> {
-    let inner = BTreeStorage::try_default(alloc).ok()?;
-    let mut storage = MaskedStorage::new(alloc, inner);
+/// How the items of a join are come by.
+#[derive(Clone, Copy)]
+enum How {
+    Walked,
+    /// Collected by so many workers.
+    Collected(usize),
+}
+
+/// What there is, and how it joins.
+pub struct Row {
+    pub name: &'static str,
+    pub parts: Parts,
+    pub joins: Joins,
+}
+
+/// Whether a part is put at each of these indices: so many times the index, and so many more.
+fn fills<C: Numbered>(
+    storage: &mut MaskedStorage<C>,
+    indices: &[u32],
+    times: u32,
+    more: u32,
+) -> bool {
     for index in indices {
-        if *index < 16777216 {
-            storage.insert(*index, Mass(*index + 1)).ok()?;
+        let number = index.wrapping_mul(times).wrapping_add(more);
+        if *index >= 16777216 || storage.insert(*index, C::made(number)).is_err() {
+            return false;
         }
     }
-    Some(storage)
+    true
 }
 
-/// A rank at each of these indices: twice the index.
-fn ranks(alloc: Global, indices: &[u32]) -> Option<MaskedStorage<Rank>> {
-    let inner = HashMapStorage::try_default(alloc).ok()?;
-    let mut storage = MaskedStorage::new(alloc, inner);
+/// Whether each of these indices is put into a set.
+pub fn gathers(set: &mut BitSet, indices: &[u32]) -> bool {
     for index in indices {
-        if *index < 16777216 {
-            storage.insert(*index, Rank(*index * 2)).ok()?;
+        if *index >= 16777216 || set.add(*index).is_err() {
+            return false;
         }
     }
-    Some(storage)
+    true
 }
 
-/// A speed at each of these indices: 100 more than the index.
-fn speeds(alloc: Global, indices: &[u32]) -> Option<MaskedStorage<Speed>> {
-    let inner = DenseVecStorage::try_default(alloc).ok()?;
-    let mut storage = MaskedStorage::new(alloc, inner);
-    for index in indices {
-        if *index < 16777216 {
-            storage.insert(*index, Speed(*index + 100)).ok()?;
+/// Whether a join walks items that show these values.
+pub fn walks<J: Join, T: PartialEq + Drop, F: Fn(J::Type) -> T + Drop>(
+    join: J,
+    shows: F,
+    wanted: &[T],
+) -> bool
+where
+    J::Type: Drop,
+    requires { F.IsAlwaysCallable shows }
+{
+    let mut left = wanted;
+    for item in join.join() {
+        let shown = shows(item);
+        match left.split_first() {
+            Some((first, rest)) if shown == *first => left = rest,
+            _ => return false,
         }
     }
-    Some(storage)
+    left.is_empty()
 }
 
-/// A set of these indices.
-pub(crate) fn indices(alloc: Global, members: &[u32]) -> Option<BitSet> {
-    let mut set = BitSet::new(alloc);
-    for index in members {
-        if *index < 16777216 {
-            set.add(*index).ok()?;
+/// Whether threads collect these values.
+fn collects<
+    R: Threads + Sync,
+    J: Join + Sync,
+    T: PartialEq + Send + Drop,
+    F: Fn(J::Type) -> T + Sync,
+>(rt: &R, alloc: Global, workers: usize, join: J, shows: F, wanted: &[T]) -> bool
+where
+    J::Mask: Sync,
+    J::Value: Sync,
+    requires { F.IsAlwaysCallable shows }
+{
+    match join.par_join().collect(rt, alloc, workers, shows) {
+        Ok(list) => list.as_slice() == wanted,
+        Err(_) => false,
+    }
+}
+
+/// Whether a join has items that show these values.
+fn gives<
+    R: Threads + Sync,
+    J: Join + Sync + Drop,
+    T: PartialEq + Send + Drop,
+    F: Fn(J::Type) -> T + Sync + Drop,
+>(rt: &R, alloc: Global, how: How, join: J, shows: F, wanted: &[T]) -> bool
+where
+    J::Type: Drop,
+    J::Mask: Sync,
+    J::Value: Sync,
+    requires { F.IsAlwaysCallable shows }
+{
+    match how {
+        How::Walked => walks(join, shows, wanted),
+        How::Collected(workers) => collects(rt, alloc, workers, join, shows, wanted),
+    }
+}
+
+impl Scene {
+    /// Nothing.
+    pub fn new(alloc: Global) -> Scene {
+        Scene {
+            masses: MaskedStorage::new(alloc, BTreeStorage::unwrap_default(alloc)),
+            moods: MaskedStorage::new(alloc, HashMapStorage::unwrap_default(alloc)),
+            speeds: MaskedStorage::new(alloc, DenseVecStorage::unwrap_default(alloc)),
+            set: BitSet::new(alloc),
         }
     }
-    Some(set)
-}
 
-/// Whether a list was made, and is this one.
-pub(crate) fn is<T: PartialEq + Drop>(list: Option<Vec<T>>, wanted: &[T]) -> bool {
-    match list {
-        Some(list) => list.as_slice() == wanted,
-        None => false,
+    /// Whether these parts and indices are put.
+    pub fn takes(&mut self, parts: &Parts) -> bool {
+        fills(&mut self.masses, parts.masses, 1, 1)
+            && fills(&mut self.moods, parts.moods, 2, 0)
+            && fills(&mut self.speeds, parts.speeds, 1, 100)
+            && gathers(&mut self.set, parts.set)
+    }
+
+    /// Whether it joins as it has to.
+    fn joins<R: Threads + Sync>(&self, rt: &R, alloc: Global, how: How, joins: &Joins) -> bool {
+        match joins {
+            Joins::Both(wanted) => self.both(rt, alloc, how, wanted),
+            Joins::Maybe(wanted) => self.maybe(rt, alloc, how, wanted),
+            Joins::Absent(wanted) => self.absent(rt, alloc, how, wanted),
+            Joins::Three(wanted) => self.three(rt, alloc, how, wanted),
+            Joins::Four(wanted) => self.four(rt, alloc, how, wanted),
+            Joins::Nested(wanted) => self.nested(rt, alloc, how, wanted),
+        }
+    }
+
+    fn both<R: Threads + Sync>(
+        &self,
+        rt: &R,
+        alloc: Global,
+        how: How,
+        wanted: &[(u32, u32)],
+    ) -> bool {
+        gives(
+            rt,
+            alloc,
+            how,
+            (&self.masses, &self.moods),
+            |(mass, mood): (&Mass, &Mood)| (mass.0, mood.number()),
+            wanted,
+        )
+    }
+
+    fn maybe<R: Threads + Sync>(
+        &self,
+        rt: &R,
+        alloc: Global,
+        how: How,
+        wanted: &[(u32, Option<u32>)],
+    ) -> bool {
+        gives(
+            rt,
+            alloc,
+            how,
+            (&self.masses, (&self.moods).maybe()),
+            |(mass, mood): (&Mass, Option<&Mood>)| (mass.0, mood.map(|mood: &Mood| mood.number())),
+            wanted,
+        )
+    }
+
+    fn absent<R: Threads + Sync>(&self, rt: &R, alloc: Global, how: How, wanted: &[u32]) -> bool {
+        gives(
+            rt,
+            alloc,
+            how,
+            (&self.masses, AntiStorage(self.moods.mask())),
+            |(mass, ()): (&Mass, ())| mass.0,
+            wanted,
+        )
+    }
+
+    fn three<R: Threads + Sync>(
+        &self,
+        rt: &R,
+        alloc: Global,
+        how: How,
+        wanted: &[[u32; 3]],
+    ) -> bool {
+        gives(
+            rt,
+            alloc,
+            how,
+            (&self.masses, &self.moods, &self.speeds),
+            |(mass, mood, speed): (&Mass, &Mood, &Speed)| [mass.0, mood.number(), speed.0],
+            wanted,
+        )
+    }
+
+    fn four<R: Threads + Sync>(
+        &self,
+        rt: &R,
+        alloc: Global,
+        how: How,
+        wanted: &[[u32; 4]],
+    ) -> bool {
+        gives(
+            rt,
+            alloc,
+            how,
+            (&self.masses, &self.moods, &self.speeds, &self.set),
+            |(mass, mood, speed, index): (&Mass, &Mood, &Speed, u32)| {
+                [mass.0, mood.number(), speed.0, index]
+            },
+            wanted,
+        )
+    }
+
+    fn nested<R: Threads + Sync>(
+        &self,
+        rt: &R,
+        alloc: Global,
+        how: How,
+        wanted: &[[u32; 4]],
+    ) -> bool {
+        gives(
+            rt,
+            alloc,
+            how,
+            ((&self.masses, &self.moods), (&self.speeds, &self.set)),
+            |((mass, mood), (speed, index)): ((&Mass, &Mood), (&Speed, u32))| {
+                [mass.0, mood.number(), speed.0, index]
+            },
+            wanted,
+        )
+    }
+
+    /// Whether it joins as it has to, whoever goes through it.
+    fn joins_always<R: Threads + Sync>(&self, rt: &R, alloc: Global, joins: &Joins) -> bool {
+        for how in HOW {
+            if !self.joins(rt, alloc, how, joins) {
+                return false;
+            }
+        }
+        true
     }
 }
 
-/// What stands at the indices that both storages have.
-fn pairs(alloc: Global, one: &[u32], other: &[u32]) -> Option<Vec<(u32, u32)>> {
-    let one = masses(alloc, one)?;
-    let other = ranks(alloc, other)?;
-    (&one, &other)
-        .join()
-        .map(|(mass, rank)| (mass.0, rank.0))
-        .collect(alloc)
-        .ok()
+/// Each way in which a list is come by.
+const HOW: [How; 5] = [
+    How::Walked,
+    How::Collected(0),
+    How::Collected(1),
+    How::Collected(2),
+    How::Collected(8),
+];
+
+/// Whether a row joins as it has to.
+fn holds<R: Threads + Sync>(rt: &R, alloc: Global, row: &Row) -> bool {
+    let mut scene = Scene::new(alloc);
+    scene.takes(&row.parts) && scene.joins_always(rt, alloc, &row.joins)
 }
+
+/// The first of some rows that doesn't hold.
+pub fn wrong<R: Threads + Sync>(rt: &R, alloc: Global, rows: &[Row]) -> Option<&'static str> {
+    for row in rows {
+        if !holds(rt, alloc, row) {
+            return Some(row.name);
+        }
+    }
+    None
+}
+
+const ROWS: [Row; 9] = [
+    Row {
+        name: "a join has the shared indices at each border",
+        parts: Parts {
+            masses: &SOME,
+            moods: &OTHERS,
+            ..NOTHING
+        },
+        joins: Joins::Both(&[
+            (1, 0),
+            (64, 126),
+            (65, 128),
+            (4096, 8190),
+            (4097, 8192),
+            (262144, 524286),
+            (262145, 524288),
+            (16777216, 33554430),
+        ]),
+    },
+    Row {
+        name: "a join with an empty storage is empty",
+        parts: Parts {
+            masses: &SOME,
+            ..NOTHING
+        },
+        joins: Joins::Both(&[]),
+    },
+    Row {
+        name: "a join of masks that share nothing is empty",
+        parts: Parts {
+            masses: &[1, 64],
+            moods: &[2, 65],
+            ..NOTHING
+        },
+        joins: Joins::Both(&[]),
+    },
+    Row {
+        name: "a join that may have a part leaves no index out",
+        parts: Parts {
+            masses: &[0, 1],
+            moods: &[1, 2],
+            ..NOTHING
+        },
+        joins: Joins::Maybe(&[(1, None), (2, Some(2))]),
+    },
+    Row {
+        name: "a join that may have a part, in words far apart",
+        parts: Parts {
+            masses: &[0, 1, 4096, 70000],
+            moods: &[1, 2, 70000],
+            ..NOTHING
+        },
+        joins: Joins::Maybe(&[(1, None), (2, Some(2)), (4097, None), (70001, Some(140000))]),
+    },
+    Row {
+        name: "a join with an absent part has the other indices",
+        parts: Parts {
+            masses: &SOME,
+            moods: &[63, 4096, 262143, 6],
+            ..NOTHING
+        },
+        joins: Joins::Absent(&[1, 6, 65, 4096, 70001, 262145, 16777216]),
+    },
+    Row {
+        name: "tuples of three join",
+        parts: Parts {
+            masses: &[1, 4095, 4096],
+            moods: &[0, 4096, 4095],
+            speeds: &[4095, 1, 4096, 0],
+            ..NOTHING
+        },
+        joins: Joins::Three(&[[4096, 8190, 4195], [4097, 8192, 4196]]),
+    },
+    Row {
+        name: "tuples of four join",
+        parts: Parts {
+            masses: &[1, 2, 3, 64, 4096, 262144],
+            moods: &[2, 3, 64, 4096, 262144, 300000],
+            speeds: &[0, 1, 2, 64, 65, 4096],
+            set: &[2, 64, 262144, 4096, 9999],
+        },
+        joins: Joins::Four(&[[3, 4, 102, 2], [65, 128, 164, 64], [4097, 8192, 4196, 4096]]),
+    },
+    Row {
+        name: "tuples that nest are one join",
+        parts: Parts {
+            masses: &[1, 2, 3, 64, 4096, 262144],
+            moods: &[2, 3, 64, 4096, 262144, 300000],
+            speeds: &[0, 1, 2, 64, 65, 4096],
+            set: &[2, 64, 262144, 4096, 9999],
+        },
+        joins: Joins::Nested(&[[3, 4, 102, 2], [65, 128, 164, 64], [4097, 8192, 4196, 4096]]),
+    },
+];
 
 #[test]
-fn a_join_has_the_shared_indices_at_each_border(rt: HostRuntime) {
-    let some = [16777215, 64, 5, 4095, 0, 262144, 63, 262143, 4096, 70000];
-    let others = [7, 0, 63, 64, 4095, 4096, 262143, 262144, 16777215, 70001];
-    let wanted = [
-        (1, 0),
-        (64, 126),
-        (65, 128),
-        (4096, 8190),
-        (4097, 8192),
-        (262144, 524286),
-        (262145, 524288),
-        (16777216, 33554430),
-    ];
-    assert!(rt; is(pairs(rt.alloc(), &some, &others), &wanted));
+fn joins_have_what_is_shared(rt: HostRuntime) {
+    assert_eq!(rt; wrong(&rt, rt.alloc(), &ROWS), None);
 }
 
-#[test]
-fn a_join_of_masks_that_share_nothing_is_empty(rt: HostRuntime) {
-    assert!(rt; is(pairs(rt.alloc(), &BORDERS, &[]), &[]));
-    assert!(rt; is(pairs(rt.alloc(), &[1, 64], &[2, 65]), &[]));
-}
-
-/// What stands at the indices of the first, with what the other may have there.
-fn perhaps(alloc: Global, one: &[u32], other: &[u32]) -> Option<Vec<(u32, Option<u32>)>> {
-    let one = masses(alloc, one)?;
-    let other = ranks(alloc, other)?;
-    (&one, (&other).maybe())
-        .join()
-        .map(|(mass, rank)| (mass.0, rank.map(|rank: &Rank| rank.0)))
-        .collect(alloc)
-        .ok()
-}
-
-#[test]
-fn a_join_that_may_have_a_part_leaves_no_index_out(rt: HostRuntime) {
-    let list = perhaps(rt.alloc(), &[0, 1], &[1, 2]);
-    assert!(rt; is(list, &[(1, None), (2, Some(2))]));
-}
-
-/// What stands at the indices of the first that the other lacks.
-fn alone(alloc: Global, one: &[u32], other: &[u32]) -> Option<Vec<u32>> {
-    let one = masses(alloc, one)?;
-    let other = ranks(alloc, other)?;
-    (&one, AntiStorage(other.mask()))
-        .join()
-        .map(|(mass, ())| mass.0)
-        .collect(alloc)
-        .ok()
-}
-
-#[test]
-fn a_join_with_an_absent_part_has_the_other_indices(rt: HostRuntime) {
-    let list = alone(rt.alloc(), &BORDERS, &[63, 4096, 262143, 5]);
-    assert!(rt; is(list, &[1, 65, 4096, 262145, 16777216]));
-}
-
-/// The parts where a mass, a rank and a speed are.
-fn all_three(alloc: Global, three: [&[u32]; 3]) -> Option<Vec<[u32; 3]>> {
-    let one = masses(alloc, three[0])?;
-    let two = ranks(alloc, three[1])?;
-    let three = speeds(alloc, three[2])?;
-    (&one, &two, &three)
-        .join()
-        .map(|(mass, rank, speed)| [mass.0, rank.0, speed.0])
-        .collect(alloc)
-        .ok()
-}
-
-#[test]
-fn tuples_of_three_join(rt: HostRuntime) {
-    let list = all_three(
-        rt.alloc(),
-        [&[1, 4095, 4096], &[0, 4096, 4095], &[4095, 1, 4096, 0]],
-    );
-    assert!(rt; is(list, &[[4096, 8190, 4195], [4097, 8192, 4196]]));
-}
-
-/// The indices that three storages have and a set lacks, in a tuple of four.
-fn flat(alloc: Global) -> Option<Vec<[u32; 4]>> {
-    let one = masses(alloc, &[1, 2, 3, 64, 4096, 262144])?;
-    let two = ranks(alloc, &[2, 3, 64, 4096, 262144, 300000])?;
-    let three = speeds(alloc, &[0, 1, 2, 64, 65, 4096])?;
-    let set = indices(alloc, &[2, 64, 262144, 4096, 9999])?;
-    (&one, &two, &three, &set)
-        .join()
-        .map(|(mass, rank, speed, index)| [mass.0, rank.0, speed.0, index])
-        .collect(alloc)
-        .ok()
-}
-
-/// The same, in tuples that nest.
-fn nested(alloc: Global) -> Option<Vec<[u32; 4]>> {
-    let one = masses(alloc, &[1, 2, 3, 64, 4096, 262144])?;
-    let two = ranks(alloc, &[2, 3, 64, 4096, 262144, 300000])?;
-    let three = speeds(alloc, &[0, 1, 2, 64, 65, 4096])?;
-    let set = indices(alloc, &[2, 64, 262144, 4096, 9999])?;
-    ((&one, &two), (&three, &set))
-        .join()
-        .map(|((mass, rank), (speed, index))| [mass.0, rank.0, speed.0, index])
-        .collect(alloc)
-        .ok()
-}
-
-#[test]
-fn tuples_of_four_and_tuples_that_nest_are_one_join(rt: HostRuntime) {
-    let wanted = [[3, 4, 102, 2], [65, 128, 164, 64], [4097, 8192, 4196, 4096]];
-    assert!(rt; is(flat(rt.alloc()), &wanted));
-    assert!(rt; is(nested(rt.alloc()), &wanted));
-}
-
-/// The indices of a set.
-fn own(alloc: Global) -> Option<Vec<u32>> {
-    let one = indices(alloc, &[64, 1, 2])?;
-    (&one).join().collect(alloc).ok()
-}
-
-/// The indices of two sets under an operator.
-fn shared(alloc: Global) -> Option<Vec<u32>> {
-    let one = indices(alloc, &[1, 2, 64])?;
-    let two = indices(alloc, &[2, 3, 64])?;
-    (&one & &two).join().collect(alloc).ok()
-}
-
-fn either(alloc: Global) -> Option<Vec<u32>> {
-    let one = indices(alloc, &[1, 2, 64])?;
-    let two = indices(alloc, &[2, 3, 64])?;
-    (&one | &two).join().collect(alloc).ok()
-}
-
-fn only_one(alloc: Global) -> Option<Vec<u32>> {
-    let one = indices(alloc, &[1, 2, 64])?;
-    let two = indices(alloc, &[2, 3, 64])?;
-    (&one ^ &two).join().collect(alloc).ok()
-}
-
-fn lacking(alloc: Global) -> Option<Vec<(u32, u32)>> {
-    let one = indices(alloc, &[1, 2, 64])?;
-    let two = indices(alloc, &[2, 3, 64])?;
-    (&one, !&two).join().collect(alloc).ok()
-}
-
-#[test]
-fn sets_and_their_operators_join_by_their_indices(rt: HostRuntime) {
-    assert!(rt; is(own(rt.alloc()), &[1, 2, 64]));
-    assert!(rt; is(shared(rt.alloc()), &[2, 64]));
-    assert!(rt; is(either(rt.alloc()), &[1, 2, 3, 64]));
-    assert!(rt; is(only_one(rt.alloc()), &[1, 3]));
-    assert!(rt; is(lacking(rt.alloc()), &[(1, 1)]));
-}
-
-/// Whether each kind of join says if it leaves indices out.
-fn constraints() -> [bool; 5] {
-    [
-        <&BitSet as Join>::is_unconstrained(),
-        <MaybeJoin<&BitSet> as Join>::is_unconstrained(),
-        <(MaybeJoin<&BitSet>, &BitSet) as Join>::is_unconstrained(),
-        <(MaybeJoin<&BitSet>, MaybeJoin<&MaskedStorage<Mass>>) as Join>::is_unconstrained(),
-        <AntiStorage<'static> as Join>::is_unconstrained(),
-    ]
-}
-
-#[test]
-fn joins_of_what_may_be_there_alone_are_unconstrained(rt: HostRuntime) {
-    assert!(rt; constraints() == [false, true, false, true, false]);
-}
-
-/// What a join has at an index, by a walk over it that isn't begun.
-fn mass_at(alloc: Global, index: u32) -> Option<u32> {
-    let one = masses(alloc, &BORDERS)?;
-    let other = ranks(alloc, &[0, 64, 5, 16777215])?;
-    let walk = (&one, &other).join();
-    walk.get_unchecked(index).map(|(mass, _)| mass.0)
-}
-
-#[test]
-fn a_join_is_asked_at_an_index(rt: HostRuntime) {
-    assert!(rt; mass_at(rt.alloc(), 64) == Some(65));
-    assert!(rt; mass_at(rt.alloc(), 16777215) == Some(16777216));
-    assert!(rt; mass_at(rt.alloc(), 63).is_none());
-    assert!(rt; mass_at(rt.alloc(), 5).is_none());
-    assert!(rt; mass_at(rt.alloc(), 16777216).is_none());
-}
-
-/// What a join has at the index of an entity: while it lives, and when another lives there.
-fn of_entity(alloc: Global) -> Option<[Option<u32>; 2]> {
-    let mut entities = EntitiesRes::new(alloc);
-    let first = entities.allocate().ok()?;
-    let one = masses(alloc, &[0, 1])?;
-    let walk = (&one).join();
-    let living = walk.get(first, &entities).map(|mass: &Mass| mass.0);
-    entities.kill(&[first]).ok()?;
-    let second = entities.allocate().ok()?;
-    let dead = walk.get(first, &entities).map(|mass: &Mass| mass.0);
-    if second.id() == 0 {
-        Some([living, dead])
+/// How many items threads collect, where they are those of the walk.
+fn agrees<R: Threads + Sync>(
+    rt: &R,
+    alloc: Global,
+    workers: usize,
+    storage: &MaskedStorage<Speed>,
+) -> Option<usize> {
+    let list = JoinParIter(storage)
+        .collect(rt, alloc, workers, |speed: &Speed| speed.0)
+        .ok()?;
+    if walks(storage, |speed: &Speed| speed.0, list.as_slice()) {
+        Some(list.len())
     } else {
         None
     }
 }
 
+/// Whether these numbers of workers, each of them, collect so many items as they are walked. The parts are at every third
+/// index.
+fn all_agree<R: Threads + Sync>(
+    rt: &R,
+    alloc: Global,
+    workers: &[usize],
+    count: u32,
+    storage: &mut MaskedStorage<Speed>,
+) -> bool {
+    for place in 0..count {
+        let index = place.wrapping_mul(3);
+        if index < 16777216 {
+            let _ = storage.insert(index, Speed(index)).is_ok();
+        }
+    }
+    for number in workers {
+        if agrees(rt, alloc, *number, storage) != Some(count as usize) {
+            return false;
+        }
+    }
+    true
+}
+
 #[test]
-fn a_dead_entity_has_no_item(rt: HostRuntime) {
-    assert!(rt; of_entity(rt.alloc()) == Some([Some(1), None]));
+fn threads_collect_the_list_of_join(rt: HostRuntime) {
+    let mut storage = MaskedStorage::new(rt.alloc(), DenseVecStorage::unwrap_default(rt.alloc()));
+    let workers = [0, 1, 2, 3, 7, 8, 64];
+    let is_same = all_agree(&rt, rt.alloc(), &workers, 10000, &mut storage);
+    assert!(rt; is_same);
+}
+
+/// How many items a copy of a walk has.
+fn left_in<J: Join>(walk: &JoinIter<J>) -> usize
+where
+    J::Type: Drop,
+    J::Mask: Copy,
+    J::Value: Copy,
+{
+    let mut count: usize = 0;
+    if let Ok(copy) = walk.clone() {
+        for _item in copy {
+            count = count.wrapping_add(1);
+        }
+    }
+    count
+}
+
+/// How many items copies have of walks over what may be there, over what is absent, and of one that gave its first item, and
+/// how many that one gives then.
+fn copied(scene: &Scene) -> [usize; 4] {
+    let maybe = left_in(&(&scene.masses, (&scene.moods).maybe()).join());
+    let absent = left_in(&(&scene.masses, AntiStorage(scene.moods.mask())).join());
+    let mut walk = (&scene.masses, &scene.moods).join();
+    let _ = walk.next().is_some();
+    let copy = left_in(&walk);
+    let mut own: usize = 0;
+    for _item in walk {
+        own = own.wrapping_add(1);
+    }
+    [maybe, absent, copy, own]
+}
+
+/// Three masses with a mood, and one without.
+const FOUR: Parts = Parts {
+    masses: &[1, 2, 64, 4096],
+    moods: &[1, 64, 4096, 5000],
+    ..NOTHING
+};
+
+#[test]
+fn a_copied_walk_goes_on_from_where_it_stands(rt: HostRuntime) {
+    let mut scene = Scene::new(rt.alloc());
+    let is_made = scene.takes(&FOUR);
+    assert_eq!(rt; (is_made, copied(&scene)), (true, [4, 1, 2, 2]));
 }
 
 /// How many words were told of.
@@ -324,34 +539,63 @@ impl Counter for Told {
     }
 }
 
-/// How many words a join of a mask of two members far apart and a mask of three near ones reads.
-fn words_told(alloc: Global) -> Option<u32> {
-    let one = masses(alloc, &[0, 262144])?;
-    let other = ranks(alloc, &[0, 1, 63])?;
+/// How many words a join of masses and moods reads.
+fn words_told(scene: &Scene) -> u32 {
     let mut told = Told(0);
-    let mut walk = (&one, &other).join_counted(&mut told);
+    let mut walk = (&scene.masses, &scene.moods).join_counted(&mut told);
     for _ in 0..9u32 {
         let _ = walk.next_counted(&mut told);
     }
-    Some(told.0)
+    told.0
 }
 
 /// Goes through a join with a ledger that counts.
-fn count<L: Ledger>(blank: Blank, alloc: Global) -> bool
+fn count<L: Ledger>(blank: Blank, scene: &Scene)
     requires name { blank.name ≡ L.name }
     requires parts { blank.parts ≡ L.parts }
     requires some { 0 < blank.parts }
 {
     let mut steps = Steps::<L>::new(blank);
-    if let (Some(one), Some(other)) = (masses(alloc, &[0, 9]), ranks(alloc, &[9])) {
-        two_storages_cost_what_the_smaller_has(&one, &other, &mut steps);
-        return true;
-    }
-    false
+    two_storages_cost_what_the_smaller_has(&scene.masses, &scene.moods, &mut steps);
 }
+
+/// Two members far apart, and three near ones.
+const FAR: Parts = Parts {
+    masses: &[0, 262144],
+    moods: &[0, 1, 63],
+    ..NOTHING
+};
 
 #[test]
 fn a_join_reads_a_word_of_each_mask_and_layer(rt: HostRuntime) {
-    assert!(rt; words_told(rt.alloc()) == Some(8));
-    assert!(rt; count::<Brand>(Blank::new(1), rt.alloc()));
+    let mut scene = Scene::new(rt.alloc());
+    let is_made = scene.takes(&FAR);
+    let words = words_told(&scene);
+    count::<Brand>(Blank::new(1), &scene);
+    assert_eq!(rt; (is_made, words), (true, 8));
+}
+
+/// Whether the living are walked: of four indices, where the second died and the third died and was born again.
+fn walks_living(entities: &mut EntitiesRes, wanted: &[(u32, i32)]) -> bool {
+    for _ in 0..4u32 {
+        let _ = entities.allocate().is_ok();
+    }
+    let dead = [entities.entity(1), entities.entity(2)];
+    let _ = entities.kill(&dead).is_ok() && entities.allocate().is_ok();
+    walks(
+        ((), &*entities),
+        |((), entity): ((), Entity)| (entity.id(), entity.generation().id()),
+        wanted,
+    )
+}
+
+#[test]
+fn a_join_of_entities_has_the_living(rt: HostRuntime) {
+    let mut entities = EntitiesRes::new(rt.alloc());
+    let is_walked = walks_living(&mut entities, &[(0, 1), (2, 2), (3, 1)]);
+    let constraints = [
+        <((), MaybeJoin<&BitSet>) as Join>::is_unconstrained(),
+        <((), &EntitiesRes) as Join>::is_unconstrained(),
+    ];
+    assert_eq!(rt; (is_walked, constraints), (true, [true, false]));
 }

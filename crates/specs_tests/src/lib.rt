@@ -1,10 +1,24 @@
-//! Rows and examples of use of `specs_entity`, `specs_store` and `specs_join`, which no contract says.
+//! Rows and cases of the crates of entities, storages and joins, which no contract says.
 #![tactic(auto)]
 
 #[cfg(test)]
+mod carried;
+#[cfg(test)]
+mod changes;
+#[cfg(test)]
+mod cursors;
+#[cfg(test)]
 mod entities;
 #[cfg(test)]
+mod entries;
+#[cfg(test)]
 mod joins;
+#[cfg(test)]
+mod lent;
+#[cfg(test)]
+mod parts;
+#[cfg(test)]
+mod restricted;
 #[cfg(test)]
 mod sets;
 #[cfg(test)]

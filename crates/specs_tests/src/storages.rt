@@ -1,160 +1,12 @@
-//! A thousand parts in each storage, and what layouts show.
+//! A thousand parts in each storage, and what slices show.
+use crate::parts::{Frozen, Heat, Layout, Level, Mass, Mood, Numbered, Speed, made};
 use specs_entity::{EntitiesRes, Entity};
-use specs_store::laws::parts_are_a_finite_map;
-use specs_store::{
-    AnyStorage, BTreeStorage, Component, DefaultVecStorage, DenseVecStorage, HashMapStorage,
-    MaskedStorage, NullStorage, Single, SliceAccess, TryDefault, VecStorage,
+use specs_layouts::laws::parts_are_a_finite_map;
+use specs_layouts::{
+    AnyStorage, Component, DefaultVecStorage, DenseVecStorage, MaskedStorage, SliceAccess,
+    TryDefault,
 };
 use std::alloc::Global;
-
-/// A part that is made of a number, and can be raised.
-trait Numbered: Component {
-    fn made(number: u32) -> Self;
-
-    fn number(&self) -> u32;
-
-    fn raise(&mut self);
-}
-
-#[derive(Drop)]
-struct Mass(u32);
-
-impl Component for Mass {
-    type Storage = VecStorage<Mass>;
-}
-
-impl Numbered for Mass {
-    fn made(number: u32) -> Mass {
-        Mass(number)
-    }
-
-    fn number(&self) -> u32 {
-        self.0
-    }
-
-    fn raise(&mut self) {
-        self.0 = self.0.wrapping_add(1);
-    }
-}
-
-#[derive(Drop)]
-struct Speed(u32);
-
-impl Component for Speed {
-    type Storage = DenseVecStorage<Speed>;
-}
-
-impl Numbered for Speed {
-    fn made(number: u32) -> Speed {
-        Speed(number)
-    }
-
-    fn number(&self) -> u32 {
-        self.0
-    }
-
-    fn raise(&mut self) {
-        self.0 = self.0.wrapping_add(1);
-    }
-}
-
-#[derive(Default, Drop)]
-struct Heat(u32);
-
-impl Component for Heat {
-    type Storage = DefaultVecStorage<Heat>;
-}
-
-impl Numbered for Heat {
-    fn made(number: u32) -> Heat {
-        Heat(number)
-    }
-
-    fn number(&self) -> u32 {
-        self.0
-    }
-
-    fn raise(&mut self) {
-        self.0 = self.0.wrapping_add(1);
-    }
-}
-
-#[derive(Drop)]
-enum Mood {
-    Calm,
-    Angry(u32),
-}
-
-impl Component for Mood {
-    type Storage = HashMapStorage<Mood>;
-}
-
-impl Numbered for Mood {
-    fn made(number: u32) -> Mood {
-        if number == 0 {
-            Mood::Calm
-        } else {
-            Mood::Angry(number)
-        }
-    }
-
-    fn number(&self) -> u32 {
-        match self {
-            Mood::Calm => 0,
-            Mood::Angry(number) => *number,
-        }
-    }
-
-    fn raise(&mut self) {
-        *self = Mood::Angry(self.number().wrapping_add(1));
-    }
-}
-
-#[derive(Drop)]
-struct Rank(u32);
-
-impl Component for Rank {
-    type Storage = BTreeStorage<Rank>;
-}
-
-impl Numbered for Rank {
-    fn made(number: u32) -> Rank {
-        Rank(number)
-    }
-
-    fn number(&self) -> u32 {
-        self.0
-    }
-
-    fn raise(&mut self) {
-        self.0 = self.0.wrapping_add(1);
-    }
-}
-
-#[derive(Default, Drop)]
-struct Frozen;
-
-impl Single for Frozen {
-    ghost use Rattle.std.specs.Prelude.{refl};
-
-    ghost same = { λ _ _. refl };
-}
-
-impl Component for Frozen {
-    type Storage = NullStorage<Frozen>;
-}
-
-impl Numbered for Frozen {
-    fn made(_number: u32) -> Frozen {
-        Frozen
-    }
-
-    fn number(&self) -> u32 {
-        1
-    }
-
-    fn raise(&mut self) {}
-}
 
 /// Inserts a thousand parts, and answers how many of them found no part before.
 fn fill<C: Numbered>(storage: &mut MaskedStorage<C>) -> u32 {
@@ -183,7 +35,7 @@ fn raise_all<C: Numbered>(storage: &mut MaskedStorage<C>) {
     for id in 0..3000u32 {
         if storage.contains(id) {
             if let Ok(part) = storage.get_mut(id) {
-                part.raise();
+                part.set(part.number().wrapping_add(1));
             }
         }
     }
@@ -200,16 +52,8 @@ fn empty<C: Numbered>(storage: &mut MaskedStorage<C>) -> u32 {
     removed
 }
 
-/// A storage of a kind, over its layout's default.
-fn made<C: Numbered>(alloc: Global) -> Option<MaskedStorage<C>> {
-    match C::Storage::try_default(alloc) {
-        Ok(inner) => Some(MaskedStorage::new(alloc, inner)),
-        Err(_) => None,
-    }
-}
-
-/// Parts inserted, their sum, their sum when raised, parts removed, removed again, inserted again,
-/// and the sum after `clear`.
+/// Parts inserted, their sum, their sum when raised, parts removed, removed again, inserted again, and the sum after
+/// `clear`.
 fn thousand<C: Numbered>(alloc: Global) -> Option<[u32; 7]> {
     let mut storage = made::<C>(alloc)?;
     let fresh = fill(&mut storage);
@@ -223,65 +67,165 @@ fn thousand<C: Numbered>(alloc: Global) -> Option<[u32; 7]> {
     Some([fresh, before, after, removed, gone, again, sum(&storage)])
 }
 
-#[test]
-fn each_storage_holds_a_thousand_parts(rt: HostRuntime) {
-    let numbers = Some([1000, 499500, 500500, 1000, 0, 1000, 0]);
-    assert_eq!(rt; thousand::<Mass>(rt.alloc()), numbers, "VecStorage");
-    assert_eq!(rt; thousand::<Speed>(rt.alloc()), numbers, "DenseVecStorage");
-    assert_eq!(rt; thousand::<Heat>(rt.alloc()), numbers, "DefaultVecStorage");
-    assert_eq!(rt; thousand::<Mood>(rt.alloc()), numbers, "HashMapStorage");
-    assert_eq!(rt; thousand::<Rank>(rt.alloc()), numbers, "BTreeStorage");
-    let flags = Some([1000, 1000, 1000, 1000, 0, 1000, 0]);
-    assert_eq!(rt; thousand::<Frozen>(rt.alloc()), flags, "NullStorage");
+/// The numbers of a thousand parts in a layout.
+struct Row {
+    layout: Layout,
+    name: &'static str,
+    numbers: [u32; 7],
 }
 
-/// The numbers in a slice of parts.
-fn heats(storage: &MaskedStorage<Heat>) -> [u32; 4] {
-    let mut numbers = [9; 4];
-    for (place, heat) in storage.inner().as_slice().iter().enumerate() {
-        if place < 4 {
-            numbers[place] = heat.0;
+/// What a thousand numbered parts come to.
+const NUMBERS: [u32; 7] = [1000, 499500, 500500, 1000, 0, 1000, 0];
+
+const ROWS: [Row; 6] = [
+    Row {
+        layout: Layout::Vec,
+        name: "VecStorage",
+        numbers: NUMBERS,
+    },
+    Row {
+        layout: Layout::DenseVec,
+        name: "DenseVecStorage",
+        numbers: NUMBERS,
+    },
+    Row {
+        layout: Layout::DefaultVec,
+        name: "DefaultVecStorage",
+        numbers: NUMBERS,
+    },
+    Row {
+        layout: Layout::HashMap,
+        name: "HashMapStorage",
+        numbers: NUMBERS,
+    },
+    Row {
+        layout: Layout::BTree,
+        name: "BTreeStorage",
+        numbers: NUMBERS,
+    },
+    Row {
+        layout: Layout::Null,
+        name: "NullStorage",
+        numbers: [1000, 1000, 1000, 1000, 0, 1000, 0],
+    },
+];
+
+/// The numbers of a thousand parts in a layout.
+fn thousand_in(alloc: Global, layout: Layout) -> Option<[u32; 7]> {
+    match layout {
+        Layout::Vec => thousand::<Level>(alloc),
+        Layout::DenseVec => thousand::<Speed>(alloc),
+        Layout::DefaultVec => thousand::<Heat>(alloc),
+        Layout::HashMap => thousand::<Mood>(alloc),
+        Layout::BTree => thousand::<Mass>(alloc),
+        Layout::Null => thousand::<Frozen>(alloc),
+    }
+}
+
+/// The first of some rows that doesn't hold.
+fn wrong(alloc: Global, rows: &[Row]) -> Option<&'static str> {
+    for row in rows {
+        if thousand_in(alloc, row.layout) != Some(row.numbers) {
+            return Some(row.name);
         }
     }
-    numbers
+    None
 }
 
 #[test]
-fn gaps_have_defaults(rt: HostRuntime) {
-    if let Some(mut storage) = made::<Heat>(rt.alloc()) {
-        assert!(rt; storage.insert(1, Heat(1)).is_ok());
-        assert!(rt; storage.insert(3, Heat(3)).is_ok());
-        assert_eq!(rt; heats(&storage), [0, 1, 0, 3]);
-        assert!(rt; storage.remove(3).is_ok());
-        assert_eq!(rt; heats(&storage), [0, 1, 0, 0]);
+fn each_storage_holds_a_thousand_parts(rt: HostRuntime) {
+    assert_eq!(rt; wrong(rt.alloc(), &ROWS), None);
+}
+
+/// A step with a storage whose layout is a slice of parts.
+enum Step {
+    /// A part of this number is put at an index.
+    Puts(u32, u32),
+    /// The part at an index is taken out.
+    Removes(u32),
+    /// All parts are taken out.
+    Clears,
+    /// The slice has parts of these numbers.
+    Shows(&'static [u32]),
+}
+
+use Step::{Clears, Puts, Removes, Shows};
+
+/// Whether a slice has parts of these numbers.
+fn shows<C: Numbered>(parts: &[C], wanted: &[u32]) -> bool {
+    if parts.len() != wanted.len() {
+        return false;
+    }
+    for (part, number) in parts.iter().zip(wanted) {
+        if part.number() != *number {
+            return false;
+        }
+    }
+    true
+}
+
+/// Whether a step goes well.
+fn goes<C: Numbered>(storage: &mut MaskedStorage<C>, step: &Step) -> bool
+where
+    C::Storage: SliceAccess<C, Element = C>,
+{
+    match step {
+        Puts(id, number) => *id < 16777216 && storage.insert(*id, C::made(*number)).is_ok(),
+        Removes(id) => storage.remove(*id).is_ok(),
+        Clears => {
+            storage.clear();
+            true
+        }
+        Shows(wanted) => shows(storage.inner().as_slice(), wanted),
     }
 }
 
-/// How many parts there are in a row, and the number of the first.
-fn speeds(storage: &MaskedStorage<Speed>) -> (usize, Option<u32>) {
-    let parts = storage.inner().as_slice();
-    (parts.len(), parts.first().map(|speed| speed.0))
-}
-
-#[test]
-fn a_cleared_row_begins_anew(rt: HostRuntime) {
-    if let Some(mut storage) = made::<Speed>(rt.alloc()) {
-        assert!(rt; storage.insert(5, Speed(50)).is_ok());
-        assert!(rt; storage.insert(2, Speed(20)).is_ok());
-        assert_eq!(rt; speeds(&storage), (2, Some(50)));
-        storage.clear();
-        assert_eq!(rt; speeds(&storage), (0, None));
-        assert!(rt; storage.insert(7, Speed(70)).is_ok());
-        assert_eq!(rt; speeds(&storage), (1, Some(70)));
+/// Whether steps with a storage go well.
+fn go<C: Numbered>(alloc: Global, steps: &[Step]) -> bool
+where
+    C::Storage: SliceAccess<C, Element = C>,
+{
+    let Some(mut storage) = made::<C>(alloc) else {
+        return false;
+    };
+    for step in steps {
+        if !goes(&mut storage, step) {
+            return false;
+        }
     }
+    true
 }
 
+const GAPS: [Step; 5] = [
+    Puts(1, 1),
+    Puts(3, 3),
+    Shows(&[0, 1, 0, 3]),
+    Removes(3),
+    Shows(&[0, 1, 0, 0]),
+];
+
+const CLEARED: [Step; 7] = [
+    Puts(5, 50),
+    Puts(2, 20),
+    Shows(&[50, 20]),
+    Clears,
+    Shows(&[]),
+    Puts(7, 70),
+    Shows(&[70]),
+];
+
 #[test]
-fn a_row_is_written_as_a_slice(rt: HostRuntime) {
-    let mut storage = DenseVecStorage::<Speed>::unwrap_default(rt.alloc());
-    assert_eq!(rt; storage.as_mut_slice().len(), 0);
-    let mut slots = DefaultVecStorage::<Heat>::unwrap_default(rt.alloc());
-    assert_eq!(rt; slots.as_mut_slice().len(), 0);
+fn gaps_have_defaults_and_a_cleared_row_begins_anew(rt: HostRuntime) {
+    let gaps = go::<Heat>(rt.alloc(), &GAPS);
+    let cleared = go::<Speed>(rt.alloc(), &CLEARED);
+    assert_eq!(rt; [gaps, cleared], [true, true]);
+}
+
+/// How long the slices of storages without parts are that are lent for writing.
+fn lengths(alloc: Global) -> [usize; 2] {
+    let mut row = DenseVecStorage::<Speed>::unwrap_default(alloc);
+    let mut slots = DefaultVecStorage::<Heat>::unwrap_default(alloc);
+    [row.as_mut_slice().len(), slots.as_mut_slice().len()]
 }
 
 /// Drops the parts of entities, through the bound of any storage.
@@ -289,18 +233,28 @@ fn dropped<S: AnyStorage>(storage: &mut S, entities: &[Entity]) -> bool {
     storage.make_room(entities.len()).is_ok() && storage.drop(entities).is_ok()
 }
 
+/// What the parts at the entities 1, 3 and 1, and then that at 6, leave of a thousand when they are dropped.
+fn left(storage: &mut MaskedStorage<Heat>, entities: &EntitiesRes) -> Option<[u32; 3]> {
+    let named = [entities.entity(1), entities.entity(3), entities.entity(1)];
+    let all = fill(storage);
+    if !dropped(storage, &named) {
+        return None;
+    }
+    let most = sum(storage);
+    storage.make_room(2).ok()?;
+    MaskedStorage::drop(storage, 6).ok()?;
+    parts_are_a_finite_map(storage);
+    Some([all, most, sum(storage)])
+}
+
+/// The same of a storage of its own.
+fn left_of_all(alloc: Global) -> Option<[u32; 3]> {
+    let mut storage = made::<Heat>(alloc)?;
+    left(&mut storage, &EntitiesRes::new(alloc))
+}
+
 #[test]
 fn parts_of_entities_are_dropped(rt: HostRuntime) {
-    let entities = EntitiesRes::new(rt.alloc());
-    let named = [entities.entity(1), entities.entity(3), entities.entity(1)];
-    if let Some(mut storage) = made::<Heat>(rt.alloc()) {
-        assert_eq!(rt; fill(&mut storage), 1000);
-        assert!(rt; dropped(&mut storage, &named));
-        assert_eq!(rt; sum(&storage), 499499);
-        assert!(rt; storage.make_room(2).is_ok());
-        assert!(rt; MaskedStorage::drop(&mut storage, 6).is_ok());
-        assert_eq!(rt; sum(&storage), 499497);
-        assert!(rt; !storage.mask().contains(6));
-        parts_are_a_finite_map(&storage);
-    }
+    assert_eq!(rt; lengths(rt.alloc()), [0, 0]);
+    assert_eq!(rt; left_of_all(rt.alloc()), Some([1000, 499499, 499497]));
 }

@@ -2,7 +2,7 @@
 use super::{Change, ChangeSet};
 use hibitset::{BitSet, Index};
 use specs_join::Join;
-use specs_store::{DenseVecStorage, UnprotectedStorage};
+use specs_layouts::{DenseVecStorage, UnprotectedStorage};
 
 /// The changes, each at its index.
 impl<'a, T: Drop + 'a> Join for &'a ChangeSet<T> {

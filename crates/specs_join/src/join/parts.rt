@@ -1,7 +1,7 @@
 //! Storages join by their parts.
 use super::Join;
 use hibitset::{BitSet, Index};
-use specs_store::{Component, MaskedStorage, UnprotectedStorage};
+use specs_layouts::{Component, MaskedStorage, UnprotectedStorage};
 
 impl<'a, T: Component + 'a> Join for &'a MaskedStorage<T>
 where

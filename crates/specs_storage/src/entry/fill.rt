@@ -8,7 +8,7 @@ ghost use Rattle.specs_storage.specs.EntryLends.{lends_at, lends_put, lends_or, 
 use super::vacant::fill;
 use super::{EntryError, OccupiedEntry, StorageEntry, VacantEntry};
 use hibitset::Index;
-use specs_store::{Component, MaskedStorage, UnprotectedStorage};
+use specs_layouts::{Component, MaskedStorage, UnprotectedStorage};
 use std::alloc::AllocFailed;
 
 impl<'a, T: Component> StorageEntry<'a, T> {

@@ -1,12 +1,12 @@
 //! Places with a part.
 ghost use Rattle.std.specs.Prelude.{◌≡◌, ◌<◌, IsSome, false, Some, None, IfOk, IfErr, OnOk, OnErr, IsOk};
 ghost use Rattle.std.specs.Borrow.{sem};
-ghost use Rattle.specs_store.specs.Parts.{Puts, SameParts, told};
-ghost use Rattle.specs_store.specs.declared.track.ComponentEvent.TheVariants as event;
+ghost use Rattle.specs_layouts.specs.Parts.{Puts, SameParts, told};
+ghost use Rattle.specs_layouts.specs.declared.track.ComponentEvent.TheVariants as event;
 
 use super::OccupiedEntry;
 use hibitset::Index;
-use specs_store::{Component, MaskedStorage, UnprotectedStorage};
+use specs_layouts::{Component, MaskedStorage, UnprotectedStorage};
 use std::alloc::{AllocError, AllocFailed};
 
 impl<'a, T: Component> OccupiedEntry<'a, T> {

@@ -10,7 +10,7 @@ use super::{EntryOf, OccupiedEntry, StorageEntry, VacantEntry};
 use crate::storage::Storage;
 use hibitset::Index;
 use specs_entity::{Entity, Generation, WrongGeneration};
-use specs_store::{Component, MaskedStorage, UnprotectedStorage};
+use specs_layouts::{Component, MaskedStorage, UnprotectedStorage};
 
 impl<'e, T: Component> Storage<'e, T, &'e mut MaskedStorage<T>> {
     /// The place of an entity's part, as one with a part or one without.

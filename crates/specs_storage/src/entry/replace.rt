@@ -6,7 +6,7 @@ use super::occupied::swap;
 use super::vacant::fill;
 use super::{OccupiedEntry, Spot, StorageEntry, VacantEntry};
 use hibitset::Index;
-use specs_store::{Component, MaskedStorage, UnprotectedStorage};
+use specs_layouts::{Component, MaskedStorage, UnprotectedStorage};
 use std::alloc::AllocFailed;
 
 impl<'a, T: Component> StorageEntry<'a, T> {

@@ -1,13 +1,13 @@
 //! Places without a part.
 ghost use Rattle.std.specs.Prelude.{◌≡◌, ◌<◌, is_some, false, Some, IfOk, IfErr};
 ghost use Rattle.std.specs.Borrow.{sem};
-ghost use Rattle.specs_store.specs.Parts.{Puts, told};
-ghost use Rattle.specs_store.specs.declared.track.ComponentEvent.TheVariants as event;
+ghost use Rattle.specs_layouts.specs.Parts.{Puts, told};
+ghost use Rattle.specs_layouts.specs.declared.track.ComponentEvent.TheVariants as event;
 ghost use Rattle.specs_storage.specs.EntryLends.{rests_if_refused, lends_put};
 
 use super::{OccupiedEntry, VacantEntry};
 use hibitset::Index;
-use specs_store::{Component, MaskedStorage, UnprotectedStorage};
+use specs_layouts::{Component, MaskedStorage, UnprotectedStorage};
 use std::alloc::AllocFailed;
 
 impl<'a, T: Component> VacantEntry<'a, T> {

@@ -1,15 +1,15 @@
 //! Storages that are lent for writing.
 ghost use Rattle.std.specs.Prelude.{◌≡◌, ◌↔◌, false, Some, None, IsSome, is_some, IsOk, IfOk, IfErr, IsErrOf, OnOk, OnErr, if◌then◌else◌};
 ghost use Rattle.std.specs.Borrow.{sem};
-ghost use Rattle.specs_store.specs.Parts.{Puts, SameParts, HasNone, told};
-ghost use Rattle.specs_store.specs.declared.track.ComponentEvent.TheVariants as event;
+ghost use Rattle.specs_layouts.specs.Parts.{Puts, SameParts, HasNone, told};
+ghost use Rattle.specs_layouts.specs.declared.track.ComponentEvent.TheVariants as event;
 ghost use Rattle.specs_entity.specs.Births.{IsAlive, latest};
 ghost use Rattle.specs_storage.specs.declared.storage.LendError.TheVariants as lending;
 ghost use Rattle.specs_storage.specs.Found.{Finds, HasPart, RefusesInsert, KeepsLoans};
 
 use super::{InsertResult, LendError, Storage};
 use specs_entity::{EntitiesRes, Entity, Error, WrongGeneration};
-use specs_store::{Component, MaskedStorage, UnprotectedStorage};
+use specs_layouts::{Component, MaskedStorage, UnprotectedStorage};
 use std::alloc::AllocError;
 
 impl<'e, T: Component> Storage<'e, T, &'e mut MaskedStorage<T>> {

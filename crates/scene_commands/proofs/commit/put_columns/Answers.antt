@@ -5,7 +5,7 @@ use Rattle.std.specs.List.{slice_get}
 use Rattle.scene_rules.specs.Slots.{in_column}
 use Rattle.scene_commands.specs.Over.{slot_in, put_over}
 use Rattle.scene_commands.proofs.CommitLemmas.{taken_front, put-place}
-use Rattle.scene_rules.proofs.ColumnsLemmas.{slice_get-set_other, taken_last}
+use Rattle.scene_rules.proofs.CallerLemmas.{slice_get-set_other, taken_last}
 use Rattle.scene_commands.proofs.commit.put_columns.Goals as goal
 
 pub put_column-requires : goal.put_column-requires

@@ -1,4 +1,4 @@
-use Rattle.shred_stages.proofs.SetupLemmas.{set-up-first, set-up-none}
+use Rattle.shred_stages.proofs.CallerLemmas.{set-up-first, set-up-none}
 use Rattle.shred.proofs.locals.+set_up_locals.Goals as goal
 
 pub returns-in-Ok : goal.returns-in-Ok

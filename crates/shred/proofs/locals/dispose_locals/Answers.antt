@@ -2,7 +2,7 @@ use Rattle.std.proofs.Common.{◌≡◌, List, map, length, ap, ◌∙◌, arith
 use Rattle.std.specs.Vec.Iter.{into_iter_items}
 use Rattle.shred_stages.specs.Setups.{DisposesEach}
 use Rattle.shred.specs.Dispatching.{local_refusal}
-use Rattle.shred_stages.proofs.DisposeLemmas.{dispose-next, dispose-end, empty-by-length, map-itself}
+use Rattle.shred_stages.proofs.CallerLemmas.{dispose-next, dispose-end, empty-by-length, map-itself}
 use Rattle.shred.proofs.locals.dispose_locals.Goals as goal
 
 pub loop-local-preserved : goal.loop-local-preserved

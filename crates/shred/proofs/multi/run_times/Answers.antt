@@ -1,5 +1,5 @@
 use Rattle.std.proofs.Common.{ap}
-use Rattle.shred_stages.proofs.LeaveLemmas.{leaves-leaves}
+use Rattle.shred_stages.proofs.CallerLemmas.{leaves-leaves}
 use Rattle.shred.proofs.BatchLemmas.{times-next, times-stop}
 use Rattle.std.proofs.Common.{◌∙◌}
 use Rattle.shred.proofs.multi.run_times.Goals as goal

@@ -1,6 +1,6 @@
 use Rattle.std.proofs.Common.{ap, ◌∙◌}
 use Rattle.shred_world.specs.Bundles.{holding_of}
-use Rattle.shred_stages.proofs.ViewLemmas.{turn-seat, turn-step}
+use Rattle.shred_stages.proofs.CallerLemmas.{turn-seat, turn-step}
 use Rattle.shred_trees.proofs.leaf.run_seated.Goals as goal
 
 pub returns-clause-step : goal.returns-clause-step

@@ -3,10 +3,10 @@ use Rattle.std.proofs.lemmas.Bool.{false≢true}
 use Rattle.std.specs.Vec.Iter.{into_iter_items}
 use Rattle.hibitset_sets.specs.BitSet.{has_member}
 use Rattle.hibitset_sets.specs.Walk.{walk}
-use Rattle.specs_store.specs.Parts.{told}
-use Rattle.specs_store.specs.declared.track.ComponentEvent.TheVariants as event
+use Rattle.specs_layouts.specs.Parts.{told}
+use Rattle.specs_layouts.specs.declared.track.ComponentEvent.TheVariants as event
 use Rattle.specs_changes.specs.Storing.{left_at}
-use Rattle.specs_store.proofs.DropSteps.{room-for-one}
+use Rattle.specs_layouts.proofs.CallerLemmas.{room-for-one}
 use Rattle.specs_changes.proofs.StoreLemmas.{moved-on, storing-begins, storing-goes-on, storing-member}
 use Rattle.specs_changes.proofs.storing.store_all.Goals as goal
 

@@ -1,4 +1,4 @@
-use Rattle.specs_entity.proofs.ListLemmas.{first-walked, first-member}
+use Rattle.specs_entity.proofs.CallerLemmas.{first-walked, first-member}
 use Rattle.specs_storage.proofs.drain.first_of.Goals as goal
 
 pub returns-clause-walk : goal.returns-clause-walk

@@ -1,6 +1,6 @@
 use Rattle.std.proofs.Common.{ap, ◌∙◌}
 use Rattle.std.specs.FinSet as set
-use Rattle.hibitset_sets.proofs.LayoutLemmas.{contains-without}
+use Rattle.hibitset_sets.proofs.CallerLemmas.{contains-without}
 use Rattle.hibitset.proofs.atomic.AtomicBitSetDrainableBitSet.remove.Goals as goal
 
 pub returns-clause-members : goal.returns-clause-members

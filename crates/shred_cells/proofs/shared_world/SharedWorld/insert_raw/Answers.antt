@@ -1,6 +1,6 @@
 use Rattle.std.proofs.Common.{rules, ap, ◌∙◌, ◌<◌}
 use Rattle.std.specs.HashMap.{spare}
-use Rattle.shred_world.proofs.WorldLemmas.{one_put, same_made}
+use Rattle.shred_world.proofs.CallerLemmas.{one_put, same_made}
 use Rattle.shred_cells.specs.Held.{with_id}
 use Rattle.shred_cells.proofs.HeldLemmas.{not-refused, accepted-not-refused}
 use Rattle.shred_cells.proofs.shared_world.SharedWorld.insert_raw.Goals as goal

@@ -1,5 +1,5 @@
 use Rattle.std.proofs.Common.{ap, sym, ◌∙◌, is_some}
-use Rattle.shred_world.proofs.WorldLemmas.{slot_at, one_removed}
+use Rattle.shred_world.proofs.CallerLemmas.{slot_at, one_removed}
 use Rattle.shred_cells.specs.Held.{without_id}
 use Rattle.shred_cells.proofs.shared_world.SharedWorld.remove_raw.Goals as goal
 

@@ -1,6 +1,6 @@
 use Rattle.std.proofs.Common.{ap, sym, ◌∙◌, Some, None}
 use Rattle.std.specs.FinMap as map
-use Rattle.shred_world.proofs.WorldLemmas.{get-insert_here, insert-insert, insert_value_same}
+use Rattle.shred_world.proofs.CallerLemmas.{get-insert_here, insert-insert, insert_value_same}
 use Rattle.shred_cells.proofs.shared_world.SharedWorld.take_from.Goals as goal
 
 pub put_back-requires : goal.put_back-requires

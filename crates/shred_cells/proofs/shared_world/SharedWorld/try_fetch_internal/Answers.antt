@@ -1,5 +1,5 @@
 use Rattle.std.proofs.Common.{ap, sym, ◌∙◌, is_some}
-use Rattle.shred_world.proofs.WorldLemmas.{slot_at}
+use Rattle.shred_world.proofs.CallerLemmas.{slot_at}
 use Rattle.shred_cells.proofs.HeldLemmas.{copied-is-there}
 use Rattle.shred_cells.proofs.shared_world.SharedWorld.try_fetch_internal.Goals as goal
 

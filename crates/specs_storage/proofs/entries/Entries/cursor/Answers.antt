@@ -1,7 +1,7 @@
 use Rattle.std.proofs.Common.{◌∙◌}
 use Rattle.std.proofs.lemmas.Option.{none-some}
-use Rattle.hibitset_sets.proofs.WalkLemmas.{walk-same}
-use Rattle.specs_join.proofs.NewLemmas.{begun-known}
+use Rattle.hibitset_sets.proofs.CallerLemmas.{walk-same}
+use Rattle.specs_join.proofs.CallerLemmas.{begun-known}
 use Rattle.specs_storage.proofs.entries.Entries.cursor.Goals as goal
 
 pub returns-clause-left : goal.returns-clause-left

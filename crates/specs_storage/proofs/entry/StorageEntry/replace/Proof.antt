@@ -33,7 +33,7 @@ use Rattle.std.specs.Prelude.{IfOk, IfErr, IsOk, OnOk, OnErr, IsSome, false}
 use Rattle.std.specs.contracts.alloc.AllocFailed.{the_row as AllocFailed}
 use Rattle.std.specs.contracts.option.Option.{the_row as Option}
 use Rattle.std.specs.contracts.result.Result.{the_row as Result}
-use Rattle.specs_store.specs.Masked.{Masked}
+use Rattle.specs_layouts.specs.Masked.{Masked}
 use Rattle.specs_storage.proofs.PlaceLemmas.{one_of, left_behind, comes_back, left_is, at_place}
 use Rattle.specs_storage.proofs.entry.Spot.TheLaws.{the_row_laws as spot_laws, lowered, lowers}
 use Rattle.specs_storage.proofs.entry.Spot.put.Met.{met as put_met}

@@ -1,5 +1,5 @@
 use Rattle.std.proofs.Common.{length, ap, inl, arith}
-use Rattle.hibitset.proofs.CutLemmas.{length-walk}
+use Rattle.hibitset.proofs.CallerLemmas.{length-walk}
 use Rattle.hibitset_sets.specs.BitSet.{has_member}
 use Rattle.specs_storage.proofs.storage.Storage.count.Goals as goal
 

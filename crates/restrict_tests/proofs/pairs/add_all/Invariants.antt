@@ -1,9 +1,0 @@
-use Rattle.std.proofs.Common.{length}
-use Rattle.specs_cursor.specs.Cursor.{left_in, IsReady}
-use Rattle.restrict_tests.proofs.pairs.add_all.Given as goal
-
-abbrev pub invariant-loop-cursor : goal.invariant-loop-cursor
-invariant-loop-cursor g l = IsReady g.R.Mask.BitSetLike.members g.R.Join.value_at l.cursor.store.now.mask l.cursor.mask l.cursor.values l.cursor.masks l.cursor.prefix
-
-abbrev pub decreases-loop-cursor : goal.decreases-loop-cursor
-decreases-loop-cursor g l = length (left_in g.R.Mask.BitSetLike.members l.cursor.store.now.mask l.cursor.mask l.cursor.masks l.cursor.prefix)

@@ -1,5 +1,0 @@
-//! Examples of use of restricted storages.
-#![tactic(auto)]
-
-#[cfg(test)]
-mod pairs;

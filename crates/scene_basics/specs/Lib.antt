@@ -1,0 +1,10 @@
+-- What the contracts of the program's rules cite, in the order in which a reader needs it.
+pub mod Names
+pub mod Numbers
+pub mod Gains
+pub mod Asks
+pub mod Turns
+pub mod Systems
+pub mod RuleLaws
+pub mod Lines
+pub mod Program

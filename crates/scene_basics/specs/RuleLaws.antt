@@ -1,0 +1,233 @@
+-- Lemmas on what the rules read and write, and their laws.
+use Rattle.std.proofs.Common.{◌≡◌, ◌^◌, ℕ, ℤ, pos, negsuc, Bool, true, false, ◌&&◌, cond, eqb, [], ◌∷◌, Option, Some, None, option_map, option_and_then, is_some, refl, sym, ◌∙◌, ap, subst, below_none, FitsSigned, All}
+use Rattle.std.specs.Int.{w64}
+use Rattle.std.specs.Str.{bytes_eq}
+use Rattle.std.specs.Ordering.{nat_cmp}
+use Rattle.std.specs.Cmp.Lexicographic.{slice_cmp}
+use Rattle.std.specs.declared.cmp.Ordering.TheVariants.{Less}
+use Rattle.std.proofs.lemmas.Option.{none-some, same_Some}
+use Rattle.std.proofs.lemmas.Bool.{false≢true}
+use Rattle.std.proofs.lemmas.Bool.Decides.{Decides-ltb, Decides-eqb}
+use Rattle.std.proofs.lemmas.Slice.Eq.{bytes_eq-Decides}
+use Rattle.std.proofs.lemmas.List.Elements.{All-nil, All-cons}
+use Rattle.std.proofs.lemmas.List.Kept.{AllPairs-cons}
+use Rattle.serde_json.specs.Data.{unsigned, negative, float, null, boolean, number, string, array, object}
+use Rattle.serde_json.specs.Find.{as_number, as_i64, as_null}
+use Rattle.serde_json.specs.Written.{has_float}
+use Rattle.scene_rules.specs.Parts.{Json, Name, Part, is_among}
+use Rattle.scene_rules.specs.Rulebook.{Facts}
+use Rattle.scene_rules.specs.Laws.{Ascend, DeclaresKnown}
+use Rattle.scene_basics.specs.declared.data.Datum.{Datum}
+use Rattle.scene_basics.specs.declared.data.Datum.TheVariants.{Whole, Owner}
+use Rattle.scene_basics.specs.declared.data.BasicSystem.{BasicSystem}
+use Rattle.scene_basics.specs.declared.data.BasicSystem.TheVariants.{Drift, Pull, Decay, Reap, Bud}
+use Rattle.scene_basics.specs.Names.{hp_kind, owner_kind, pos_kind, vel_kind, g_name, drift_kind, pull_kind, decay_kind, reap_kind, bud_kind, part_kinds, number_kinds}
+use Rattle.scene_basics.specs.Numbers.{json_of, counting, referring, part_of, whole_in, is_signed, if_signed, signed_in, id_in, refers_once, refers_never, read_part, read_global, admits}
+use Rattle.scene_basics.specs.Systems.{kind_of, system_named, access_of, facts_of, configured, basics}
+
+-- a whole number is read back as it was written
+pub whole_in-json_of : (z : ℤ) → whole_in (json_of z) ≡ Some z
+whole_in-json_of (pos n) = refl
+whole_in-json_of (negsuc n) = refl
+
+-- a number that fits 64 signed bits is one of them
+pub is_signed-fits : (z : ℤ) → FitsSigned w64 z → is_signed z ≡ true
+is_signed-fits (pos n) fits = (Decides-ltb n (2 ^ 63)).1 fits.sfits
+is_signed-fits (negsuc n) fits = (Decides-ltb n (2 ^ 63)).1 fits.sfits
+
+-- a number that is read is one of 64 signed bits, and is that number
+pub if_signed-some : (z read : ℤ) → if_signed z ≡ Some read → (is_signed read ≡ true) × (z ≡ read)
+if_signed-some z read e = here (is_signed z) refl e
+  where
+    here : (b : Bool) → is_signed z ≡ b → cond b (Some z) None ≡ Some read → (is_signed read ≡ true) × (z ≡ read)
+    here true is f = (subst (λ (x : ℤ). is_signed x ≡ true) (same_Some z read f) is, same_Some z read f)
+    here false is f = absurd (none-some read f)
+
+pub signed_in-some : (o : Option ℤ) (read : ℤ) → option_and_then if_signed o ≡ Some read → is_signed read ≡ true
+signed_in-some None read e = absurd (none-some read e)
+signed_in-some (Some z) read e = (if_signed-some z read e).0
+
+-- a number of 64 signed bits is read back as it was written
+pub signed_in-json_of : (z : ℤ) → is_signed z ≡ true → signed_in (json_of z) ≡ Some z
+signed_in-json_of z is = ap (option_and_then if_signed) (whole_in-json_of z) ∙ ap (λ b. cond b (Some z) None) is
+
+-- what `as_i64` reads is the number of 64 signed bits
+pub signed_in-as_i64 : (json : Json) (read : Option ℤ) → read ≡ option_and_then as_i64 (as_number json) → ((z : ℤ) → read ≡ Some z → FitsSigned w64 z) → read ≡ signed_in json
+signed_in-as_i64 null read e fits = e
+signed_in-as_i64 (boolean b) read e fits = e
+signed_in-as_i64 (number (unsigned n)) read e fits = e
+signed_in-as_i64 (number (negative z)) read e fits = e ∙ sym (ap (λ b. cond b (Some z) None) (is_signed-fits z (fits z e)))
+signed_in-as_i64 (number (float x)) read e fits = e
+signed_in-as_i64 (string s) read e fits = e
+signed_in-as_i64 (array _) read e fits = e
+signed_in-as_i64 (object _) read e fits = e
+
+-- a list of no references is no one reference
+pub refers_once-none : (id : Option ℕ) → refers_once id [] ≡ false
+refers_once-none None = refl
+refers_once-none (Some id) = refl
+
+-- one of the kinds of numbers is not `owner`
+pub number_kind-owner : (kind : Name) → bytes_eq kind owner_kind ≡ true → is_among kind number_kinds ≡ false
+number_kind-owner kind is = subst (λ (other : Name). is_among other number_kinds ≡ false) (sym ((bytes_eq-Decides kind owner_kind).0 is)) refl
+
+-- a number that fits is of the kinds of numbers
+pub admits-counting : (kind : Name) (z : ℤ) → FitsSigned w64 z → is_among kind number_kinds ≡ admits kind (counting z)
+admits-counting kind z fits = here (bytes_eq kind owner_kind) refl
+  where
+    signed : (is_some (signed_in (json_of z)) && true) ≡ true
+    signed = ap (λ o. is_some o && true) (signed_in-json_of z (is_signed-fits z fits))
+
+    among : (b : Bool) → b ≡ (b && (is_some (signed_in (json_of z)) && true))
+    among true = sym signed
+    among false = refl
+
+    here : (b : Bool) → bytes_eq kind owner_kind ≡ b → is_among kind number_kinds ≡ cond b (refers_once (id_in (json_of z)) []) (is_among kind number_kinds && (is_some (signed_in (json_of z)) && true))
+    here true is = number_kind-owner kind is ∙ sym (refers_once-none (id_in (json_of z)))
+    here false is = among (is_among kind number_kinds)
+
+-- a reference is of the kind `owner`
+pub admits-referring : (kind : Name) (id : ℕ) → bytes_eq kind owner_kind ≡ admits kind (referring id)
+admits-referring kind id = here (bytes_eq kind owner_kind) (is_among kind number_kinds) (is_some (signed_in (number (unsigned id))))
+  where
+    here : (b c d : Bool) → b ≡ cond b (eqb id id) (c && (d && false))
+    here true c d = sym ((Decides-eqb id id).1 refl)
+    here false true true = refl
+    here false true false = refl
+    here false false d = refl
+
+-- what is read under a kind is of that kind
+pub law-reads_admitted : (kind : Name) (json : Json) (part : Part) → read_part kind json ≡ Some part → admits kind part ≡ true
+law-reads_admitted kind json part read = here (bytes_eq kind owner_kind) (is_among kind number_kinds) read
+  where
+    owner : (o : Option ℕ) → option_map referring o ≡ Some part → refers_once (id_in part.json) part.refs ≡ true
+    owner None e = absurd (none-some part e)
+    owner (Some id) e = subst (λ (p : Part). refers_once (id_in p.json) p.refs ≡ true) (same_Some (referring id) part e) ((Decides-eqb id id).1 refl)
+
+    whole : (o : Option ℤ) → ((z : ℤ) → o ≡ Some z → is_signed z ≡ true) → option_map counting o ≡ Some part → (is_some (signed_in part.json) && refers_never part.refs) ≡ true
+    whole None signed e = absurd (none-some part e)
+    whole (Some z) signed e = subst (λ (p : Part). (is_some (signed_in p.json) && refers_never p.refs) ≡ true) (same_Some (counting z) part e) (ap (λ o. is_some o && true) (signed_in-json_of z (signed z refl)))
+
+    here : (b c : Bool) → cond b (option_map referring (id_in json)) (cond c (option_map counting (signed_in json)) None) ≡ Some part → cond b (refers_once (id_in part.json) part.refs) (c && (is_some (signed_in part.json) && refers_never part.refs)) ≡ true
+    here true c e = owner (id_in json) e
+    here false true e = whole (signed_in json) (λ z is. signed_in-some (whole_in json) z is) e
+    here false false e = absurd (none-some part e)
+
+-- what is written is read back under a kind that admits it
+pub law-reads_back : (kind : Name) (datum : Datum) → admits kind (part_of datum) ≡ true → read_part kind (part_of datum).json ≡ Some (part_of datum)
+law-reads_back kind (Whole z) admitted = here (bytes_eq kind owner_kind) (is_among kind number_kinds) admitted
+  where
+    signed : (o : Option ℤ) → o ≡ signed_in (json_of z) → (is_some o && true) ≡ true → o ≡ Some z
+    signed None is e = absurd (false≢true e)
+    signed (Some other) is e = is ∙ signed_in-json_of z (subst (λ (x : ℤ). is_signed x ≡ true) (sym (same z other (sym is))) (signed_in-some (whole_in (json_of z)) other (sym is)))
+      where
+        same : (z other : ℤ) → signed_in (json_of z) ≡ Some other → z ≡ other
+        same z other e = (if_signed-some z other (sym (ap (option_and_then if_signed) (whole_in-json_of z)) ∙ e)).1
+
+    here : (b c : Bool) → cond b (refers_once (id_in (json_of z)) []) (c && (is_some (signed_in (json_of z)) && true)) ≡ true → cond b (option_map referring (id_in (json_of z))) (cond c (option_map counting (signed_in (json_of z))) None) ≡ Some (counting z)
+    here true c e = absurd (false≢true (sym (refers_once-none (id_in (json_of z))) ∙ e))
+    here false true e = ap (option_map counting) (signed (signed_in (json_of z)) refl e)
+    here false false e = absurd (false≢true e)
+law-reads_back kind (Owner id) admitted = here (bytes_eq kind owner_kind) (is_among kind number_kinds) (is_some (signed_in (number (unsigned id)))) admitted
+  where
+    here : (b c d : Bool) → cond b (eqb id id) (c && (d && false)) ≡ true → cond b (Some (referring id)) (cond c (option_map counting (signed_in (number (unsigned id)))) None) ≡ Some (referring id)
+    here true c d e = refl
+    here false true true e = absurd (false≢true e)
+    here false true false e = absurd (false≢true e)
+    here false false d e = absurd (false≢true e)
+
+-- a global's value is read back as it was written, where it is read
+pub law-global_reads_back : (name : Name) (z : ℤ) (read : Json) → read_global name (json_of z) ≡ Some read → read ≡ json_of z
+law-global_reads_back name z read e = found (signed_in (json_of z)) (λ other is. (if_signed-some z other (sym (ap (option_and_then if_signed) (whole_in-json_of z)) ∙ is)).1) e
+  where
+    found : (o : Option ℤ) → ((other : ℤ) → o ≡ Some other → z ≡ other) → option_map json_of o ≡ Some read → read ≡ json_of z
+    found None same is = absurd (none-some read is)
+    found (Some other) same is = sym (same_Some (json_of other) read is) ∙ ap json_of (sym (same other refl))
+
+-- no float is written for a whole number, and none for a datum
+pub law-no_global_float : (z : ℤ) → has_float (json_of z) ≡ false
+law-no_global_float (pos n) = refl
+law-no_global_float (negsuc n) = refl
+
+pub law-no_float : (datum : Datum) → has_float (part_of datum).json ≡ false
+law-no_float (Whole z) = law-no_global_float z
+law-no_float (Owner id) = refl
+
+-- the names ascend
+abbrev Below : Name → Name → Type 0
+Below one other = slice_cmp nat_cmp one other ≡ Less
+
+pub law-kinds_ascend : Ascend part_kinds
+law-kinds_ascend =
+    AllPairs-cons Below hp_kind (owner_kind ∷ pos_kind ∷ vel_kind ∷ []) (All-cons (Below hp_kind) owner_kind (pos_kind ∷ vel_kind ∷ []) refl (All-cons (Below hp_kind) pos_kind (vel_kind ∷ []) refl (All-cons (Below hp_kind) vel_kind [] refl (All-nil (Below hp_kind)))))
+    (AllPairs-cons Below owner_kind (pos_kind ∷ vel_kind ∷ []) (All-cons (Below owner_kind) pos_kind (vel_kind ∷ []) refl (All-cons (Below owner_kind) vel_kind [] refl (All-nil (Below owner_kind))))
+    (AllPairs-cons Below pos_kind (vel_kind ∷ []) (All-cons (Below pos_kind) vel_kind [] refl (All-nil (Below pos_kind)))
+    (AllPairs-cons Below vel_kind [] (All-nil (Below vel_kind)) (λ i j d lt within. absurd (below_none (λ (k : ℕ). ⊥) j within)))))
+
+pub law-globals_ascend : Ascend (g_name ∷ [])
+law-globals_ascend = AllPairs-cons Below g_name [] (All-nil (Below g_name)) (λ i j d lt within. absurd (below_none (λ (k : ℕ). ⊥) j within))
+
+-- a system's kind names it
+pub system_named-kind_of : (system : BasicSystem) → system_named (kind_of system) ≡ Some system
+system_named-kind_of Drift = refl
+system_named-kind_of Pull = refl
+system_named-kind_of Decay = refl
+system_named-kind_of Reap = refl
+system_named-kind_of Bud = refl
+
+-- a system that a kind names is of that kind
+pub kind_of-system_named : (kind : Name) (system : BasicSystem) → system_named kind ≡ Some system → kind_of system ≡ kind
+kind_of-system_named kind system is = here (bytes_eq kind drift_kind) (bytes_eq kind pull_kind) (bytes_eq kind decay_kind) (bytes_eq kind reap_kind) (bytes_eq kind bud_kind) ((bytes_eq-Decides kind drift_kind).0) ((bytes_eq-Decides kind pull_kind).0) ((bytes_eq-Decides kind decay_kind).0) ((bytes_eq-Decides kind reap_kind).0) ((bytes_eq-Decides kind bud_kind).0) is
+  where
+    here : (a b c d f : Bool) → (a ≡ true → kind ≡ drift_kind) → (b ≡ true → kind ≡ pull_kind) → (c ≡ true → kind ≡ decay_kind) → (d ≡ true → kind ≡ reap_kind) → (f ≡ true → kind ≡ bud_kind) → cond a (Some Drift) (cond b (Some Pull) (cond c (Some Decay) (cond d (Some Reap) (cond f (Some Bud) None)))) ≡ Some system → kind_of system ≡ kind
+    here true b c d f one two three four five e = subst (λ (s : BasicSystem). kind_of s ≡ kind) (same_Some Drift system e) (sym (one refl))
+    here false true c d f one two three four five e = subst (λ (s : BasicSystem). kind_of s ≡ kind) (same_Some Pull system e) (sym (two refl))
+    here false false true d f one two three four five e = subst (λ (s : BasicSystem). kind_of s ≡ kind) (same_Some Decay system e) (sym (three refl))
+    here false false false true f one two three four five e = subst (λ (s : BasicSystem). kind_of s ≡ kind) (same_Some Reap system e) (sym (four refl))
+    here false false false false true one two three four five e = subst (λ (s : BasicSystem). kind_of s ≡ kind) (same_Some Bud system e) (sym (five refl))
+    here false false false false false one two three four five e = absurd (none-some system e)
+
+-- a configuration that is null is null
+pub null-as_null : (config : Json) → is_some (as_null config) ≡ true → null ≡ config
+null-as_null null e = refl
+null-as_null (boolean b) e = absurd (false≢true e)
+null-as_null (number n) e = absurd (false≢true e)
+null-as_null (string s) e = absurd (false≢true e)
+null-as_null (array _) e = absurd (false≢true e)
+null-as_null (object _) e = absurd (false≢true e)
+
+-- what is known of a configured system is known of the system
+pub configured-facts : (system : BasicSystem) (config : Json) (facts : Facts) → configured (Some system) config ≡ Some (Some facts) → facts_of system ≡ facts
+configured-facts system config facts e = here (is_some (as_null config)) e
+  where
+    here : (b : Bool) → cond b (Some (Some (facts_of system))) None ≡ Some (Some facts) → facts_of system ≡ facts
+    here true f = same_Some (facts_of system) facts (same_Some (Some (facts_of system)) (Some facts) f)
+    here false f = absurd (none-some (Some facts) f)
+
+abbrev KindKnown : Name → Type 0
+KindKnown kind = is_among kind part_kinds ≡ true
+
+abbrev GlobalKnown : Name → Type 0
+GlobalKnown name = is_among name (g_name ∷ []) ≡ true
+
+-- a list of one kind of the rules has kinds of the rules alone, and so has the list of the global
+kind-known : (kind : Name) → is_among kind part_kinds ≡ true → All KindKnown (kind ∷ [])
+kind-known kind is = All-cons KindKnown kind [] is (All-nil KindKnown)
+
+global-known : All GlobalKnown (g_name ∷ [])
+global-known = All-cons GlobalKnown g_name [] refl (All-nil GlobalKnown)
+
+-- what a system declares is the rules'
+pub declares-known : (system : BasicSystem) → DeclaresKnown basics (access_of system)
+declares-known Drift = record { reads = kind-known vel_kind refl; writes = kind-known pos_kind refl; read_globals = All-nil GlobalKnown; written_globals = All-nil GlobalKnown }
+declares-known Pull = record { reads = All-nil KindKnown; writes = kind-known vel_kind refl; read_globals = global-known; written_globals = All-nil GlobalKnown }
+declares-known Decay = record { reads = All-nil KindKnown; writes = kind-known hp_kind refl; read_globals = All-nil GlobalKnown; written_globals = All-nil GlobalKnown }
+declares-known Reap = record { reads = kind-known hp_kind refl; writes = All-nil KindKnown; read_globals = All-nil GlobalKnown; written_globals = All-nil GlobalKnown }
+declares-known Bud = record { reads = All-cons KindKnown hp_kind (pos_kind ∷ []) refl (kind-known pos_kind refl); writes = All-nil KindKnown; read_globals = All-nil GlobalKnown; written_globals = All-nil GlobalKnown }
+
+pub law-declares_known : (kind : Name) (config : Json) (facts : Facts) → configured (system_named kind) config ≡ Some (Some facts) → DeclaresKnown basics facts.access
+law-declares_known kind config facts e = here (system_named kind) e
+  where
+    here : (found : Option BasicSystem) → configured found config ≡ Some (Some facts) → DeclaresKnown basics facts.access
+    here None f = absurd (none-some facts (same_Some None (Some facts) f))
+    here (Some system) f = subst (λ (some : Facts). DeclaresKnown basics some.access) (configured-facts system config facts f) (declares-known system)

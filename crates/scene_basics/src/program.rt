@@ -1,0 +1,40 @@
+//! The program, over any reader and writers.
+ghost use Rattle.std.specs.Prelude.{◌≡◌};
+ghost use Rattle.scene_basics.specs.Program.{RunsProgram};
+
+use crate::lines::{status, write_line};
+use crate::rules::Basics;
+use scene::{CountedRead, CountedWrite, run};
+
+/// Runs the document that `reader` gives, writes the text of the scene that it reaches to `out`, and answers the status.
+///
+/// The status is 0 where all frames are done, 1 where the document is refused, 2 where a frame is (and the text before it
+/// is written), 3 where a read or a write failed, 4 where memory was wanting. But for 0 one line goes to `err`; a failure
+/// there is passed over, and the status stays.
+pub fn program<H: AllocGlobal, R: CountedRead, O: CountedWrite, E: CountedWrite>(
+    rt: &H,
+    reader: &mut R,
+    out: &mut O,
+    err: &mut E,
+) -> u8
+    ensures { RunsProgram result
+        (record {
+          left_before = R.remaining reader.old;
+          left_after = R.remaining reader.new;
+          failures_before = R.fault_count reader.old;
+          failures_after = R.fault_count reader.new;
+        })
+        (record {
+          held_before = O.contents out.old;
+          held_after = O.contents out.new;
+          failures_before = O.fault_count out.old;
+          failures_after = O.fault_count out.new;
+          untouched = out.new ≡ out.old;
+          flushed = O.flushed out.new;
+        })
+        (E.contents err.old) (E.contents err.new) (E.fault_count err.old) (E.fault_count err.new) }
+{
+    let outcome = run(rt, Basics, reader, out);
+    write_line(err, &outcome);
+    status(&outcome)
+}

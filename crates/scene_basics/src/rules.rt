@@ -1,0 +1,212 @@
+//! The program's rules.
+ghost use Rattle.std.specs.Prelude.{◌≡◌, None, Some};
+ghost use Rattle.std.proofs.Common.{rules};
+ghost use Rattle.serde_json.specs.View.{view};
+ghost use Rattle.scene_rules.specs.Parts.{is_among};
+ghost use Rattle.scene_basics.specs.Names.{number_kinds};
+ghost use Rattle.serde_json.specs.Data.{null};
+ghost use Rattle.scene_basics.specs.Numbers.{part_of, json_of, signed_in};
+ghost use Rattle.scene_basics.specs.Systems.{basics, kind_of, system_named};
+
+use crate::data::{BasicSystem, Datum, G, HP, OWNER, POS, VEL};
+use crate::systems::turn;
+use scene::{Accessor, PlainView, Queue, ReadError, Rules, RunningTime, Stop};
+use serde_json::Value;
+use std::alloc::{AllocError, Global};
+
+/// The rules of the program: the parts `hp`, `owner`, `pos` and `vel`, the global `g`, and the systems `drift`, `pull`,
+/// `decay`, `reap` and `bud`.
+#[derive(Clone, Copy, Debug)]
+pub struct Basics;
+
+/// The system of a kind, if it is one of the program's.
+pub fn system_of(kind: &str) -> Option<BasicSystem>
+    ensures { result ≡ system_named kind.now }
+{
+    if kind == "drift" {
+        return Some(BasicSystem::Drift);
+    }
+    if kind == "pull" {
+        return Some(BasicSystem::Pull);
+    }
+    if kind == "decay" {
+        return Some(BasicSystem::Decay);
+    }
+    if kind == "reap" {
+        return Some(BasicSystem::Reap);
+    }
+    if kind == "bud" {
+        return Some(BasicSystem::Bud);
+    }
+    None
+}
+
+/// The number of 64 signed bits that a JSON is.
+fn signed(value: &Value) -> Option<i64>
+    ensures { result ≡ signed_in (view value.now) }
+{
+    value.as_i64()
+}
+
+/// Whether the parts of a kind are numbers.
+fn is_number_kind(kind: &str) -> bool
+    ensures { result ≡ is_among kind.now number_kinds }
+{
+    kind == HP || kind == POS || kind == VEL
+}
+
+impl Rules for Basics {
+    ghost use Rattle.scene_basics.specs.RuleLaws.{law-reads_admitted, law-reads_back, law-global_reads_back, law-no_float, law-no_global_float, law-kinds_ascend, law-globals_ascend, law-declares_known};
+
+    type Data = Datum;
+
+    type Global = i64;
+
+    type System = BasicSystem;
+
+    ghost book = { λ _. basics };
+
+    ghost part_of = { part_of };
+
+    ghost global_of = { json_of };
+
+    ghost kind_of = { kind_of };
+
+    ghost config_of = { λ _. null };
+
+    fn part_names(&self) -> &[&'static str] {
+        &[HP, OWNER, POS, VEL]
+    }
+
+    fn global_names(&self) -> &[&'static str] {
+        &[G]
+    }
+
+    fn read_data(&self, _alloc: Global, kind: &str, value: &Value) -> Result<Datum, ReadError> {
+        if kind == OWNER {
+            return value.as_u64().map(Datum::Owner).ok_or(ReadError::Shape);
+        }
+        signed(value).map(Datum::Whole).ok_or(ReadError::Shape)
+    }
+
+    fn write_data(&self, _alloc: Global, datum: &Datum) -> Result<Value, AllocError> {
+        match *datum {
+            Datum::Whole(whole) => Ok(Value::from(whole)),
+            Datum::Owner(id) => Ok(Value::from(id)),
+        }
+    }
+
+    fn admits(&self, kind: &str, datum: &Datum) -> bool {
+        match *datum {
+            Datum::Whole(_whole) => is_number_kind(kind),
+            Datum::Owner(_) => kind == OWNER,
+        }
+    }
+
+    fn refs(&self, alloc: Global, datum: &Datum) -> Result<Vec<u64>, AllocError> {
+        match *datum {
+            Datum::Whole(_) => Ok(Vec::new(alloc)),
+            Datum::Owner(id) => Ok(vec![in alloc; id]?),
+        }
+    }
+
+    fn read_global(&self, _alloc: Global, _name: &str, value: &Value) -> Result<i64, ReadError> {
+        signed(value).ok_or(ReadError::Shape)
+    }
+
+    fn write_global(&self, _alloc: Global, global: &i64) -> Result<Value, AllocError> {
+        Ok(Value::from(*global))
+    }
+
+    fn make_system(
+        &self,
+        _alloc: Global,
+        kind: &str,
+        config: &Value,
+    ) -> Result<Option<BasicSystem>, ReadError> {
+        let Some(system) = system_of(kind) else {
+            return Ok(None);
+        };
+        if config.is_null() {
+            Ok(Some(system))
+        } else {
+            Err(ReadError::Shape)
+        }
+    }
+
+    fn accessor(&self, alloc: Global, system: &BasicSystem) -> Result<Accessor, AllocError> {
+        match *system {
+            BasicSystem::Drift => Ok(Accessor {
+                reads: vec![in alloc; VEL]?,
+                writes: vec![in alloc; POS]?,
+                read_globals: Vec::new(alloc),
+                written_globals: Vec::new(alloc),
+                writes_reserved: false,
+            }),
+            BasicSystem::Pull => Ok(Accessor {
+                reads: Vec::new(alloc),
+                writes: vec![in alloc; VEL]?,
+                read_globals: vec![in alloc; G]?,
+                written_globals: Vec::new(alloc),
+                writes_reserved: false,
+            }),
+            BasicSystem::Decay => Ok(Accessor {
+                reads: Vec::new(alloc),
+                writes: vec![in alloc; HP]?,
+                read_globals: Vec::new(alloc),
+                written_globals: Vec::new(alloc),
+                writes_reserved: false,
+            }),
+            BasicSystem::Reap => Ok(Accessor {
+                reads: vec![in alloc; HP]?,
+                writes: Vec::new(alloc),
+                read_globals: Vec::new(alloc),
+                written_globals: Vec::new(alloc),
+                writes_reserved: false,
+            }),
+            BasicSystem::Bud => Ok(Accessor {
+                reads: vec![in alloc; HP, POS]?,
+                writes: Vec::new(alloc),
+                read_globals: Vec::new(alloc),
+                written_globals: Vec::new(alloc),
+                writes_reserved: false,
+            }),
+        }
+    }
+
+    fn running_time(&self, _system: &BasicSystem) -> RunningTime
+        ensures { result ≡ RunningTime.Average }
+    {
+        RunningTime::Average
+    }
+
+    fn run<H: AllocGlobal>(
+        &self,
+        rt: &H,
+        system: &mut BasicSystem,
+        view: &mut PlainView<'_, Datum, i64>,
+        queue: &mut Queue<Datum>,
+    ) -> Result<(), Stop> {
+        turn(rt, *system, view, queue)
+    }
+
+    ghost kinds_ascend = { λ _. law-kinds_ascend };
+
+    ghost globals_ascend = { λ _. law-globals_ascend };
+
+    ghost clones = { Prim.search rules };
+
+    ghost global_clones = { Prim.search rules };
+
+    ghost reads_admitted = { λ _. law-reads_admitted };
+
+    ghost reads_back = { λ _. law-reads_back };
+
+    ghost global_reads_back = { λ _. law-global_reads_back };
+
+    ghost no_float = { law-no_float };
+
+    ghost no_global_float = { law-no_global_float };
+
+    ghost declares_known = { λ _. law-declares_known };
+}

@@ -1,0 +1,27 @@
+//! Rows of documents, of devices and of rules, which no contract says.
+#![tactic(auto)]
+
+#[cfg(test)]
+mod carrier;
+#[cfg(test)]
+mod counts;
+#[cfg(test)]
+mod devices;
+#[cfg(test)]
+mod documents;
+#[cfg(test)]
+mod failures;
+#[cfg(test)]
+mod founders;
+#[cfg(test)]
+mod frames;
+#[cfg(test)]
+mod laws;
+#[cfg(test)]
+mod limits;
+#[cfg(test)]
+mod memory;
+#[cfg(test)]
+mod refusals;
+#[cfg(test)]
+mod runs;

@@ -1,6 +1,0 @@
-use Rattle.scenerun.specs.Systems.{system_named}
-use Rattle.scenerun.proofs.LawLemmas.{Makes-same}
-use Rattle.scenerun.proofs.laws.a_turn_has_one_outcome.Goals as goal
-
-pub returns : goal.returns
-returns c = λ kind config old one other. Makes-same (system_named kind) old one other

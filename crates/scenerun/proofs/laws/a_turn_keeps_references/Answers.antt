@@ -1,6 +1,0 @@
-use Rattle.scenerun.specs.Systems.{system_named}
-use Rattle.scenerun.proofs.LawLemmas.{Makes-keeps}
-use Rattle.scenerun.proofs.laws.a_turn_keeps_references.Goals as goal
-
-pub returns : goal.returns
-returns c = λ kind config old left commands. Makes-keeps (system_named kind) old left commands

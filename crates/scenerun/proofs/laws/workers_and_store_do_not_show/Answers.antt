@@ -1,9 +1,0 @@
-use Rattle.scenerun.specs.Systems.{system_named}
-use Rattle.scenerun.proofs.LawLemmas.{Makes-same}
-use Rattle.scenerun.proofs.laws.workers_and_store_do_not_show.Goals as goal
-
-pub returns-clause-report : goal.returns-clause-report
-returns-clause-report c = λ bounds input other one two first second text more. c.workers_and_store_change_nothing.ensures.report bounds input other one two first second text more (λ kind config old here there. Makes-same (system_named kind) old here there)
-
-pub returns-clause-text : goal.returns-clause-text
-returns-clause-text c = λ bounds input other one two first second text more. c.workers_and_store_change_nothing.ensures.text bounds input other one two first second text more (λ kind config old here there. Makes-same (system_named kind) old here there)

@@ -1,5 +1,0 @@
-use Rattle.specs_store.proofs.FlagSteps.{flag-put}
-use Rattle.specs_store.proofs.storages.null.NullStorageUnprotectedStorage.insert.Goals as goal
-
-pub returns-in-Ok-clause-ok : goal.returns-in-Ok-clause-ok
-returns-in-Ok-clause-ok g c = flag-put g.T.Single.same c.args.self.now.value c.args.self.now.present c.add.new.self c.args.id c.args.part c.in-Ok.ensures.ok

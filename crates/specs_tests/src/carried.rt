@@ -1,0 +1,4 @@
+//! The cases of the Rust crate's own tests of entities, storages and joins, written anew.
+mod births;
+mod joined;
+mod layouts;
