@@ -1,21 +1,20 @@
--- The least dynamic number among the entries of a hashed map.
-use Rattle.std.proofs.Common.{◌≡◌, ℕ, ◌<◌, ◌≤◌, min, Bool, true, false, cond, ◌&&◌, Option, None, Some, IsSome, List, [], ◌∷◌, ◌⊎◌, inl, inr, refl, sym, ap, subst, ◌∙◌, arith}
+-- The least dynamic number among the slots of a world.
+use Rattle.std.proofs.Common.{◌≡◌, ℕ, ◌≤◌, min, Bool, true, false, cond, ◌&&◌, Option, None, Some, IsSome, List, [], ◌∷◌, ◌⊎◌, inl, inr, refl, sym, ap, subst, ◌∙◌, arith}
 use Rattle.std.specs.Prelude.{◌==◌, is_some, nat_le}
 use Rattle.std.specs.Map.{lookup, keys_of}
-use Rattle.std.specs.Option.{option_flatten, option_map_or}
+use Rattle.std.specs.Option.{option_flatten}
 use Rattle.std.proofs.lemmas.Bool.Decides.{nat_tests}
 use Rattle.std.specs.List.{IsDistinct}
 use Rattle.std.specs.FinMap.{get}
 use Rattle.shred_world.specs.declared.resource_id.ResourceId.{ResourceId}
-use Rattle.shred_world.specs.ResourceIds.{id_of}
+use Rattle.shred_world.specs.ResourceIds.{id_of, same_id}
 use Rattle.shred_world.specs.Worlds.{Slots, IsLeastFrom}
-use Rattle.std.specs.Cmp.{IsEquivalence}
 use Rattle.std.proofs.lemmas.Bool.{false≢true}
 use Rattle.std.proofs.lemmas.Map.{lookup-none}
 use Rattle.std.proofs.lemmas.Map.Entries.{none_past_head}
 use native.Mathlib.Decide.{dec_le}
-use Rattle.shred_world.proofs.IdLemmas.{same_id-fields, same_id-is, same_id-itself, same_id_equiv}
-use Rattle.shred_world.proofs.WorldLemmas.{key_eq, some_is}
+use Rattle.shred_world.proofs.IdLemmas.{same_id-is, same_id-itself, same_id_equiv}
+use Rattle.shred_world.proofs.WorldLemmas.{some_is}
 
 -- the lesser of two numbers, where they are there
 abbrev pub lesser : Option ℕ → Option ℕ → Option ℕ
@@ -38,12 +37,6 @@ module _ {V : Type 0} where
 lesser_is : (x y : ℕ) → (min x y ≡ x) ⊎ (min x y ≡ y)
 lesser_is x y = elim (dec_le x y) [ yes h ↦ inl (omega arith) | no h ↦ inr (omega arith) ]
 
--- one more entry that counts
-pub next_counted : (least : Option ℕ) (d : ℕ) (rest : Option ℕ) → lesser (Some (option_map_or (λ x. min x d) least d)) rest ≡ lesser least (lesser (Some d) rest)
-next_counted None d rest = refl
-next_counted (Some x) d None = refl
-next_counted (Some x) d (Some y) = ap Some (omega arith)
-
 none_is : (m : ℕ) → None ≡ Some m → ⊥
 none_is m e = cc
 
@@ -58,15 +51,8 @@ rest_bounds (Some x) rest m d is below = (min x m, ap (lesser (Some x)) is, omeg
 least_case : (x y m : ℕ) → min x y ≡ m → (P : ℕ → Type 0) → P x → P y → P m
 least_case x y m is P p q = elim (lesser_is x y) [ inl e ↦ subst P (sym e ∙ is) p | inr e ↦ subst P (sym e ∙ is) q ]
 
-key_eq_equiv : IsEquivalence key_eq
-key_eq_equiv = record {
-  refl = λ a. sym (same_id-fields a a) ∙ same_id-itself a;
-  symm = λ a b. sym (same_id-fields a b) ∙ same_id_equiv.symm a b ∙ same_id-fields b a;
-  congr = λ a b c e. sym (same_id-fields a c) ∙ same_id_equiv.congr a b c (same_id-fields a b ∙ e) ∙ same_id-fields b c;
-}
-
-key_of_number : (kind : ℕ) (id : ResourceId) → id.kind ≡ kind → key_eq (id_of kind id.dynamic) id ≡ true
-key_of_number kind id same = ap (λ k. key_eq (id_of k id.dynamic) id) (sym same) ∙ sym (same_id-fields id id) ∙ same_id-itself id
+key_of_number : (kind : ℕ) (id : ResourceId) → id.kind ≡ kind → same_id (id_of kind id.dynamic) id ≡ true
+key_of_number kind id same = ap (λ k. same_id (id_of k id.dynamic) id) (sym same) ∙ same_id-itself id
 
 module _ {V : Type 0} (kind from : ℕ) where
   when_counts : (e : ResourceId × Option V) → counts kind from e ≡ true → (is_some e.1 ≡ true) × (e.0.kind ≡ kind) × (from ≤ e.0.dynamic)
@@ -75,54 +61,45 @@ module _ {V : Type 0} (kind from : ℕ) where
   pub counted : (id : ResourceId) (slot : Option V) → is_some slot ≡ true → id.kind ≡ kind → from ≤ id.dynamic → counts kind from (id, slot) ≡ true
   counted id slot there same above = grind (arith, nat_tests)
 
-  pub uncounted_slot : (id : ResourceId) (slot : Option V) → is_some slot ≡ false → counts kind from (id, slot) ≡ false
-  uncounted_slot id slot there = grind (arith, nat_tests)
-
-  pub uncounted_kind : (id : ResourceId) (slot : Option V) → (id.kind ≡ kind → ⊥) → counts kind from (id, slot) ≡ false
-  uncounted_kind id slot other = grind (arith, nat_tests)
-
-  pub uncounted_number : (id : ResourceId) (slot : Option V) → id.dynamic < from → counts kind from (id, slot) ≡ false
-  uncounted_number id slot below = grind (arith, nat_tests)
-
   number_at : (e : ResourceId × Option V) (d : ℕ) (v : V) → id_of kind d ≡ e.0 → e.1 ≡ Some v → from ≤ d → number_of kind from e ≡ Some d
   number_at e d v same there above =
       ap (λ b. cond b (Some e.0.dynamic) None) (counted e.0 e.1 (ap is_some there) (sym (ap (λ id. id.kind) same)) (subst (λ n. from ≤ n) (ap (λ id. id.dynamic) same) above))
       ∙ ap (λ id. Some id.dynamic) (sym same)
 
   -- what is found under a number is no less than the least
-  pub least_found : (d : ℕ) → from ≤ d → (es : List (ResourceId × Option V)) (v : V) → lookup (key_eq (id_of kind d)) es ≡ Some (Some v) → (m : ℕ) × (least_of kind from es ≡ Some m) × (m ≤ d)
+  pub least_found : (d : ℕ) → from ≤ d → (es : List (ResourceId × Option V)) (v : V) → lookup (same_id (id_of kind d)) es ≡ Some (Some v) → (m : ℕ) × (least_of kind from es ≡ Some m) × (m ≤ d)
   least_found d above [] v is = cc
-  least_found d above (e ∷ es) v is = by_head (key_eq (id_of kind d) e.0) refl is (least_found d above es v)
+  least_found d above (e ∷ es) v is = by_head (same_id (id_of kind d) e.0) refl is (least_found d above es v)
     where
-      by_head : (b : Bool) → key_eq (id_of kind d) e.0 ≡ b → cond b (Some e.1) (lookup (key_eq (id_of kind d)) es) ≡ Some (Some v)
-          → (lookup (key_eq (id_of kind d)) es ≡ Some (Some v) → (m : ℕ) × (least_of kind from es ≡ Some m) × (m ≤ d))
+      by_head : (b : Bool) → same_id (id_of kind d) e.0 ≡ b → cond b (Some e.1) (lookup (same_id (id_of kind d)) es) ≡ Some (Some v)
+          → (lookup (same_id (id_of kind d)) es ≡ Some (Some v) → (m : ℕ) × (least_of kind from es ≡ Some m) × (m ≤ d))
           → (m : ℕ) × (lesser (number_of kind from e) (least_of kind from es) ≡ Some m) × (m ≤ d)
       by_head true same is rest =
-          let here = number_at e d v (same_id-is (id_of kind d) e.0 (same_id-fields (id_of kind d) e.0 ∙ same)) (some_is e.1 (Some v) is) above in
+          let here = number_at e d v (same_id-is (id_of kind d) e.0 same) (some_is e.1 (Some v) is) above in
           let found = first_bounds d (least_of kind from es) in
           (found.0, ap (λ o. lesser o (least_of kind from es)) here ∙ found.1, found.2)
       by_head false same is rest = let found = rest is in rest_bounds (number_of kind from e) (least_of kind from es) found.0 d found.1 found.2
 
   -- the number isn't below `from`, and the entries hold a value under it
   abbrev pub stands_at : (d : ℕ) (es : List (ResourceId × Option V)) → Type 0
-  stands_at d es = (from ≤ d) × IsSome (option_flatten (lookup (key_eq (id_of kind d)) es))
+  stands_at d es = (from ≤ d) × IsSome (option_flatten (lookup (same_id (id_of kind d)) es))
 
   stands_here : (e : ResourceId × Option V) (es : List (ResourceId × Option V)) → counts kind from e ≡ true → stands_at e.0.dynamic (e ∷ es)
   stands_here e es counting =
       let parts = when_counts e counting in
-      (parts.2, ap is_some (ap option_flatten (ap (λ b. cond b (Some e.1) (lookup (key_eq (id_of kind e.0.dynamic)) es)) (key_of_number kind e.0 parts.1))) ∙ parts.0)
+      (parts.2, ap is_some (ap option_flatten (ap (λ b. cond b (Some e.1) (lookup (same_id (id_of kind e.0.dynamic)) es)) (key_of_number kind e.0 parts.1))) ∙ parts.0)
 
-  stands_later : (e : ResourceId × Option V) (es : List (ResourceId × Option V)) (d : ℕ) → IsDistinct key_eq (keys_of (e ∷ es)) → stands_at d es → stands_at d (e ∷ es)
-  stands_later e es d distinct later = (later.0, by_head (key_eq (id_of kind d) e.0) refl)
+  stands_later : (e : ResourceId × Option V) (es : List (ResourceId × Option V)) (d : ℕ) → IsDistinct same_id (keys_of (e ∷ es)) → stands_at d es → stands_at d (e ∷ es)
+  stands_later e es d distinct later = (later.0, by_head (same_id (id_of kind d) e.0) refl)
     where
-      by_head : (b : Bool) → key_eq (id_of kind d) e.0 ≡ b → IsSome (option_flatten (cond b (Some e.1) (lookup (key_eq (id_of kind d)) es)))
+      by_head : (b : Bool) → same_id (id_of kind d) e.0 ≡ b → IsSome (option_flatten (cond b (Some e.1) (lookup (same_id (id_of kind d)) es)))
       by_head true same =
-          let none = lookup-none (key_eq (id_of kind d)) es (none_past_head key_eq_equiv (id_of kind d) e es distinct same) in
+          let none = lookup-none (same_id (id_of kind d)) es (none_past_head same_id_equiv (id_of kind d) e es distinct same) in
           absurd (false≢true (ap (λ o. is_some (option_flatten o)) (sym none) ∙ later.1))
       by_head false same = later.1
 
   -- the least is the number of an entry
-  pub least_stands : (es : List (ResourceId × Option V)) → IsDistinct key_eq (keys_of es) → (m : ℕ) → least_of kind from es ≡ Some m → stands_at m es
+  pub least_stands : (es : List (ResourceId × Option V)) → IsDistinct same_id (keys_of es) → (m : ℕ) → least_of kind from es ≡ Some m → stands_at m es
   unfolding IsDistinct
   least_stands [] distinct m is = cc
   least_stands (e ∷ es) distinct m is = by_head (counts kind from e) refl (least_of kind from es) (least_stands es distinct.1) is
@@ -133,10 +110,10 @@ module _ {V : Type 0} (kind from : ℕ) where
       by_head false skipped o later is = stands_later e es m distinct (later m is)
 
   -- the least among the entries of a world is the least that it holds
-  pub least_is_least : (es : List (ResourceId × Option V)) → IsDistinct key_eq (keys_of es) → (w : Slots V) → ((id : ResourceId) → get w id ≡ lookup (key_eq id) es) → IsLeastFrom w kind from (least_of kind from es)
+  pub least_is_least : (es : List (ResourceId × Option V)) → IsDistinct same_id (keys_of es) → (w : Slots V) → ((id : ResourceId) → get w id ≡ lookup (same_id id) es) → IsLeastFrom w kind from (least_of kind from es)
   least_is_least es distinct w at = by (least_of kind from es) refl
     where
-      none_below : (d : ℕ) (o : Option (Option V)) → lookup (key_eq (id_of kind d)) es ≡ o → ((v : V) → o ≡ Some (Some v) → ⊥) → option_flatten (lookup (key_eq (id_of kind d)) es) ≡ None
+      none_below : (d : ℕ) (o : Option (Option V)) → lookup (same_id (id_of kind d)) es ≡ o → ((v : V) → o ≡ Some (Some v) → ⊥) → option_flatten (lookup (same_id (id_of kind d)) es) ≡ None
       none_below d None e never = ap option_flatten e
       none_below d (Some None) e never = ap option_flatten e
       none_below d (Some (Some v)) e never = absurd (never v refl)
@@ -152,18 +129,6 @@ module _ {V : Type 0} (kind from : ℕ) where
                 let same : f.0 ≡ m = some_is _ _ (sym f.1 ∙ is) in
                 absurd (omega (arith, f.2, same, below))),
           )
-
-module _ {V : Type 0} (kind from : ℕ) (e : ResourceId × Option V) (before after : List (ResourceId × Option V)) (next : before ≡ e ∷ after) (least all : Option ℕ)
-    (so_far : lesser least (least_of kind from before) ≡ all) where
-  -- a step of a walk over an entry that counts, and over one that doesn't
-  pub step_counted : (found : ℕ) → counts kind from e ≡ true → found ≡ option_map_or (λ x. min x e.0.dynamic) least e.0.dynamic → lesser (Some found) (least_of kind from after) ≡ all
-  step_counted found counting is =
-      ap (λ n. lesser (Some n) (least_of kind from after)) is ∙ next_counted least e.0.dynamic (least_of kind from after)
-      ∙ ap (λ b. lesser least (lesser (cond b (Some e.0.dynamic) None) (least_of kind from after))) (sym counting) ∙ ap (λ es. lesser least (least_of kind from es)) (sym next) ∙ so_far
-
-  pub step_skipped : counts kind from e ≡ false → lesser least (least_of kind from after) ≡ all
-  step_skipped skipped =
-      ap (λ b. lesser least (lesser (cond b (Some e.0.dynamic) None) (least_of kind from after))) (sym skipped) ∙ ap (λ es. lesser least (least_of kind from es)) (sym next) ∙ so_far
 
 nothing_left : (o : Option ℕ) → lesser o None ≡ o
 nothing_left None = refl

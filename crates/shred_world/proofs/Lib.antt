@@ -3,6 +3,8 @@ pub mod CallerLemmas
 pub mod IdLemmas
 pub mod LeastLemmas
 pub mod MetaLemmas
+pub mod PlaceLemmas
+pub mod SlotLemmas
 pub mod WorldLemmas
 pub mod TurnLemmas
 pub mod SharingLemmas

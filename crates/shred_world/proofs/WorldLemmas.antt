@@ -1,7 +1,6 @@
--- Facts on the slots of a world: what the entries of its hashed map make.
-use Rattle.std.proofs.Common.{◌≡◌, Bool, true, false, cond, ◌&&◌, Option, None, Some, List, [], ◌∷◌, OnSome, IfSome, IfNone, IsSome, MutBor, MatchOption, is_some, unwrap_or, refl, sym, ap, subst, ◌∙◌}
+-- Facts on the slots of a world: what a list of them makes.
+use Rattle.std.proofs.Common.{◌≡◌, Bool, true, false, cond, Option, None, Some, List, [], ◌∷◌, OnSome, IfSome, IfNone, IsSome, MutBor, MatchOption, is_some, unwrap_or, refl, sym, ap, subst, ◌∙◌}
 use Rattle.std.proofs.lemmas.Bool.{false≢true}
-use Rattle.std.specs.Prelude.{◌==◌}
 use Rattle.std.specs.Map.{lookup}
 use Rattle.std.specs.Option.{option_copied_mut, option_flatten, option_and_then}
 use Rattle.shred_world.specs.Worlds.{Slots, value_at, resource_at, HasKind}
@@ -11,44 +10,38 @@ use Rattle.std.specs.FinMap.{FinMap, from_entries, get, insert, find, get-from_e
 use Rattle.shred_world.specs.declared.resource_id.ResourceId.{ResourceId}
 use Rattle.shred_world.specs.ResourceIds.{id_cmp, same_id}
 use Rattle.shred_world.specs.Bundles.{DefaultsTo}
-use Rattle.shred_world.proofs.IdLemmas.{exact_ids, ids_total, same_id_equiv, same_id-fields, same_id-is, same_id-itself}
-
--- how the hashed map compares its keys
-abbrev pub key_eq : ResourceId → ResourceId → Bool
-key_eq a b = (a.kind == b.kind) && (a.dynamic == b.dynamic)
-
-turned : (a b : ResourceId) → key_eq a b ≡ same_id b a
-turned a b = sym (same_id-fields a b) ∙ same_id_equiv.symm a b
+use Rattle.shred_world.proofs.PlaceLemmas.{hidden}
+use Rattle.shred_world.proofs.IdLemmas.{exact_ids, ids_total, same_id-is, same_id-itself}
 
 module _ {X : Type 0} where
-  find_at : (es : List (ResourceId × X)) (q : ResourceId) → find id_cmp q es ≡ lookup (key_eq q) es
+  find_at : (es : List (ResourceId × X)) (q : ResourceId) → find id_cmp q es ≡ lookup (same_id q) es
   find_at [] q = refl
-  find_at (e ∷ es) q = (λ i. cond (same_id-fields q e.0 i) (Some e.1) (find_at es q i))
+  find_at (e ∷ es) q = ap (cond (same_id q e.0) (Some e.1)) (find_at es q)
 
   -- what the map that the entries make has at an id
-  pub get_made : (es : List (ResourceId × X)) (q : ResourceId) → get (from_entries {R = id_cmp} es) q ≡ lookup (key_eq q) es
+  pub get_made : (es : List (ResourceId × X)) (q : ResourceId) → get (from_entries {R = id_cmp} es) q ≡ lookup (same_id q) es
   get_made es q = get-from_entries ids_total es q ∙ find_at es q
 
   -- entries that differ at one id make maps that differ there
-  pub one_put : (es fs : List (ResourceId × X)) (id : ResourceId) (x : X) → ((q : ResourceId) → lookup (key_eq q) fs ≡ cond (key_eq id q) (Some x) (lookup (key_eq q) es))
+  pub one_put : (es fs : List (ResourceId × X)) (id : ResourceId) (x : X) → ((q : ResourceId) → lookup (same_id q) fs ≡ cond (same_id q id) (Some x) (lookup (same_id q) es))
       → from_entries {R = id_cmp} fs ≡ insert (from_entries es) id x
   one_put es fs id x h = same_map ids_total exact_ids _ _ (λ q.
-      get_made fs q ∙ h q ∙ ap (λ b. cond b (Some x) (lookup (key_eq q) es)) (turned id q)
+      get_made fs q ∙ h q
       ∙ sym (get-insert ids_total (from_entries es) id x q ∙ ap (cond (eq_by_cmp id_cmp q id) (Some x)) (get_made es q)))
 
   -- and so where one id is taken out
-  pub one_removed : (es fs : List (ResourceId × X)) (id : ResourceId) → ((q : ResourceId) → lookup (key_eq q) fs ≡ cond (key_eq id q) None (lookup (key_eq q) es))
+  pub one_removed : (es fs : List (ResourceId × X)) (id : ResourceId) → ((q : ResourceId) → lookup (same_id q) fs ≡ cond (same_id q id) None (lookup (same_id q) es))
       → from_entries {R = id_cmp} fs ≡ map.remove (from_entries es) id
   one_removed es fs id h = same_map ids_total exact_ids _ _ (λ q.
-      get_made fs q ∙ h q ∙ ap (λ b. cond b None (lookup (key_eq q) es)) (turned id q)
+      get_made fs q ∙ h q
       ∙ sym (get-remove ids_total (from_entries es) id q ∙ ap (cond (eq_by_cmp id_cmp q id) None) (get_made es q)))
 
   -- entries with equal look-ups make one map
-  pub same_made : (es fs : List (ResourceId × X)) → ((q : ResourceId) → lookup (key_eq q) fs ≡ lookup (key_eq q) es) → from_entries {R = id_cmp} fs ≡ from_entries es
+  pub same_made : (es fs : List (ResourceId × X)) → ((q : ResourceId) → lookup (same_id q) fs ≡ lookup (same_id q) es) → from_entries {R = id_cmp} fs ≡ from_entries es
   same_made es fs h = same_map ids_total exact_ids _ _ (λ q. get_made fs q ∙ h q ∙ sym (get_made es q))
 
   -- what a world has at an id, by the entries that make it
-  pub slot_at : (es : List (ResourceId × X)) (w : FinMap id_cmp X) (id : ResourceId) → from_entries es ≡ w → get w id ≡ lookup (key_eq id) es
+  pub slot_at : (es : List (ResourceId × X)) (w : FinMap id_cmp X) (id : ResourceId) → from_entries es ≡ w → get w id ≡ lookup (same_id id) es
   slot_at es w id e = ap (λ m. get m id) (sym e) ∙ get_made es id
 
 -- what holds under `Some` holds of a value that is there
@@ -59,8 +52,8 @@ on_some (Some y) x P e h = h
 module _ {X : Type 0} where
   -- what a loan of a slot that is there leaves
   pub put_on_some : (o : Option (MutBor X)) (es fs : List (ResourceId × X)) (w : FinMap id_cmp X) (id : ResourceId) (x : X) → from_entries es ≡ w
-      → option_copied_mut o ≡ lookup (key_eq id) es
-      → (IsSome (lookup (key_eq id) es) → (q : ResourceId) → lookup (key_eq q) fs ≡ cond (key_eq id q) (Some x) (lookup (key_eq q) es))
+      → option_copied_mut o ≡ lookup (same_id id) es
+      → (IsSome (lookup (same_id id) es) → (q : ResourceId) → lookup (same_id q) fs ≡ cond (same_id q id) (Some x) (lookup (same_id q) es))
       → OnSome o (from_entries {R = id_cmp} fs ≡ insert w id x)
   put_on_some None es fs w id x e value h = tt
   put_on_some (Some r) es fs w id x e value h = one_put es fs id x (h (subst IsSome value refl)) ∙ ap (λ m. insert m id x) e
@@ -97,10 +90,6 @@ insert_value_same w id v e = insert_same w id (Some v) (flattened (get w id) v e
 there : {R : Type 0} (o : Option R) (r : R) → is_some o ≡ true → o ≡ Some (unwrap_or o r)
 there None r e = absurd (false≢true e)
 there (Some x) r e = refl
-
-hidden : {A : Type 0} (b : Bool) (x y z : A) → cond b x (cond b y z) ≡ cond b x z
-hidden true x y z = refl
-hidden false x y z = refl
 
 -- what was put is there
 pub get-insert_here : {X : Type 0} (w : FinMap id_cmp X) (id : ResourceId) (x : X) → get (insert w id x) id ≡ Some x

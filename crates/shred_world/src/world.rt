@@ -7,11 +7,11 @@ ghost use Rattle.shred_world.specs.Worlds.{value_at, resource_at, HasKind, IsLea
 ghost use Rattle.shred_world.specs.Bundles.{holding_of, DefaultsTo};
 ghost use Rattle.shred_world.specs.Execs.{CallsWithBundle, CallableWithBundle, IsExecError};
 ghost use Rattle.shred_world.specs.ResourceIds.{id_of};
+ghost use Rattle.shred_world.specs.Places.{AreSorted, IsPlaceOf, IsGapFor};
 ghost use Rattle.shred_world.specs.Lending.{LendsSlot, LendsValue, LendsResource, LendsPresent, LendsInserted};
 
 use crate::{Entry, ExecError, Missing, Resource, ResourceId, SystemData};
 use std::alloc::{AllocError, AllocFailed, Global};
-use std::collections::HashMap;
 use std::marker::{Model, PhantomData};
 
 /// A resource that a world or a view lends.
@@ -22,9 +22,10 @@ pub type FetchMut<'a, R> = &'a mut R;
 
 /// The resources: a finite map from ids to values of the caller's type.
 ///
-/// A value that is taken out for a while leaves its slot behind, so that it is put back without memory.
+/// A value that is taken out for a while leaves its slot behind, so that it is put back without memory. A slot is found
+/// in the logarithm of their number; a new one costs the moves of those with greater ids.
 pub struct World<V> {
-    values: HashMap<ResourceId, Option<V>>,
+    slots: Vec<(ResourceId, Option<V>)>,
 }
 
 impl<V> Model for World<V> {
@@ -32,18 +33,21 @@ impl<V> Model for World<V> {
     ghost use Rattle.std.specs.Coded.{coded_option};
     ghost use Rattle.std.specs.FinMap as map;
     ghost use Rattle.shred_world.specs.ResourceIds.{id_cmp, coded_id};
+    ghost use Rattle.shred_world.specs.Places.{AreSorted};
 
     ghost Value = { map.FinMap id_cmp (Option V) };
 
     ghost coded = { map.code coded_id (coded_option V.code) };
 
-    ghost view = { λ w. map.from_entries w.values.entries };
+    ghost view = { λ w. map.from_entries w.slots.items };
+
+    ghost invariant = { λ w. AreSorted w.slots.items };
 }
 
 impl<V: Drop> Drop for World<V> {
     fn drop(self) {
-        let World { values } = self;
-        drop(values);
+        let World { slots } = self;
+        drop(slots);
     }
 }
 
@@ -53,7 +57,7 @@ impl<V> World<V> {
         ensures { result ≡ map.empty }
     {
         World {
-            values: HashMap::new(alloc),
+            slots: Vec::new(alloc),
         }
     }
 
@@ -331,9 +335,8 @@ impl<V> World<V> {
     pub fn least_id(&self, kind: u32, from: u64) -> Option<u64>
         ensures { IsLeastFrom self.now kind from result }
     {
-        let values = &self.values;
         let mut least = None;
-        for (id, slot) in values.iter() {
+        for (id, slot) in &self.slots {
             if slot.is_some() && id.kind == kind && from <= id.dynamic {
                 least = Some(less_of(least, id.dynamic));
             }
@@ -397,7 +400,10 @@ impl<V> World<V> {
     fn slot(&self, id: ResourceId) -> Option<&Option<V>>
         ensures { option_copied result ≡ map.get self.now id }
     {
-        self.values.get(&id)
+        match place_of(&self.slots, id) {
+            Ok(place) => Some(&self.slots[place].1),
+            Err(_) => None,
+        }
     }
 
     /// The slot under `id`, for writing.
@@ -405,7 +411,10 @@ impl<V> World<V> {
         ensures* writes_back { sem 𝓛 (LendsSlot V.row self.entry id result) }
         ensures value { option_copied_mut result ≡ map.get self.old id }
     {
-        self.values.get_mut(&id)
+        match place_of(&self.slots, id) {
+            Ok(place) => Some(&mut self.slots[place].1),
+            Err(_) => None,
+        }
     }
 
     /// Puts the value under `id`, and gives back what stood there.
@@ -415,13 +424,12 @@ impl<V> World<V> {
         ensures err { OnErr result (self.new ≡ self.old) }
         ensures handed_back { IfErr result (λ refused. refused.value ≡ value) }
     {
-        match self.values.insert(id, Some(value)) {
-            Ok(was) => Ok(was.flatten()),
-            Err(
-                AllocFailed {
-                    value: (_, Some(value)),
-                },
-            ) => Err(AllocFailed { value }),
+        if let Some(slot) = self.slot_mut(id) {
+            return Ok(slot.replace(value));
+        }
+        match self.add_slot(id, Some(value)) {
+            Ok(()) => Ok(None),
+            Err(AllocFailed { value: Some(value) }) => Err(AllocFailed { value }),
             Err(_) => unreachable!(),
         }
     }
@@ -434,9 +442,25 @@ impl<V> World<V> {
         ensures ok { OnOk result (self.new ≡ map.insert self.old id None) }
         ensures err { OnErr result (self.new ≡ self.old) }
     {
-        match self.values.insert(id, None) {
-            Ok(_) => Ok(()),
+        match self.add_slot(id, None) {
+            Ok(()) => Ok(()),
             Err(_) => Err(AllocError),
+        }
+    }
+
+    /// Puts a slot under `id`, where there is none: between those with lesser and those with greater ids.
+    fn add_slot(&mut self, id: ResourceId, slot: Option<V>) -> Result<(), AllocFailed<Option<V>>>
+        requires absent { map.get self.old id ≡ None }
+        ensures ok { OnOk result (self.new ≡ map.insert self.old id slot) }
+        ensures err { OnErr result (self.new ≡ self.old) }
+        ensures handed_back { IfErr result (λ refused. refused.value ≡ slot) }
+    {
+        match place_of(&self.slots, id) {
+            Ok(_) => unreachable!(),
+            Err(place) => match self.slots.insert(place, (id, slot)) {
+                Ok(()) => Ok(()),
+                Err(AllocFailed { value: (_, slot) }) => Err(AllocFailed { value: slot }),
+            },
         }
     }
 
@@ -445,8 +469,20 @@ impl<V> World<V> {
         ensures value { result ≡ value_at self.old id }
         ensures removed { self.new ≡ map.remove self.old id }
     {
-        self.values.remove(&id).flatten()
+        match place_of(&self.slots, id) {
+            Ok(place) => self.slots.remove(place).1,
+            Err(_) => None,
+        }
     }
+}
+
+/// Where the slot of `id` stands, or would stand.
+fn place_of<V>(slots: &[(ResourceId, Option<V>)], id: ResourceId) -> Result<usize, usize>
+    requires sorted { AreSorted slots.now }
+    ensures found { IfOk result (IsPlaceOf slots.now id) }
+    ensures absent { IfErr result (IsGapFor slots.now id) }
+{
+    slots.binary_search_by_key(&id, |slot| slot.0)
 }
 
 /// The lesser number, where there are two.
