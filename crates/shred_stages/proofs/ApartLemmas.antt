@@ -220,7 +220,7 @@ module _ {V : Type 0} where
   merged-whole (owned v) slot e = refl
 
   -- what a group leaves, another that it is free of sees as it was
-  unseen : (L R l r : Bool) (slot held : Slot V) → (L ≡ true → (r ≡ false) × (l ≡ false)) → IsLeft (if L then owned_of (takable slot) else (if R then shared_of (readable slot) else absent)) held
+  pub unseen : (L R l r : Bool) (slot held : Slot V) → (L ≡ true → (r ≡ false) × (l ≡ false)) → IsLeft (if L then owned_of (takable slot) else (if R then shared_of (readable slot) else absent)) held
       → (if l then owned_of (takable slot) else (if r then shared_of (readable slot) else absent))
       ≡ (if l then owned_of (takable (merged held slot)) else (if r then shared_of (readable (merged held slot)) else absent))
   unseen L R l r slot absent free left = refl

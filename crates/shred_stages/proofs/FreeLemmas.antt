@@ -18,7 +18,7 @@ use Rattle.shred_stages.specs.Apart.{group_reads, group_writes}
 use Rattle.shred_stages.specs.Free.{IsNone, AreDistinct, ShareNone, IsFreeOfAll, AreFree}
 use Rattle.shred_stages.specs.Seats.{AreNumbered, IsPlanned}
 
-or-parts : (a b : Bool) → (a || b) ≡ false → (a ≡ false) × (b ≡ false)
+pub or-parts : (a b : Bool) → (a || b) ≡ false → (a ≡ false) × (b ≡ false)
 or-parts true b e = cc
 or-parts false b e = (refl, e)
 
@@ -27,7 +27,7 @@ or-none true b e f = cc
 or-none false b e f = f
 
 -- ids of lists that share none
-unshared : (ids others : List ResourceId) (q : ResourceId) → share same_id ids others ≡ false → is_listed ids q ≡ true → is_listed others q ≡ false
+pub unshared : (ids others : List ResourceId) (q : ResourceId) → share same_id ids others ≡ false → is_listed ids q ≡ true → is_listed others q ≡ false
 unshared [] others q none listed = absurd (false≢true listed)
 unshared (i ∷ ids) others q none listed =
     let parts = or-parts (list_any (same_id i) others) (share same_id ids others) none in
@@ -87,10 +87,10 @@ group-unwritten (one ∷ group) other q miss listed =
 
 -- numbers that differ
 
-abbrev same_number : Placing ResourceId → Placing ResourceId → Bool
+abbrev pub same_number : Placing ResourceId → Placing ResourceId → Bool
 same_number one other = one.number == other.number
 
-flips : (one other : Placing ResourceId) → same_number one other ≡ same_number other one
+pub flips : (one other : Placing ResourceId) → same_number one other ≡ same_number other one
 flips one other = by (one.number == other.number) (other.number == one.number) refl refl
   where
     by : (a b : Bool) → (one.number == other.number) ≡ a → (other.number == one.number) ≡ b → (one.number == other.number) ≡ (other.number == one.number)
@@ -106,7 +106,7 @@ later-differ lo from one (x ∷ xs) is h numbered = (by (one.number == x.number)
     by true e = let same = eqb-true one.number x.number e in absurd (omega (arith, same, is, h, numbered.0))
     by false e = e
 
-numbered-distinct : (from : ℕ) (xs : List (Placing ResourceId)) → AreNumbered from xs → IsDistinct same_number xs
+pub numbered-distinct : (from : ℕ) (xs : List (Placing ResourceId)) → AreNumbered from xs → IsDistinct same_number xs
 unfolding IsDistinct
 numbered-distinct from [] numbered = tt
 numbered-distinct from (x ∷ xs) numbered = (later-differ from (suc from) x xs numbered.0 (omega arith) numbered.1, numbered-distinct (suc from) xs numbered.1)

@@ -14,3 +14,8 @@ pub mod LoadLemmas
 pub mod LendingLemmas
 pub mod FreeLemmas
 pub mod EndLemmas
+pub mod ListLemmas
+pub mod StepLemmas
+pub mod OrderLemmas
+pub mod PlanLemmas
+pub mod NeighbourLemmas

@@ -12,3 +12,4 @@ pub mod Lending
 pub mod Away
 pub mod Loading
 pub mod Ends
+pub mod Orders

@@ -5,6 +5,7 @@ mod access;
 mod accessor;
 mod apart;
 mod error;
+pub mod laws;
 mod moves;
 mod pack;
 mod pack_run;

@@ -8,6 +8,7 @@ ghost use Rattle.shred_stages.specs.Runs.{StagesRun};
 ghost use Rattle.shred_world.specs.Bundles.{holding_of};
 ghost use Rattle.shred_stages.specs.Staging.{Runs, Tells, DisposesAll};
 ghost use Rattle.shred_stages.specs.Ends.{RunsApart};
+ghost use Rattle.shred_stages.specs.Orders.{RunsInAnyOrder};
 ghost use Rattle.shred_stages.specs.Seats.{StagesAreSeated, refusal_of};
 ghost use Rattle.shred_stages.specs.Setups.{SetsUpEach, DisposesEach};
 ghost use Rattle.shred_stages.specs.Accesses.{all_reads, all_writes};
@@ -202,6 +203,9 @@ impl<V: Drop, S: System<V> + Drop> StagesBuilder<V, S> {
         ensures plan { self.new.planning ≡ self.old.planning }
         ensures runs { Runs S.meets self.old (W.slots world.old) result self.new (W.slots world.new) }
 
+        // Where no system refuses, the same steps come to the same in each order that keeps the systems that are bound to one another.
+        ensures any_order { RunsInAnyOrder S.meets self.old (W.slots world.old) result self.new (W.slots world.new) }
+
         // The same ids have values as before.
         ensures leaves { Leaves (W.slots world.old) (W.slots world.new) }
     {
@@ -226,6 +230,7 @@ impl<V: Drop, S: System<V> + Drop> StagesBuilder<V, S> {
         ensures plan { self.new.planning ≡ self.old.planning }
         ensures runs { RunsApart S.meets self.old (holding_of world.old) result self.new (holding_of world.new) }
         ensures alone { workers < 2 → Runs S.meets self.old (holding_of world.old) result self.new (holding_of world.new) }
+        ensures any_order { RunsInAnyOrder S.meets self.old (holding_of world.old) result self.new (holding_of world.new) }
 
         // The same ids have values as before.
         ensures leaves { Leaves (holding_of world.old) (holding_of world.new) }
@@ -247,6 +252,7 @@ impl<V: Drop, S: System<V> + Drop> StagesBuilder<V, S> {
         ensures plan { self.new.planning ≡ self.old.planning }
         ensures runs { StagesRun S.meets self.old.planning.stages (record { systems = self.old.systems; held = W.slots world.old }) (refusal_of result)
             (record { systems = self.new.systems; held = W.slots world.new }) }
+        ensures any_order { RunsInAnyOrder S.meets self.old (W.slots world.old) result self.new (W.slots world.new) }
         ensures leaves { Leaves (W.slots world.old) (W.slots world.new) }
     {
         run_stages(rt, world, self.staged.as_mut_slice(), self.planner.stages())
