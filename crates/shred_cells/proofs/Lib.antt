@@ -1,3 +1,4 @@
 mod CellLemmas
 mod HeldLemmas
 mod SeatLemmas
+mod HashedLemmas

@@ -1,6 +1,6 @@
 use Rattle.std.proofs.Common.{rules, ap, ◌∙◌, ◌<◌}
 use Rattle.std.specs.HashMap.{spare}
-use Rattle.shred_world.proofs.CallerLemmas.{one_put, same_made}
+use Rattle.shred_cells.proofs.HashedLemmas.{hashed_put, hashed_same}
 use Rattle.shred_cells.specs.Held.{with_id}
 use Rattle.shred_cells.proofs.HeldLemmas.{not-refused, accepted-not-refused}
 use Rattle.shred_cells.proofs.shared_world.SharedWorld.insert_raw.Goals as goal
@@ -14,5 +14,5 @@ unreachable-requires g c =
 -- to make room changes no entry, and then one is put
 pub returns-clause-ok : goal.returns-clause-ok
 returns-clause-ok g c =
-    one_put c.reserve.new.self.entries c.insert.new.self.entries c.args.id tt c.in-Ok.ensures.updates.0
-    ∙ ap (λ held. with_id held c.args.id) (same_made c.self.inside.cells.entries c.reserve.new.self.entries c.reserve.ensures.entries.2 ∙ c.self.view_is)
+    hashed_put c.reserve.new.self.entries c.insert.new.self.entries c.args.id tt c.in-Ok.ensures.updates.0
+    ∙ ap (λ held. with_id held c.args.id) (hashed_same c.self.inside.cells.entries c.reserve.new.self.entries c.reserve.ensures.entries.2 ∙ c.self.view_is)
