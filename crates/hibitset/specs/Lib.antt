@@ -3,3 +3,5 @@ pub mod Cut
 pub mod Producer
 pub mod Standing
 pub mod Folds
+pub mod Atomic
+pub mod Shared

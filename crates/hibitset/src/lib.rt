@@ -5,6 +5,7 @@
 #![tactic(auto)]
 
 pub mod atomic;
+pub mod atomic_ops;
 pub mod flat;
 pub mod laws;
 pub mod par_iter;
@@ -12,6 +13,7 @@ pub mod parallel;
 pub mod producer;
 
 pub use atomic::AtomicBitSet;
+pub use atomic_ops::AtomicBitSetIter;
 pub use flat::map_indices;
 pub use hibitset_sets::average_ones::average_ones;
 pub use hibitset_sets::count::{Counter, Steps, Uncounted};

@@ -21,10 +21,12 @@ pub struct BitParIter<T> {
 }
 
 impl<T> BitParIter<T> {
+    ghost use Rattle.hibitset.specs.Shared.{shared_set, layers_of};
+
     /// A walk of which three layers may be split.
     pub fn new(set: T) -> Self
-        ensures set { result.set ≡ set }
-        ensures layers { result.layers ≡ 3 }
+        ensures set { shared_set result ≡ set }
+        ensures layers { layers_of result ≡ 3 }
     {
         BitParIter { set, layers: 3 }
     }
@@ -33,8 +35,8 @@ impl<T> BitParIter<T> {
     pub fn layers_split(self, layers: u8) -> Self
         requires some { 0 < layers }
         requires limit { layers ≤ 3 }
-        ensures set { result.set ≡ self.set }
-        ensures layers { result.layers ≡ layers }
+        ensures set { shared_set result ≡ shared_set self }
+        ensures layers { layers_of result ≡ layers }
     {
         BitParIter {
             set: self.set,
@@ -44,10 +46,13 @@ impl<T> BitParIter<T> {
 }
 
 impl<T: BitSetLike> BitParIter<T> {
+    ghost use Rattle.hibitset.specs.Shared.{shared_set, layers_of};
+
     /// The whole walk, to be split.
     fn producer<'a>(&'a self) -> BitProducer<'a, T>
-        ensures items { items_of T.members result ≡ walk (T.members self.now.set) }
-        ensures layers { result.1 ≤ 3 }
+        ensures items { items_of T.members result ≡ walk (T.members (shared_set self.now)) }
+        ensures layers { result.1 ≡ layers_of self.now }
+        ensures limit { result.1 ≤ 3 }
     {
         BitProducer((&self.set).iter(), self.layers)
     }
@@ -79,12 +84,12 @@ impl<T: BitSetLike> BitParIter<T> {
         requires start { I.IsAlwaysCallable start }
         requires step { F.IsAlwaysCallable step }
         requires combine { C.IsAlwaysCallable combine }
-        ensures parts { IfOk result (FoldsInParts (λ a. I.post start a) (λ a i b. F.post step a i b) (λ a b c. C.post combine a b c) (walk (T.members self.now.set))) }
+        ensures parts { IfOk result (FoldsInParts (λ a. I.post start a) (λ a i b. F.post step a i b) (λ a b c. C.post combine a b c) (walk (T.members (shared_set self.now)))) }
 
         // Where combining is going on through the part, it is the fold of the walk; for one worker too.
         ensures goes_on { GoesOn (λ a. I.post start a) (λ a i b. F.post step a i b) (λ a b c. C.post combine a b c)
-            → IfOk result (FoldsFromStart (λ a. I.post start a) (λ a i b. F.post step a i b) (walk (T.members self.now.set))) }
-        ensures alone { workers < 2 → IfOk result (FoldsFromStart (λ a. I.post start a) (λ a i b. F.post step a i b) (walk (T.members self.now.set))) }
+            → IfOk result (FoldsFromStart (λ a. I.post start a) (λ a i b. F.post step a i b) (walk (T.members (shared_set self.now)))) }
+        ensures alone { workers < 2 → IfOk result (FoldsFromStart (λ a. I.post start a) (λ a i b. F.post step a i b) (walk (T.members (shared_set self.now)))) }
         ensures succeeds { workers < 2 → IsOk result }
     {
         let whole = self.producer();
@@ -98,6 +103,8 @@ impl<T: BitSetLike> BitParIter<T> {
 }
 
 impl<T: BitSetLike + Sync> BitParIter<T> {
+    ghost use Rattle.hibitset.specs.Shared.{shared_set};
+
     /// The members below `MAX_EID`, in ascending order.
     ///
     /// Up to `workers` parts are collected in threads of their own, where these can be started, and by
@@ -110,7 +117,7 @@ impl<T: BitSetLike + Sync> BitParIter<T> {
         alloc: Global,
         workers: usize,
     ) -> Result<Vec<Index>, AllocError>
-        ensures { IfOk result (λ v. v.items ≡ walk (T.members self.now.set)) }
+        ensures { IfOk result (λ v. v.items ≡ walk (T.members (shared_set self.now))) }
     {
         let whole = self.producer();
         if workers < 2 {
@@ -133,7 +140,7 @@ impl<T: BitSetLike + Sync> BitParIter<T> {
         alloc: Global,
         workers: usize,
     ) -> Result<usize, AllocError>
-        ensures value { IfOk result (λ n. n ≡ length (walk (T.members self.now.set))) }
+        ensures value { IfOk result (λ n. n ≡ length (walk (T.members (shared_set self.now)))) }
         ensures succeeds { workers < 2 → IsOk result }
     {
         self.fold(

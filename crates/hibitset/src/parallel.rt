@@ -6,12 +6,14 @@ use hibitset_sets::BitSetLike;
 
 /// What every set has, for walks in several threads.
 pub trait ParBitSetLike: BitSetLike {
+    ghost use Rattle.hibitset.specs.Shared.{shared_set, layers_of};
+
     /// A walk over the members below `MAX_EID` that threads share. Three of its layers may be split.
     final fn par_iter(self) -> BitParIter<Self>
     where
         Self: Sized,
-        ensures set { result.set ≡ self }
-        ensures layers { result.layers ≡ 3 }
+        ensures set { shared_set result ≡ self }
+        ensures layers { layers_of result ≡ 3 }
     {
         BitParIter::new(self)
     }

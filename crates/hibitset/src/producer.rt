@@ -2,7 +2,7 @@
 ghost use Rattle.std.specs.Prelude.{◌≡◌, ◌≢◌, [], ℕ, ◌+◌, ◌-◌, ◌*◌, ◌/◌, ◌%◌, ◌<◌, ◌≤◌, ◌&&◌, IfSome, MatchOption};
 ghost use Rattle.std.specs.List.{All, FoldsTo};
 ghost use Rattle.hibitset_sets.specs.Walk.{walk, IsPlaced};
-ghost use Rattle.hibitset_sets.specs.Iter.{left_of};
+ghost use Rattle.hibitset_sets.specs.Iter.{left_of, walked_set, masks_left, prefixes};
 ghost use Rattle.hibitset_sets.specs.Average.{IsAverage};
 ghost use Rattle.hibitset.specs.Cut.{IsCutAt, first_under, is_under};
 ghost use Rattle.hibitset.specs.Standing.{IsFirstBit, IsFound, IsCutOf, IsBelow, IsFrom};
@@ -19,7 +19,7 @@ pub struct BitProducer<'a, T>(pub BitIter<&'a T>, pub u8);
 impl<'a, T: BitSetLike> BitProducer<'a, T> {
     ghost use Rattle.hibitset.specs.Split.{IsSplit};
     ghost use Rattle.hibitset.specs.Cut.{Differ};
-    ghost use Rattle.hibitset.specs.Producer.{BeginsExact, IsPartOf, items_of_other};
+    ghost use Rattle.hibitset.specs.Producer.{BeginsExact, CutsAt, IsPartOf, items_of_other};
 
     /// Cuts the walk in two where its masks are cut: the first part has the items below that index,
     /// the second those from it on.
@@ -30,8 +30,8 @@ impl<'a, T: BitSetLike> BitProducer<'a, T> {
         requires { self.1 ≤ 3 }
         ensures keeps { IsSplit (items_of T.members self.entry) (items_of T.members result.0) (items_of_other T.members result.1) }
         ensures cut { MatchOption result.1
-            ((index : ℕ) → IsCut (T.words self.entry.0.set.now) self.entry.0.masks self.entry.0.prefix self.entry.1 index → ⊥)
-            (λ other. (index : ℕ) × IsCut (T.words self.entry.0.set.now) self.entry.0.masks self.entry.0.prefix self.entry.1 index
+            ((index : ℕ) → CutsAt T.words self.entry index → ⊥)
+            (λ other. (index : ℕ) × CutsAt T.words self.entry index
             × All (λ i. i < index) (items_of T.members result.0) × All (λ i. index ≤ i) (items_of T.members other)) }
 
         // Both parts are over the same set, and as many layers of them may be split.
@@ -41,8 +41,8 @@ impl<'a, T: BitSetLike> BitProducer<'a, T> {
         // One that begins is split exactly where two members are in different words, and neither
         // part is empty.
         ensures fresh { BeginsExact T.words self.entry → MatchOption result.1
-            (Differ (T.members self.entry.0.set.now) → ⊥)
-            (λ other. Differ (T.members self.entry.0.set.now) × (items_of T.members result.0 ≢ []) × (items_of T.members other ≢ [])) }
+            (Differ (T.members (walked_set self.entry.0).now) → ⊥)
+            (λ other. Differ (T.members (walked_set self.entry.0).now) × (items_of T.members result.0 ≢ []) × (items_of T.members other ≢ [])) }
     {
         self.halves()
     }
@@ -52,8 +52,8 @@ impl<'a, T: BitSetLike> BitProducer<'a, T> {
         requires { self.1 ≤ 3 }
         ensures keeps { IsSplit (items_of T.members self.entry) (items_of T.members result.0) (items_of_other T.members result.1) }
         ensures cut { MatchOption result.1
-            ((index : ℕ) → IsCut (T.words self.entry.0.set.now) self.entry.0.masks self.entry.0.prefix self.entry.1 index → ⊥)
-            (λ other. (index : ℕ) × IsCut (T.words self.entry.0.set.now) self.entry.0.masks self.entry.0.prefix self.entry.1 index
+            ((index : ℕ) → CutsAt T.words self.entry index → ⊥)
+            (λ other. (index : ℕ) × CutsAt T.words self.entry index
             × All (λ i. i < index) (items_of T.members result.0) × All (λ i. index ≤ i) (items_of T.members other)) }
         ensures first { IsPartOf self.entry result.0 }
         ensures second { IfSome result.1 (IsPartOf self.entry) }
@@ -181,7 +181,7 @@ fn cut_of<T: BitSetLike>(
 fn standing<'a, T: BitSetLike>(set: &'a T, layer: usize, first: usize, word: u64) -> BitIter<&'a T>
     requires above { 0 < layer }
     requires stands { IsFirstBit layer first }
-    ensures set { result.set.now ≡ set.entry.now }
+    ensures set { (walked_set result).now ≡ set.entry.now }
     ensures items { left_of (λ s. T.members s.now) result ≡ walk (λ i. T.members set.entry.now i && is_under layer first word i) }
 {
     let number = first as u32;

@@ -317,6 +317,24 @@ IsSummary-kept below above number within summary left was =
           ];
     }
 
+-- a bit more in a word that isn't zero: the summary stays
+pub IsSummary-fuller : (below above : List ℕ) (number : ℕ) → number / 64 < length below → IsSummary below above → slice_index below (number / 64) ≢ 0 → IsSummary (with_bit below number) above
+IsSummary-fuller below above number within summary was =
+    let long = summary.long in
+    record {
+      fits = with-fits below number within summary.fits;
+      long = (let l = length-set below (number / 64) (bit_or (slice_index below (number / 64)) (2 ^ (number % 64))) in omega arith);
+      bits = λ w.
+          summary.bits w
+          ∙ elim (cases_eq w (number / 64)) [
+            | inl here ↦
+                ap (λ x. not (eqb x 0)) (ap (slice_index below) here) ∙ not_zero_test _ (omega arith)
+                ∙ sym (not_zero_test _ (nonzero_of_has_bit _ (number % 64)
+                (ap (λ x. has_bit x (number % 64)) (ap (slice_index (with_bit below number)) here ∙ with-at below number within) ∙ has_bit-set_same (slice_index below (number / 64)) (number % 64) (omega arith))))
+            | inr there ↦ ap (λ x. not (eqb x 0)) (sym (with-other below number within w there))
+          ];
+    }
+
 -- ---- all layers
 
 with-top : (l3 n : ℕ) → n < 64 → with_bit (l3 ∷ []) n ≡ bit_or l3 (2 ^ n) ∷ []
@@ -356,6 +374,10 @@ layered-with {l0} {l1} {l2} {l3} layered id within =
       third = subst (IsSummary (with_bit l2 (id / 64 / 64))) top (IsSummary-with l2 (l3 ∷ []) (id / 64 / 64) is_in.in2 layered.third);
       fits = or_lt 64 l3 (2 ^ (id / 64 / 64 / 64)) layered.fits (pow_below (id / 64 / 64 / 64) 64 is_in.in3);
     }
+
+-- where the word isn't zero, one bit more changes layer 0 alone
+pub layered-fuller : {l0 l1 l2 : List ℕ} {l3 : ℕ} → IsLayered l0 l1 l2 l3 → (id : ℕ) → id / 64 < length l0 → slice_index l0 (id / 64) ≢ 0 → IsLayered (with_bit l0 id) l1 l2 l3
+layered-fuller {l0} {l1} {l2} {l3} layered id within was = record { first = IsSummary-fuller l0 l1 id within layered.first was; second = layered.second; third = layered.third; fits = layered.fits }
 
 -- the word of a bit that is set isn't zero
 word-some : (words : List ℕ) (number : ℕ) → bit_of words number ≡ true → slice_index words (number / 64) ≢ 0
@@ -414,6 +436,14 @@ module _ {l0 l1 l2 : List ℕ} {l3 : ℕ} (layered : IsLayered l0 l1 l2 l3) (id 
         third = subst (IsSummary (without_bit l2 (id / 64 / 64))) top (IsSummary-without l2 (l3 ∷ []) (id / 64 / 64) is_in.in2 layered.third zero2);
         fits = (let l = and_le_l l3 (bit_not w64 (2 ^ (id / 64 / 64 / 64))) in let f = layered.fits in omega arith);
       }
+
+-- the test of a bit in its word is that of the member
+pub tested-member : (words : List ℕ) (s : SetWithRoom) (id word mask : ℕ) → set_of words ≡ s → word ≡ slice_index words (id / 64) → mask ≡ 2 ^ (id % 64) → not (eqb (bit_and word mask) 0) ≡ set.contains s.members id
+tested-member words s id word mask view at bit =
+    (λ j. not (eqb (bit_and (at j) (bit j)) 0))
+    ∙ bit-test (slice_index words (id / 64)) (id % 64)
+    ∙ sym (contains-members_of words id)
+    ∙ ap (λ s. set.contains s.members id) view
 
 -- the members after one bit more or less
 eq-cmp : (q k : ℕ) → eq_by_cmp nat_cmp q k ≡ eqb q k

@@ -1,6 +1,7 @@
 -- What contracts see of a drain that is under way.
 use Rattle.std.specs.Prelude.{◌≡◌, ℕ, ◌==◌, Bool, not, ◌&&◌, List, [], ◌∷◌, Option, MatchOption}
 use Rattle.std.specs.List.{list_any}
+use Rattle.std.specs.Borrow.{MutBor}
 use Rattle.hibitset_sets.specs.declared.drain.DrainBitIter.{DrainBitIter}
 use Rattle.hibitset_sets.specs.Walk.{walk, is_pending}
 
@@ -11,6 +12,10 @@ Without members i members' = (j : ℕ) → members' j ≡ (not (j == i) && membe
 -- without the indices of a list the members are the same
 abbrev pub WithoutAll : (ℕ → Bool) → List ℕ → (ℕ → Bool) → Type 0
 WithoutAll members gone members' = (j : ℕ) → members' j ≡ (not (list_any (λ i. j == i) gone) && members j)
+
+-- the set that is drained, as it is lent
+abbrev pub lent_set : {T : Type 0} → DrainBitIter T → MutBor T
+lent_set it = it.set
 
 -- the items that are still to come
 abbrev pub drained_of : {T : Type 0} → (T → ℕ → Bool) → DrainBitIter T → List ℕ

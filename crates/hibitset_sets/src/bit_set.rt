@@ -122,28 +122,37 @@ impl BitSet {
         ensures holds { OnOk result (id < self.new.room) }
         ensures err { OnErr result (self.new ≡ self.old) }
     {
-        if BitSet::contains(self, id) {
-            return Ok(true);
+        let place = id.offset(SHIFT1);
+        if place >= self.layer0.len() {
+            self.grow(place + 1)?;
         }
-        self.grow(id.offset(SHIFT1) + 1)?;
-        self.put(id);
-        Ok(false)
+        Ok(self.put(id))
     }
 
-    /// Puts an index into the set that there is room for.
-    fn put(&mut self, id: Index)
+    /// Puts an index into the set that there is room for, and answers whether it was there already.
+    ///
+    /// The summaries are written only where its word was zero.
+    fn put(&mut self, id: Index) -> bool
         requires { id < self.old.room }
+        ensures was_there { result ≡ set.contains self.old.members id }
         ensures members { self.new.members ≡ set.insert self.old.members id }
         ensures room { self.new.room ≡ self.old.room }
     {
         let number0 = id as usize;
         let number1 = number0 / 64;
-        let number2 = number1 / 64;
-        let number3 = number2 / 64;
+        let word = self.layer0[number1];
+        if word & id.mask(SHIFT0) != 0 {
+            return true;
+        }
         set_bit(&mut self.layer0, number0);
-        set_bit(&mut self.layer1, number1);
-        set_bit(&mut self.layer2, number2);
-        self.layer3 |= 1 << number3;
+        if word == 0 {
+            let number2 = number1 / 64;
+            let number3 = number2 / 64;
+            set_bit(&mut self.layer1, number1);
+            set_bit(&mut self.layer2, number2);
+            self.layer3 |= 1 << number3;
+        }
+        false
     }
 
     /// Takes `id` out of the set, and answers whether it was a member.

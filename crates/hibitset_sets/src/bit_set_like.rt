@@ -1,6 +1,6 @@
 //! What every set of indices answers, whether it is kept or virtual.
 ghost use Rattle.std.specs.Prelude.{◌≡◌, ℕ, ◌+◌, ◌/◌, ◌%◌, ◌^◌, ◌<◌, ◌==◌, ◌↔◌, [], ◌∷◌, Bool, true, false, IsTrue, if◌then◌else◌};
-ghost use Rattle.hibitset_sets.specs.Iter.{left_of, unread};
+ghost use Rattle.hibitset_sets.specs.Iter.{left_of, unread, walked_set, masks_left};
 ghost use Rattle.hibitset_sets.specs.Walk.{walk, words_walked};
 ghost use Rattle.hibitset_sets.specs.Words.{is_marked, StandsOver};
 
@@ -65,9 +65,9 @@ pub trait BitSetLike {
     final fn iter(self) -> BitIter<Self>
     where
         Self: Sized,
-        ensures set { result.set ≡ self }
+        ensures set { walked_set result ≡ self }
         ensures items { left_of members result ≡ walk (members self) }
-        ensures masks { result.masks ≡ 0 ∷ 0 ∷ 0 ∷ words self 3 0 ∷ [] }
+        ensures masks { masks_left result ≡ 0 ∷ 0 ∷ 0 ∷ words self 3 0 ∷ [] }
     {
         self.iter_counted(&mut Uncounted)
     }
@@ -76,9 +76,9 @@ pub trait BitSetLike {
     final fn iter_counted<C: Counter>(self, count: &mut C) -> BitIter<Self>
     where
         Self: Sized,
-        ensures set { result.set ≡ self }
+        ensures set { walked_set result ≡ self }
         ensures items { left_of members result ≡ walk (members self) }
-        ensures masks { result.masks ≡ 0 ∷ 0 ∷ 0 ∷ words self 3 0 ∷ [] }
+        ensures masks { masks_left result ≡ 0 ∷ 0 ∷ 0 ∷ words self 3 0 ∷ [] }
         ensures unread { reads self 3 + unread reads words result ≡ words_walked (reads self) (words self) }
         ensures counted { C.ticked count.old (reads self 3) count.new }
     {

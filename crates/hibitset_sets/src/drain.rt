@@ -19,9 +19,11 @@ pub struct DrainBitIter<'a, T> {
 }
 
 impl<T> Drop for DrainBitIter<'_, T> {
+    ghost use Rattle.hibitset_sets.specs.Drain.{lent_set};
+
     /// Leaves the set as it is.
     fn drop(self)
-        ensures { self.exit.0.now ≡ self.entry.set.now }
+        ensures { self.exit.0.now ≡ (lent_set self.entry).now }
     {
         let DrainBitIter {
             set: _,
@@ -32,13 +34,13 @@ impl<T> Drop for DrainBitIter<'_, T> {
 }
 
 impl<'a, T: DrainableBitSet> DrainBitIter<'a, T> {
-    ghost use Rattle.hibitset_sets.specs.Drain.{drained_of};
+    ghost use Rattle.hibitset_sets.specs.Drain.{drained_of, lent_set};
 
     /// A drain that goes on from these masks and prefixes, under the condition of `BitIter::new`.
     pub fn new(set: &'a mut T, masks: [u64; LAYERS], prefix: [u32; 3]) -> Self
         requires { IsPlaced masks prefix }
-        ensures same_reference { result.set.ghost_name ≡ set.entry.ghost_name }
-        ensures set { result.set.now ≡ set.old }
+        ensures same_reference { (lent_set result).ghost_name ≡ set.entry.ghost_name }
+        ensures set { (lent_set result).now ≡ set.old }
         ensures items { drained_of T.members result ≡ walk (is_pending (T.members set.old) masks prefix) }
     {
         DrainBitIter { set, masks, prefix }
@@ -47,7 +49,7 @@ impl<'a, T: DrainableBitSet> DrainBitIter<'a, T> {
 
 /// A set from which indices can be taken without memory.
 pub trait DrainableBitSet: BitSetLike {
-    ghost use Rattle.hibitset_sets.specs.Drain.{Without, drained_of};
+    ghost use Rattle.hibitset_sets.specs.Drain.{Without, drained_of, lent_set};
 
     /// Takes `i` out of the set, and answers whether it was a member.
     fn remove(&mut self, i: Index) -> bool
@@ -58,8 +60,8 @@ pub trait DrainableBitSet: BitSetLike {
     final fn drain<'a>(&'a mut self) -> DrainBitIter<'a, Self>
     where
         Self: Sized,
-        ensures same_reference { result.set.ghost_name ≡ self.entry.ghost_name }
-        ensures set { result.set.now ≡ self.old }
+        ensures same_reference { (lent_set result).ghost_name ≡ self.entry.ghost_name }
+        ensures set { (lent_set result).now ≡ self.old }
         ensures items { drained_of Self.members result ≡ walk (Self.members self.old) }
     {
         let layer3 = self.layer3();

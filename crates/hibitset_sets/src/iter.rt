@@ -35,7 +35,7 @@ fn take_lowest(masks: &mut [u64; LAYERS], layer: usize) -> u32
 
 impl<T: BitSetLike> BitIter<T> {
     ghost use Rattle.hibitset_sets.specs.Walk.{walk, is_pending, words_left};
-    ghost use Rattle.hibitset_sets.specs.Iter.{left_of, unread};
+    ghost use Rattle.hibitset_sets.specs.Iter.{left_of, unread, walked_set, masks_left, prefixes};
 
     /// A walk that goes on from these masks and prefixes.
     ///
@@ -44,9 +44,9 @@ impl<T: BitSetLike> BitIter<T> {
     pub fn new(set: T, masks: [u64; LAYERS], prefix: [u32; 3]) -> Self
         requires { IsPlaced masks prefix }
         ensures items { left_of T.members result ≡ walk (is_pending (T.members set) masks prefix) }
-        ensures set { result.set ≡ set }
-        ensures masks { result.masks ≡ masks }
-        ensures prefix { result.prefix ≡ prefix }
+        ensures set { walked_set result ≡ set }
+        ensures masks { masks_left result ≡ masks }
+        ensures prefix { prefixes result ≡ prefix }
     {
         BitIter { set, masks, prefix }
     }
@@ -55,9 +55,9 @@ impl<T: BitSetLike> BitIter<T> {
     ///
     /// `BitIter::new` of them is the same walk.
     pub fn into_parts(self) -> (T, [u64; LAYERS], [u32; 3])
-        ensures set { result.0 ≡ self.set }
-        ensures masks { result.1 ≡ self.masks }
-        ensures prefix { result.2 ≡ self.prefix }
+        ensures set { result.0 ≡ walked_set self }
+        ensures masks { result.1 ≡ masks_left self }
+        ensures prefix { result.2 ≡ prefixes self }
         ensures placed { IsPlaced result.1 result.2 }
     {
         (self.set, self.masks, self.prefix)
@@ -65,7 +65,7 @@ impl<T: BitSetLike> BitIter<T> {
 
     /// Whether `i` is a member of the set that is walked.
     pub fn contains(&self, i: Index) -> bool
-        ensures { result ≡ T.members self.now.set i }
+        ensures { result ≡ T.members (walked_set self.now) i }
     {
         self.set.contains(i)
     }
@@ -133,8 +133,8 @@ impl<T: BitSetLike> BitIter<T> {
     pub fn next_counted<C: Counter>(&mut self, count: &mut C) -> Option<Index>
         ensures item { YieldsFirst (left_of T.members) self.old result self.new }
         ensures range { IfSome result (λ i. i < 16777216) }
-        ensures gone { IfSome result (λ i. is_pending (T.members self.old.set) self.new.masks self.new.prefix i ≡ false) }
-        ensures set { self.new.set ≡ self.old.set }
+        ensures gone { IfSome result (λ i. is_pending (T.members (walked_set self.old)) (masks_left self.new) (prefixes self.new) i ≡ false) }
+        ensures set { walked_set self.new ≡ walked_set self.old }
         ensures fewer { unread T.reads T.words self.new ≤ unread T.reads T.words self.old }
         ensures ended { IfNone result (unread T.reads T.words self.new ≡ 0) }
         ensures counted { C.ticked count.old (unread T.reads T.words self.old - unread T.reads T.words self.new) count.new }

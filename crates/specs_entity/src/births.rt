@@ -23,6 +23,7 @@ impl EntitiesRes {
     /// index that was never used. All leave the entities as they were.
     pub fn allocate(&mut self) -> Result<Entity, Error>
         ensures value { IfOk result (λ entity. entity ≡ newborn self.old) }
+        ensures range { IfOk result (λ entity. entity.id < 16777216) }
         ensures ok { OnOk result (self.new ≡ allocated self.old) }
         ensures refused { IfErr result (RefusesBirth self.old) }
         ensures indices_spent { IsErrOf result refusal.IndicesSpent ↔ IndicesAreSpent self.old }
@@ -42,6 +43,7 @@ impl EntitiesRes {
     /// Index and errors are those of `allocate`.
     pub fn create(&mut self) -> Result<Entity, Error>
         ensures value { IfOk result (λ entity. entity ≡ newborn self.old) }
+        ensures range { IfOk result (λ entity. entity.id < 16777216) }
         ensures ok { OnOk result (self.new ≡ created self.old) }
         ensures refused { IfErr result (RefusesBirth self.old) }
         ensures indices_spent { IsErrOf result refusal.IndicesSpent ↔ IndicesAreSpent self.old }
@@ -63,6 +65,7 @@ impl EntitiesRes {
         ensures refused { IfErr result (RefusesBirth self.now) }
         ensures left { OnOk result (IndicesAreSpent self.now → ⊥) }
         ensures room { OnOk result (number_of (persistent_at self.now (next_index self.now)) < self.now.generations) }
+        ensures range { IfOk result (λ entity. entity.id < 16777216) }
     {
         let used = self.generations.len() as Index;
         let id = match self.cache.last() {

@@ -1,5 +1,5 @@
 //! Entities in the making.
-ghost use Rattle.std.specs.Prelude.{◌≡◌, IfOk, IfErr, IsErrOf, ◌↔◌};
+ghost use Rattle.std.specs.Prelude.{◌≡◌, ◌<◌, IfOk, IfErr, IsErrOf, ◌↔◌};
 
 use crate::entities_res::EntitiesRes;
 use crate::errors::Error;
@@ -56,6 +56,7 @@ impl EntitiesRes {
     pub fn build_entity(&mut self) -> Result<EntityResBuilder<'_>, Error>
         ensures* rests { sem 𝓛 (rests_if_refused self.entry result) }
         ensures value { IfOk result (λ builder. builder.entity ≡ newborn self.old) }
+        ensures range { IfOk result (λ builder. builder.entity.id < 16777216) }
         ensures ok { IfOk result (λ builder. builder.entities.now ≡ created self.old) }
         ensures same_reference { IfOk result (λ builder. builder.entities.ghost_name ≡ self.entry.ghost_name) }
         ensures refused { IfErr result (RefusesBirth self.old) }

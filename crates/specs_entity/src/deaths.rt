@@ -1,5 +1,5 @@
 //! Deaths: lists of entities that die at once, and merges.
-ghost use Rattle.std.specs.Prelude.{◌≡◌, ◌≢◌, ◌==◌, ℕ, ◌+◌, ◌<◌, ◌≤◌, ◌↔◌, IsOk, OnOk, OnErr, IfOk, IfErr, IfSome, IsErrOf, MatchOption, None, Some, [], ◌∷◌, true, slice_index_or};
+ghost use Rattle.std.specs.Prelude.{◌≡◌, ◌≢◌, ◌==◌, ℕ, ◌+◌, ◌<◌, ◌≤◌, ◌↔◌, IsOk, OnOk, OnErr, IfOk, IfErr, IfSome, IsErrOf, MatchOption, None, Some, [], ◌∷◌, length, true, slice_index_or};
 ghost use Rattle.std.specs.List.{list_any};
 ghost use Rattle.std.specs.FinSet as set;
 ghost use Rattle.hibitset_sets.specs.Walk.{walk};
@@ -45,6 +45,13 @@ impl EntitiesRes {
         let fault = mark_all(&self.generations, &self.raised, &mut self.marked, entities);
         unmark_all(&mut self.marked, entities);
         fault
+    }
+
+    /// How many deletions were accepted that the next merge makes come true. It costs a walk over them.
+    pub fn accepted(&self) -> usize
+        ensures { result ≡ length (walk (set.contains self.now.deletions)) }
+    {
+        (&self.killed).iter().count()
     }
 
     /// Makes the fresh births persistent, then lets the entities die whose deletion was accepted, and

@@ -6,6 +6,8 @@ ghost use Rattle.specs_join.specs.Joining.{items_left, found};
 
 mod absent;
 pub mod and;
+pub mod change;
+pub mod change_each;
 pub mod cursor;
 pub mod iter;
 mod living;

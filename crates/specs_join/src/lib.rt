@@ -5,6 +5,8 @@ pub mod join;
 pub mod laws;
 
 pub use join::and::BitAnd;
+pub use join::change::{Change, EachError};
+pub use join::change_each::change_each;
 pub use join::cursor::JoinCursor;
 pub use join::iter::JoinIter;
 pub use join::par_join::{JoinParIter, ParJoin};

@@ -1,2 +1,3 @@
 -- What proofs of the crates above cite, and nothing else of these lemmas.
 pub use Rattle.specs_layouts.proofs.DropSteps.{room-for-one}
+pub use Rattle.specs_layouts.proofs.ToCome.{walk-come}

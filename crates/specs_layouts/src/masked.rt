@@ -50,7 +50,9 @@ impl<T: Component> MaskedStorage<T> {
     pub fn mask(&self) -> &BitSet
         ensures value { result.now ≡ self.now.mask }
         ensures agrees { Agrees self.now.mask (T.Storage.part_at self.now.inner) }
+        ensures range { (index : ℕ) → set.contains self.now.mask.members index ≡ true → index < 16777216 }
     {
+        let _words = self.mask.layer0_as_slice();
         &self.mask
     }
 

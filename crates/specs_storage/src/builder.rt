@@ -1,6 +1,7 @@
 //! Parts for an entity that is being built.
 ghost use Rattle.std.specs.Prelude.{◌≡◌, Some, IfOk, IfErr, OnOk, OnErr, IsOk, IsSome, is_some, false, if◌then◌else◌};
-ghost use Rattle.specs_entity.specs.Births.{IsAlive};
+ghost use Rattle.specs_entity.specs.Births.{Births, IsAlive};
+ghost use Rattle.specs_entity.specs.declared.ids.Entity.{Entity};
 ghost use Rattle.specs_layouts.specs.Parts.{Puts, SameParts, told};
 ghost use Rattle.specs_layouts.specs.declared.track.ComponentEvent.TheVariants as event;
 ghost use Rattle.specs_storage.specs.Found.{RefusesInsert};
@@ -11,6 +12,12 @@ use specs_layouts::{Component, MaskedStorage, UnprotectedStorage};
 
 /// Entities in the making that can be given parts.
 pub trait BuildWith: Sized {
+    /// The entity that is being built.
+    ghost entity: { Self → Entity };
+
+    /// The births of the entities that it is one of.
+    ghost births: { Self → Births };
+
     /// Puts `part` at the entity, in the place of the one that it has, and answers the builder.
     ///
     /// A storage that emits writes `Modified` where a part was, else `Inserted`.
@@ -22,10 +29,22 @@ pub trait BuildWith: Sized {
         self,
         part: T,
         storage: &mut MaskedStorage<T>,
-    ) -> Result<Self, (Error, Self, T)>;
+    ) -> Result<Self, (Error, Self, T)>
+        ensures builder { IfOk result (λ builder. builder ≡ self) }
+        ensures alive { OnOk result (IsAlive (births self) (entity self)) }
+        ensures ok { OnOk result (Puts (T.Storage.part_at storage.old.inner) (entity self).id (Some part) (T.Storage.part_at storage.new.inner)) }
+        ensures err { OnErr result (SameParts (T.Storage.part_at storage.old.inner) (T.Storage.part_at storage.new.inner)) }
+        ensures refused { IfErr result (λ refused. RefusesInsert (births self) (entity self) refused.0) }
+        ensures handed_back { IfErr result (λ refused. (refused.1 ≡ self) × (refused.2 ≡ part)) }
+        ensures succeeds { IsAlive (births self) (entity self) → IsSome (T.Storage.part_at storage.old.inner (entity self).id) → T.Storage.emits storage.old.inner ≡ false → IsOk result }
+        ensures emission { T.Storage.emits storage.new.inner ≡ T.Storage.emits storage.old.inner };
 }
 
 impl<'a> BuildWith for EntityResBuilder<'a> {
+    ghost entity = { λ builder. builder.entity };
+
+    ghost births = { λ builder. builder.entities.now };
+
     fn with<T: Component>(
         self,
         part: T,

@@ -12,10 +12,18 @@ use specs_layouts::{Component, MaskedStorage, UnprotectedStorage};
 use std::alloc::AllocError;
 
 /// The parts of a storage, to be taken out one at a time, ascending by index. What isn't taken stays.
-#[derive(Drop)]
 pub struct Drain<'a, T: Component> {
     /// The storage.
     pub store: &'a mut MaskedStorage<T>,
+}
+
+impl<T: Component> Drop for Drain<'_, T> {
+    /// Leaves the storage as it is.
+    fn drop(self)
+        ensures { self.exit.0.now ≡ self.entry.store.now }
+    {
+        let Drain { store: _ } = self;
+    }
 }
 
 impl<'a, T: Component> Drain<'a, T> {

@@ -8,7 +8,7 @@ mod replace;
 mod vacant;
 
 use hibitset::Index;
-pub(crate) use open::entry_at;
+pub use open::entry_at;
 use specs_entity::{Entity, Generation};
 use specs_layouts::{Component, MaskedStorage, UnprotectedStorage};
 use std::alloc::{AllocError, AllocFailed};

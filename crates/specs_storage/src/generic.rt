@@ -1,5 +1,5 @@
 //! Storages behind a trait, for callers that take any.
-ghost use Rattle.std.specs.Prelude.{◌≡◌, ◌↔◌, ◌<◌, ℕ, Option, Some, None, IsSome, option_copied, IfOk, IfErr, IsErrOf, OnOk, OnErr};
+ghost use Rattle.std.specs.Prelude.{◌≡◌, ◌↔◌, ◌<◌, ℕ, Bool, false, IsOk, Option, Some, None, IsSome, option_copied, IfOk, IfErr, IsErrOf, OnOk, OnErr};
 ghost use Rattle.std.specs.Borrow.{sem, LendsIfOk, LendsSoOk};
 ghost use Rattle.std.specs.Option.{UnwrapsOrElse};
 ghost use Rattle.specs_layouts.specs.Parts.{Puts, SameParts};
@@ -49,13 +49,17 @@ pub trait GenericWriteStorage: GenericReadStorage {
     /// The storage after a part was written at an index through what `get_mut` lent.
     ghost written: { Self → ℕ → Self.Component → Self };
 
+    /// Whether a change writes an event, for which memory may be wanting.
+    ghost emits: { Self → Bool };
+
     /// The part of an entity for writing.
     ///
     /// Errors: those of `Storage::get_mut`.
     fn get_mut(&mut self, entity: Entity) -> Result<&mut Self::Component, LendError>
         ensures* writes_back { sem 𝓛 (LendsIfOk Self.row Self.Component.row self.entry result (written self.old entity.id) self.old) }
         ensures value { IfOk result (λ part. Self.parts self.old entity.id ≡ Some part.now) }
-        ensures absent { IsErrOf result lending.Absent ↔ ¬ (HasPart (Self.births self.old) (Self.parts self.old) entity) };
+        ensures absent { IsErrOf result lending.Absent ↔ ¬ (HasPart (Self.births self.old) (Self.parts self.old) entity) }
+        ensures succeeds { HasPart (Self.births self.old) (Self.parts self.old) entity → emits self.old ≡ false → IsOk result };
 
     /// The part of an entity for writing, which is put by default where the entity has none.
     ///
@@ -79,7 +83,9 @@ pub trait GenericWriteStorage: GenericReadStorage {
         ensures handed_back { IfErr result (λ refused. refused.1 ≡ part) }
         ensures alive { OnOk result (IsAlive (Self.births self.old) entity) }
         ensures refused { IfErr result (λ refused. RefusesInsert (Self.births self.old) entity refused.0) }
-        ensures births { Self.births self.new ≡ Self.births self.old };
+        ensures succeeds { HasPart (Self.births self.old) (Self.parts self.old) entity → emits self.old ≡ false → IsOk result }
+        ensures births { Self.births self.new ≡ Self.births self.old }
+        ensures emission { emits self.new ≡ emits self.old };
 
     /// Takes out the part of an entity, or answers none where the entity isn't alive or has none.
     ///
@@ -89,13 +95,18 @@ pub trait GenericWriteStorage: GenericReadStorage {
         ensures ok { OnOk result (IsAlive (Self.births self.old) entity → Puts (Self.parts self.old) entity.id None (Self.parts self.new)) }
         ensures dead { ¬ (IsAlive (Self.births self.old) entity) → SameParts (Self.parts self.old) (Self.parts self.new) }
         ensures err { OnErr result (SameParts (Self.parts self.old) (Self.parts self.new)) }
-        ensures births { Self.births self.new ≡ Self.births self.old };
+        ensures succeeds { emits self.old ≡ false → IsOk result }
+        ensures births { Self.births self.new ≡ Self.births self.old }
+        ensures emission { emits self.new ≡ emits self.old };
 
     /// What was written is there, and no other part changed.
     ghost written_puts: { (s : Self) (index : ℕ) (part : Self.Component) → IsSome (Self.parts s index) → Puts (Self.parts s) index (Some part) (Self.parts (written s index part)) };
 
     /// Writing leaves the entities.
     ghost written_leaves: { (s : Self) (index : ℕ) (part : Self.Component) → Self.births (written s index part) ≡ Self.births s };
+
+    /// Writing leaves the emission.
+    ghost written_emits: { (s : Self) (index : ℕ) (part : Self.Component) → emits (written s index part) ≡ emits s };
 }
 
 impl<'e, T: Component> GenericWriteStorage for Storage<'e, T, &'e mut MaskedStorage<T>> {
@@ -103,6 +114,8 @@ impl<'e, T: Component> GenericWriteStorage for Storage<'e, T, &'e mut MaskedStor
     ghost use Rattle.specs_storage.specs.StorageLends.{with_part};
 
     ghost written = { with_part T.Storage.written };
+
+    ghost emits = { λ s. T.Storage.emits s.store.now.inner };
 
     fn get_mut(&mut self, entity: Entity) -> Result<&mut T, LendError> {
         Storage::get_mut(self, entity)
@@ -129,6 +142,8 @@ impl<'e, T: Component> GenericWriteStorage for Storage<'e, T, &'e mut MaskedStor
     ghost written_puts = { λ s index part there. T.Storage.written_puts s.store.now.inner index part there };
 
     ghost written_leaves = { λ s index part. refl };
+
+    ghost written_emits = { λ s index part. T.Storage.written_emits s.store.now.inner index part };
 }
 
 /// The part at an index, which is put by default where it has none.

@@ -14,7 +14,7 @@ pub mod storage;
 pub use builder::BuildWith;
 pub use drain::Drain;
 pub use entries::{Entries, EntryCursor, Place};
-pub use entry::{EntryError, OccupiedEntry, StorageEntry, VacantEntry};
+pub use entry::{EntryError, OccupiedEntry, StorageEntry, VacantEntry, entry_at};
 pub use generic::{GenericReadStorage, GenericWriteStorage};
 pub use loan::Loan;
 pub use restrict::cursor::PairCursor;

@@ -7,6 +7,9 @@ mod carried;
 mod changes;
 #[cfg(test)]
 mod cursors;
+pub mod drifting;
+#[cfg(test)]
+mod drifts;
 #[cfg(test)]
 mod entities;
 #[cfg(test)]

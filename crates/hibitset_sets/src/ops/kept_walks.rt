@@ -16,11 +16,11 @@ impl Iterator for BitSetIter {
 
     ghost use Rattle.std.specs.Iterator.{YieldsFirst, item_count};
     ghost use Rattle.hibitset_sets.specs.BitSet.{has_member};
-    ghost use Rattle.hibitset_sets.specs.Iter.{left_of};
+    ghost use Rattle.hibitset_sets.specs.Iter.{left_of, owned_walk};
 
-    ghost next_gives = { YieldsFirst (λ it. left_of has_member it.walk) };
+    ghost next_gives = { YieldsFirst (λ it. left_of has_member (owned_walk it)) };
 
-    ghost remaining = { item_count (λ it. left_of has_member it.walk) };
+    ghost remaining = { item_count (λ it. left_of has_member (owned_walk it)) };
 
     fn next(&mut self) -> Option<Index> {
         self.walk.next_counted(&mut Uncounted)
@@ -34,10 +34,10 @@ impl IntoIterator for BitSet {
 
     ghost use Rattle.std.specs.Prelude.{◌≡◌};
     ghost use Rattle.hibitset_sets.specs.BitSet.{has_member};
-    ghost use Rattle.hibitset_sets.specs.Iter.{left_of};
+    ghost use Rattle.hibitset_sets.specs.Iter.{left_of, owned_walk};
     ghost use Rattle.hibitset_sets.specs.Walk.{walk};
 
-    ghost into_iter_gives = { λ set it. left_of has_member it.walk ≡ walk (has_member set) };
+    ghost into_iter_gives = { λ set it. left_of has_member (owned_walk it) ≡ walk (has_member set) };
 
     fn into_iter(self) -> BitSetIter {
         BitSetIter { walk: self.iter() }

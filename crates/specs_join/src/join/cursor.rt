@@ -13,7 +13,6 @@ use std::alloc::AllocError;
 
 /// A walk over the indices that a storage and a join share, which lends the storage's part for writing
 /// beside the join's item.
-#[derive(Drop)]
 pub struct JoinCursor<'a, T: Component, R: Join> {
     storage: &'a mut MaskedStorage<T>,
     mask: R::Mask,
@@ -21,6 +20,24 @@ pub struct JoinCursor<'a, T: Component, R: Join> {
     masks: [u64; 4],
     prefix: [u32; 3],
     index: Option<Index>,
+}
+
+impl<T: Component, R: Join> Drop for JoinCursor<'_, T, R> {
+    /// Leaves the storage as it is.
+    fn drop(self)
+        ensures { self.exit.0.now ≡ self.entry.storage.now }
+    {
+        let JoinCursor {
+            storage: _,
+            mask,
+            values,
+            masks: _,
+            prefix: _,
+            index: _,
+        } = self;
+        drop(mask);
+        drop(values);
+    }
 }
 
 impl<'a, T: Component, R: Join> JoinCursor<'a, T, R> {
@@ -75,6 +92,15 @@ impl<'a, T: Component, R: Join> JoinCursor<'a, T, R> {
         next.is_some()
     }
 
+    /// The index at which the cursor is.
+    pub fn index(&self) -> Index
+        requires { IsSome self.now.index }
+        ensures { self.now.index ≡ Some result }
+    {
+        let Some(id) = self.index else { unreachable!() };
+        id
+    }
+
     /// What the join has at the index.
     pub fn item(&self) -> R::Type
         requires { (index : ℕ) × (self.now.index ≡ Some index) × IsAt R.value_at self.now.storage.now.mask self.now.values index }
@@ -95,6 +121,7 @@ impl<'a, T: Component, R: Join> JoinCursor<'a, T, R> {
             (λ part. record self.old { storage = record self.old.storage { now = record self.old.storage.now { inner = T.Storage.written self.old.storage.now.inner (unwrap_or self.old.index 0) part } } }) self.old) }
         ensures part { IfOk result (λ part. (index : ℕ) → self.old.index ≡ Some index → T.Storage.part_at self.old.storage.now.inner index ≡ Some part.now) }
         ensures succeeds { T.Storage.emits self.old.storage.now.inner ≡ false → IsOk result }
+        ensures within_room { T.Storage.has_room self.old.storage.now.inner 1 → IsOk result }
     {
         let Some(id) = self.index else { unreachable!() };
         let _mask = self.storage.mask();

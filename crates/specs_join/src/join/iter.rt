@@ -20,16 +20,16 @@ pub struct JoinIter<J: Join> {
 }
 
 impl<J: Join> Model for JoinIter<J> {
-    ghost use Rattle.hibitset_sets.specs.Iter.{left_of, unread};
+    ghost use Rattle.hibitset_sets.specs.Iter.{left_of, unread, walked_set};
     ghost use Rattle.specs_join.specs.Joining.{Joining, joining_code, IsJoining};
 
     ghost Value = { Joining J.Mask J.Value };
 
     ghost coded = { joining_code J.Mask.code J.Value.code };
 
-    ghost view = { λ it. record { indices = left_of J.Mask.members it.keys; mask = it.keys.set; values = it.values; unread = unread J.Mask.reads J.Mask.words it.keys } };
+    ghost view = { λ it. record { indices = left_of J.Mask.members it.keys; mask = walked_set it.keys; values = it.values; unread = unread J.Mask.reads J.Mask.words it.keys } };
 
-    ghost invariant = { λ it. IsJoining (J.Mask.members it.keys.set) (J.value_at it.values) (left_of J.Mask.members it.keys) };
+    ghost invariant = { λ it. IsJoining (J.Mask.members (walked_set it.keys)) (J.value_at it.values) (left_of J.Mask.members it.keys) };
 }
 
 impl<J: Join> JoinIter<J> {

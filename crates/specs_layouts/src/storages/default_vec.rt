@@ -1,7 +1,7 @@
 //! A slot for each index, with defaults in the gaps.
-ghost use Rattle.std.specs.Prelude.{◌≡◌, ◌≢◌, ℕ, ◌+◌, ◌<◌, ◌≤◌, max, None, Some, IsSome, IfSome, IfOk, IfErr, IsOk, OnOk, OnErr, length, slice_get};
+ghost use Rattle.std.specs.Prelude.{◌≡◌, ◌≢◌, ℕ, ◌+◌, ◌<◌, ◌≤◌, max, None, Some, is_some, IsSome, IfSome, IfOk, IfErr, IsOk, OnOk, OnErr, length, slice_get};
 ghost use Rattle.std.specs.Borrow.{sem};
-ghost use Rattle.specs_layouts.specs.Parts.{Puts, SameParts};
+ghost use Rattle.specs_layouts.specs.Parts.{Puts, SameParts, HasNone};
 ghost use Rattle.specs_layouts.specs.Defaults.{filled_part};
 
 use crate::slices::SliceAccess;
@@ -64,7 +64,11 @@ impl<T: Default + Drop> DefaultVecStorage<T> {
 
     /// Drops the part at `id`, if it has one.
     fn forget(&mut self, id: Index)
-        ensures { Puts (filled_part self.old) id None (filled_part self.new) }
+        ensures parts { Puts (filled_part self.old) id None (filled_part self.new) }
+        ensures len { length self.new.values ≡ length self.old.values }
+        ensures gap { IsSome (filled_part self.old id) → IfSome (slice_get self.new.values id) T.is_default }
+        ensures slots { (index : ℕ) → index ≢ id → slice_get self.new.values index ≡ slice_get self.old.values index }
+        ensures lacks { filled_part self.old id ≡ None → self.new ≡ self.old }
     {
         if self.present.contains(id) {
             let _ = self.take(id);
@@ -86,10 +90,10 @@ impl<T: Default> DefaultVecStorage<T> {
 }
 
 impl<T: Default> TryDefault for DefaultVecStorage<T> {
-    ghost use Rattle.std.specs.Prelude.{◌≡◌, true};
+    ghost use Rattle.std.specs.Prelude.{◌≡◌, [], true};
     ghost use Rattle.std.specs.FinSet as set;
 
-    ghost is_default = { λ s. s.present ≡ set.empty };
+    ghost is_default = { λ s. (s.present ≡ set.empty) × (s.values ≡ []) };
 
     ghost always = { true };
 
@@ -128,9 +132,17 @@ impl<T: Default + Drop> UnprotectedStorage<T> for DefaultVecStorage<T> {
 
     ghost room_for_fewer = { λ _ _ room. room };
 
-    ghost starts_empty = { filled-starts };
+    ghost starts_empty = { λ s is. filled-starts s is.0 };
 
-    fn clean<B: BitSetLike + Drop>(&mut self, has: B) {
+    fn clean<B: BitSetLike + Drop>(&mut self, has: B)
+        requires mask { (index : ℕ) → B.members has index ≡ is_some (filled_part self.old index) }
+        requires range { (index : ℕ) → IsSome (filled_part self.old index) → index < 16777216 }
+        ensures none { HasNone (filled_part self.new) }
+
+        // Each part leaves a default in its slot.
+        ensures len { length self.new.values ≡ length self.old.values }
+        ensures gaps { (index : ℕ) → IsSome (filled_part self.old index) → IfSome (slice_get self.new.values index) T.is_default }
+    {
         let mut left = has.iter();
         while let Some(id) = left.next_counted(&mut Uncounted) {
             self.forget(id);

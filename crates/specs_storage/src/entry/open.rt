@@ -74,8 +74,11 @@ impl<'a, T: Component> EntryOf<'a, T> {
     }
 }
 
-/// The place of the part at an index.
-pub(crate) fn entry_at<T: Component>(store: &mut MaskedStorage<T>, id: Index) -> StorageEntry<'_, T>
+/// The place of the part at an index, as one with a part or one without. No entity is asked whether it is alive:
+/// `Storage::entry` is that question and this place.
+///
+/// What a caller does with the place is known of the storage that lent it.
+pub fn entry_at<T: Component>(store: &mut MaskedStorage<T>, id: Index) -> StorageEntry<'_, T>
     requires { id < 16777216 }
     ensures same_reference { (store_of result).ghost_name ≡ store.entry.ghost_name }
     ensures store { (store_of result).now ≡ store.old }

@@ -19,7 +19,6 @@ use specs_layouts::{Component, MaskedStorage, UnprotectedStorage};
 use std::alloc::AllocError;
 
 /// A walk over the indices that a storage and a join share, which lends the storage at each index beside the join's item.
-#[derive(Drop)]
 pub struct PairCursor<'a, T: Component, R: Join> {
     entities: &'a EntitiesRes,
     store: &'a mut MaskedStorage<T>,
@@ -28,6 +27,25 @@ pub struct PairCursor<'a, T: Component, R: Join> {
     masks: [u64; 4],
     prefix: [u32; 3],
     index: Option<Index>,
+}
+
+impl<T: Component, R: Join> Drop for PairCursor<'_, T, R> {
+    /// Leaves the storage as it is.
+    fn drop(self)
+        ensures { self.exit.1.0.now ≡ self.entry.store.now }
+    {
+        let PairCursor {
+            entities: _,
+            store: _,
+            mask,
+            values,
+            masks: _,
+            prefix: _,
+            index: _,
+        } = self;
+        drop(mask);
+        drop(values);
+    }
 }
 
 impl<'a, T: Component> RestrictedStorageMut<'a, T, SequentialRestriction> {

@@ -1,10 +1,25 @@
-use Rattle.std.proofs.Common.{◌/◌, ◌<◌, ap, sym, ◌∙◌, arith, length, bit_or, subst}
+use Rattle.std.proofs.Common.{◌≡◌, ◌≢◌, ℕ, ◌/◌, ◌%◌, ◌^◌, ◌<◌, List, ap, sym, ◌∙◌, arith, length, not, eqb, slice_index, bit_or, subst}
 use Rattle.std.specs.FinSet as set
 use Rattle.std.proofs.lemmas.Nat.{one_shl}
+use Rattle.std.proofs.lemmas.List.{get_or_read}
 use Rattle.hibitset_sets.specs.Layout.{IsLayered, members_of}
 use Rattle.hibitset_sets.specs.Edits.{with_bit}
-use Rattle.hibitset_sets.proofs.LayoutLemmas.{layered-with, members_of-with, in-layers}
+use Rattle.hibitset_sets.specs.WordLemmas.{not_zero_test}
+use Rattle.hibitset_sets.proofs.LayoutLemmas.{layered-with, layered-fuller, members_of-with, in-layers, tested-member, insert-there}
 use Rattle.hibitset_sets.proofs.bit_set.BitSet.put.Goals as goal
+
+pub returns-then-word-mask-ne0-clause-was_there : goal.returns-then-word-mask-ne0-clause-was_there
+returns-then-word-mask-ne0-clause-was_there c =
+    let v = c.self.inside.layer0 in
+    let room = ap (λ s. s.room) c.self.view_is in
+    let below = c.requires in
+    sym (not_zero_test _ (let some = c.if-word-mask-ne0.true in omega arith))
+    ∙ tested-member v.items _ c.args.id _ _ c.self.view_is
+    (get_or_read v.items _ _ (omega (arith, v.ok.0)) c.index-word.ensures 0)
+    (c.mask.ensures ∙ ap (λ n. 2 ^ (n % 64)) (let e : c.args.id / 1 ≡ c.args.id = omega arith in e))
+
+pub returns-then-word-mask-ne0-clause-members : goal.returns-then-word-mask-ne0-clause-members
+returns-then-word-mask-ne0-clause-members c = sym (insert-there _ c.args.id (sym (returns-then-word-mask-ne0-clause-was_there c)))
 
 pub invariant_of-self : goal.invariant_of-self
 invariant_of-self c =
@@ -13,12 +28,49 @@ invariant_of-self c =
     let below = c.requires in
     let within : c.args.id / 64 < length s.layer0.items = omega arith in
     let top = one_shl (c.args.id / 64 / 64 / 64) 64 (in-layers c.self.invariant c.args.id within).in3 in
-    rw (c.set_bit.ensures, c.set_bit-2.ensures, c.set_bit-3.ensures)
+    rw (c.set_bit.ensures, c.set_bit-then-word-eq0.ensures, c.set_bit-then-word-eq0-2.ensures)
     (subst (λ m. IsLayered (with_bit s.layer0.items c.args.id) (with_bit s.layer1.items (c.args.id / 64)) (with_bit s.layer2.items (c.args.id / 64 / 64)) (bit_or s.layer3 m)) (sym top)
     (layered-with c.self.invariant c.args.id within))
 
-pub returns-clause-members : goal.returns-clause-members
-returns-clause-members c =
+pub invariant_of-self-else-word-eq0 : goal.invariant_of-self-else-word-eq0
+invariant_of-self-else-word-eq0 c =
+    let s = c.self.inside in
+    let room = ap (λ s. s.room) c.self.view_is in
+    let below = c.requires in
+    let within : c.args.id / 64 < length s.layer0.items = omega arith in
+    let word = get_or_read s.layer0.items _ _ (omega (arith, s.layer0.ok.0)) c.index-word.ensures 0 in
+    rw c.set_bit.ensures (layered-fuller c.self.invariant c.args.id within (λ zero. c.if-word-eq0.false (word ∙ zero)))
+
+pub returns-then-word-eq0-clause-was_there : goal.returns-then-word-eq0-clause-was_there
+returns-then-word-eq0-clause-was_there c =
+    let v = c.self.inside.layer0 in
+    let room = ap (λ s. s.room) c.self.view_is in
+    let below = c.requires in
+    ap (λ n. not (eqb n 0)) (sym c.if-word-mask-ne0.false)
+    ∙ tested-member v.items _ c.args.id _ _ c.self.view_is
+    (get_or_read v.items _ _ (omega (arith, v.ok.0)) c.index-word.ensures 0)
+    (c.mask.ensures ∙ ap (λ n. 2 ^ (n % 64)) (let e : c.args.id / 1 ≡ c.args.id = omega arith in e))
+
+pub returns-then-word-eq0-clause-members : goal.returns-then-word-eq0-clause-members
+returns-then-word-eq0-clause-members c =
+    let s = c.self.inside in
+    let room = ap (λ s. s.room) c.self.view_is in
+    let below = c.requires in
+    let within : c.args.id / 64 < length s.layer0.items = omega arith in
+    ap members_of c.set_bit.ensures ∙ members_of-with s.layer0.items c.args.id within ∙ ap (λ s. set.insert s.members c.args.id) c.self.view_is
+
+pub returns-else-word-eq0-clause-was_there : goal.returns-else-word-eq0-clause-was_there
+returns-else-word-eq0-clause-was_there c =
+    let v = c.self.inside.layer0 in
+    let room = ap (λ s. s.room) c.self.view_is in
+    let below = c.requires in
+    ap (λ n. not (eqb n 0)) (sym c.if-word-mask-ne0.false)
+    ∙ tested-member v.items _ c.args.id _ _ c.self.view_is
+    (get_or_read v.items _ _ (omega (arith, v.ok.0)) c.index-word.ensures 0)
+    (c.mask.ensures ∙ ap (λ n. 2 ^ (n % 64)) (let e : c.args.id / 1 ≡ c.args.id = omega arith in e))
+
+pub returns-else-word-eq0-clause-members : goal.returns-else-word-eq0-clause-members
+returns-else-word-eq0-clause-members c =
     let s = c.self.inside in
     let room = ap (λ s. s.room) c.self.view_is in
     let below = c.requires in
