@@ -1,6 +1,6 @@
 -- What a whole run may answer, in terms of the bytes that were read.
 use Rattle.std.specs.Prelude.{◌≡◌, ◌≤◌, ℕ, List, length, Option, IfSome, IfOk, IfErr, OnOk, Result, Ok, Err, ◌⊎◌, take}
-use Rattle.std.specs.Io.KnownBytes.{Appends}
+use Rattle.std.specs.Io.KnownBytes.{Appends, IsAtEnd}
 use Rattle.scene_devices.specs.Faults.{HasFailed}
 use Rattle.scene_devices.specs.Reading.{GivesAtLeast}
 use Rattle.scene_rules.specs.declared.refusals.DocRefusal.{DocRefusal}
@@ -84,6 +84,20 @@ BeforeWriting fact run.Read = fact
 BeforeWriting fact (run.Write sent) = Unit {0}
 BeforeWriting fact run.Memory = fact
 
+-- this holds where what is told doesn't come from the reader
+abbrev pub NotOnRead : Type 0 → RunError → Type 0
+NotOnRead fact (run.Document refusal) = fact
+NotOnRead fact run.Read = Unit {0}
+NotOnRead fact (run.Write sent) = fact
+NotOnRead fact run.Memory = fact
+
+-- this holds where what is told came after the whole document
+abbrev pub OnWhole : Type 0 → RunError → Type 0
+OnWhole fact (run.Document refusal) = fact
+OnWhole fact run.Read = Unit {0}
+OnWhole fact (run.Write sent) = fact
+OnWhole fact run.Memory = Unit {0}
+
 -- what a call did to its reader: the bytes that were left and are left, where the reader tells them, and its failures
 pub record Reading : Type 0 where
   pub left_before : Option (List ℕ)
@@ -115,3 +129,10 @@ pub record RunsDocument (book : Book) (bounds : Bounds) (result : Result Report 
   -- A failed write is told where the writer failed in the call, and just the first bytes of such a text went out.
   pub write : IfErr result (OnWrite (λ sent. HasFailed writing.failures_before writing.failures_after))
   pub sent : IfErr result (OnWrite (λ sent. OfInput reading.left_before (λ input. (report : Report) × (text : List ℕ) × IsRunOf book bounds input report text × (sent ≤ length text) × Appends writing.held_before writing.held_after (take sent text))))
+  -- No failure is passed over: a report says that reader and writer had none, and the reader had none but where a failed read is told.
+  pub sound_writer : OnOk result (writing.failures_after ≡ writing.failures_before)
+  pub sound_reader : OnOk result (reading.failures_after ≡ reading.failures_before)
+  pub sound_else : IfErr result (NotOnRead (reading.failures_after ≡ reading.failures_before))
+  -- The whole document was read, and nothing after it: a report, a refused document and a failed write leave the reader at its end.
+  pub to_the_end : OnOk result (IsAtEnd reading.left_after)
+  pub refused_at_the_end : IfErr result (OnWhole (IsAtEnd reading.left_after))

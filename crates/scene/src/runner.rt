@@ -79,6 +79,9 @@ fn run_to_end<R: Rules + Drop, H: AllocGlobal>(rt: &H, scene: &mut Scene<R>)
 ///
 /// Errors: `Document`, with the least refusal that stands; `Read`; `Memory`; with each of these nothing was written. `Write`, with the number of bytes of the text that went out, just its first ones.
 ///
+/// No failure of a device is passed over: where there is a report none of them failed in the call, and the reader fails only where
+/// `Read` is told. With a report, `Document` and `Write` the reader is left at its end.
+///
 /// The limits are at most the greatest ones, and `generation` is at least 1.
 pub fn run_with<R: Rules + Drop, H: AllocGlobal, I: CountedRead, O: CountedWrite>(
     rt: &H,
