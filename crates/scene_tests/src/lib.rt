@@ -22,6 +22,8 @@ mod limits;
 #[cfg(test)]
 mod memory;
 #[cfg(test)]
+mod queues;
+#[cfg(test)]
 mod refusals;
 #[cfg(test)]
 mod runs;
