@@ -6,6 +6,7 @@ use Rattle.hibitset_sets.specs.BitSet.{SetWithRoom}
 use Rattle.hibitset_sets.specs.Walk.{walk}
 use Rattle.specs_layouts.specs.ToCome.{IsToCome}
 use Rattle.specs_layouts.specs.Parts.{Puts, SameParts, told}
+use Rattle.specs_events.specs.Channels.{Log}
 use Rattle.specs_layouts.specs.declared.track.ComponentEvent.{ComponentEvent}
 use Rattle.specs_layouts.specs.declared.track.ComponentEvent.TheVariants as event
 use Rattle.specs_join.specs.Joins.{values_at}
@@ -58,7 +59,7 @@ pub walk-member : (p : ℕ → Bool) (done : List ℕ) (index : ℕ) (rest : Lis
 walk-member p done index rest is = (walk-members p index (subst (IsToCome index) is (in-middle done index rest))).0
 
 -- some first values are stored at some first indices, and each other index has what it had
-pub record IsStoring {T : Type 0} (before now : ℕ → Option T) (indices left : List ℕ) (values remaining : List T) (emits : Bool) (events events_now : List ComponentEvent) : Type 0 where
+pub record IsStoring {T : Type 0} (before now : ℕ → Option T) (indices left : List ℕ) (values remaining : List T) (emits : Bool) (events events_now : Log ComponentEvent) : Type 0 where
   pub done : List ℕ
   pub taken : List T
   pub indices_are : done ++ left ≡ indices
@@ -68,11 +69,11 @@ pub record IsStoring {T : Type 0} (before now : ℕ → Option T) (indices left 
   pub others : (index : ℕ) → ¬ (IsToCome index done) → now index ≡ before index
   pub told_of : events_now ≡ all_told emits events done
 
-told-none : (emits : Bool) (events : List ComponentEvent) → events ≡ all_told emits events []
-told-none true events = sym (append-nil events)
+told-none : (emits : Bool) (events : Log ComponentEvent) → events ≡ all_told emits events []
+told-none true events = ap (λ held. record { held = held; places = events.places }) (sym (append-nil events.held))
 told-none false events = refl
 
-pub storing-begins : {T : Type 0} (before now : ℕ → Option T) (indices left : List ℕ) (values remaining : List T) (emits : Bool) (events events_now : List ComponentEvent) → left ≡ indices → remaining ≡ values → SameParts before now → events_now ≡ events → IsStoring before now indices left values remaining emits events events_now
+pub storing-begins : {T : Type 0} (before now : ℕ → Option T) (indices left : List ℕ) (values remaining : List T) (emits : Bool) (events events_now : Log ComponentEvent) → left ≡ indices → remaining ≡ values → SameParts before now → events_now ≡ events → IsStoring before now indices left values remaining emits events events_now
 storing-begins before now indices left values remaining emits events events_now same_left same_remaining same_parts same_events =
     record {
       done = [];
@@ -105,17 +106,19 @@ come-last : (done : List ℕ) (index other : ℕ) → index ≡ other → IsToCo
 come-last [] index other is = inl is
 come-last (first ∷ done) index other is = inr (come-last done index other is)
 
-told-one : (emits : Bool) (events : List ComponentEvent) (done : List ℕ) (index : ℕ) → told emits (all_told emits events done) (event.Modified index) ≡ all_told emits events (done ++ index ∷ [])
-told-one true events done index = append_assoc events (map event.Modified done) (event.Modified index ∷ []) ∙ ap (λ list. events ++ list) (sym (map-append event.Modified done (index ∷ [])))
+told-one : (emits : Bool) (events : Log ComponentEvent) (done : List ℕ) (index : ℕ) → told emits (all_told emits events done) (event.Modified index) ≡ all_told emits events (done ++ index ∷ [])
+told-one true events done index =
+    ap (λ held. record { held = held; places = events.places })
+    (append_assoc events.held (map event.Modified done) (event.Modified index ∷ []) ∙ ap (λ list. events.held ++ list) (sym (map-append event.Modified done (index ∷ []))))
 told-one false events done index = refl
 
 empty-list : {A : Type 0} (list : List A) → length list ≡ 0 → list ≡ []
 empty-list [] is = refl
 empty-list (first ∷ rest) is = absurd (omega (arith, is))
 
-module _ {T : Type 0} (before now : ℕ → Option T) (indices left : List ℕ) (values remaining : List T) (emits : Bool) (events events_now : List ComponentEvent) (storing : IsStoring before now indices left values remaining emits events events_now) where
+module _ {T : Type 0} (before now : ℕ → Option T) (indices left : List ℕ) (values remaining : List T) (emits : Bool) (events events_now : Log ComponentEvent) (storing : IsStoring before now indices left values remaining emits events events_now) where
   -- one value more at the next index
-  pub storing-goes-on : (p : ℕ → Bool) → indices ≡ walk p → (index : ℕ) (rest : List ℕ) → left ≡ index ∷ rest → (value : T) (others : List T) → remaining ≡ value ∷ others → (after : ℕ → Option T) → Puts now index (Some value) after → (events_after : List ComponentEvent) → events_after ≡ told emits events_now (event.Modified index) → IsStoring before after indices rest values others emits events events_after
+  pub storing-goes-on : (p : ℕ → Bool) → indices ≡ walk p → (index : ℕ) (rest : List ℕ) → left ≡ index ∷ rest → (value : T) (others : List T) → remaining ≡ value ∷ others → (after : ℕ → Option T) → Puts now index (Some value) after → (events_after : Log ComponentEvent) → events_after ≡ told emits events_now (event.Modified index) → IsStoring before after indices rest values others emits events events_after
   storing-goes-on p walks index rest next value others given after puts events_after tells =
       let apart = walk-apart p storing.done index rest (ap (λ list. storing.done ++ list) (sym next) ∙ storing.indices_are ∙ walks) in
       record {

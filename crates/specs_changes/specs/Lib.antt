@@ -1,3 +1,4 @@
 pub mod Storing
 pub mod Changes
 pub mod Taking
+pub mod TakeIters

@@ -1,19 +1,19 @@
 -- Changes that are taken out beside the items of a join: what is still to come.
-use Rattle.std.specs.Prelude.{◌≡◌, ℕ, ◌<◌, ◌==◌, Bool, true, ◌&&◌, not, List, Option, None, IsSome, if◌then◌else◌}
-use Rattle.specs_join.specs.Joins.{join_list, both}
+use Rattle.std.specs.Prelude.{ℕ, Bool, List, Option, IsSome}
+use Rattle.hibitset_sets.specs.BitSet.{SetWithRoom, has_member}
+use Rattle.hibitset_sets.specs.Operators.{members_of_and}
+use Rattle.hibitset_sets.specs.declared.ops.BitSetAnd.{BitSetAnd}
+use Rattle.specs_layouts.specs.ToCome.{IsToCome}
+use Rattle.specs_join.specs.Joins.{values_at, both}
 
--- the value at an index that a mask has
-abbrev pub masked : {S : Type 0} → (ℕ → Bool) → (ℕ → Option S) → ℕ → Option S
-masked members values index = if members index then values index else None
+-- the indices of a kept set and of another
+abbrev pub in_both : {M : Type 0} → (M → ℕ → Bool) → BitSetAnd SetWithRoom M → ℕ → Bool
+in_both members sets = members_of_and (has_member sets.0) (members sets.1)
 
--- the changes at the indices of a mask, each beside the value there
-abbrev pub taken_with : {T S : Type 0} → (ℕ → Option T) → (ℕ → Bool) → (ℕ → Option S) → List (T × S)
-taken_with changes members values = join_list (λ index. both (changes index) (masked members values index))
+-- the changes at the indices of a list, each beside the value there
+abbrev pub taken_at : {T S : Type 0} → (ℕ → Option T) → (ℕ → Option S) → List ℕ → List (T × S)
+taken_at changes values indices = values_at (λ index. both (changes index) (values index)) indices
 
--- the indices of a set, but for one
-abbrev pub without : ℕ → (ℕ → Bool) → ℕ → Bool
-without index members other = not (other == index) && members other
-
--- each index of the mask has a value
-abbrev pub IsTaking : {S : Type 0} → (ℕ → Bool) → (ℕ → Option S) → Type 0
-IsTaking members values = (index : ℕ) → index < 16777216 → members index ≡ true → IsSome (values index)
+-- each index of a list has a change and a value
+abbrev pub HasBoth : {T S : Type 0} → (ℕ → Option T) → (ℕ → Option S) → List ℕ → Type 0
+HasBoth changes values indices = (index : ℕ) → IsToCome index indices → IsSome (changes index) × IsSome (values index)

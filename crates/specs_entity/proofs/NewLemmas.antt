@@ -1,12 +1,21 @@
 -- What a birth brings: an entity that was never born before, which then lives.
-use Rattle.std.proofs.Common.{◌≡◌, ◌≢◌, ℕ, ◌+◌, ◌≤◌, List, [], ◌∷◌, ◌++◌, Bool, true, false, cond, length, get_or, Option, Some, None, inl, inr, refl, sym, ap, ◌∙◌, subst, arith, get_or-set_same}
+use Rattle.std.proofs.Common.{◌≡◌, ◌≢◌, ℕ, zero, suc, ◌+◌, ◌<◌, ◌≤◌, List, [], ◌∷◌, ◌++◌, Bool, true, false, cond, eqb, length, get_or, Option, Some, None, inl, inr, refl, sym, ap, ◌∙◌, subst, arith, get_or-set_same}
 use Rattle.std.specs.Prelude.{◌==◌}
 use Rattle.std.specs.FinSet as fin
+use Rattle.std.specs.Cmp.{nat_eq_equiv}
+use Rattle.std.specs.List.{IsDistinct, list_any}
 use Rattle.std.proofs.lemmas.Bool.{cases_eq}
+use Rattle.std.proofs.lemmas.List.{map-append}
+use Rattle.std.proofs.lemmas.List.Elements.{All-nil, All-push, All-weaker, All-map}
+use Rattle.std.proofs.lemmas.List.Folds.{list_any_none}
+use Rattle.std.proofs.lemmas.Map.Keys.{IsDistinct-push}
 use Rattle.specs_entity.specs.Life.{Life, LifeAt}
-use Rattle.specs_entity.specs.Births.{Births, persistent_at, living, living_of, alive_of, count, number_of, next_life, with_next_taken, next_index, newborn, allocated, created, IndicesAreSpent, IsBorn, IsAlive, Continues}
+use Rattle.specs_entity.specs.Births.{Births, persistent_at, living, living_of, alive_of, count, number_of, next_life, with_next_taken, next_index, newborn, allocated, created, IndicesAreSpent, IsBorn, IsAlive, Continues, AreNew, CanCreate, all_created, newborns, indices_of}
 use Rattle.specs_entity.specs.Layout.{AreBirths}
-use Rattle.specs_entity.proofs.BirthLemmas.{some-same, more-none, next-taken, dead-lasting, living-lasting, living-fresh, count-lasting, count-fresh, living-with_life, count-with_life, living-freshened, fresh-same, fresh-other}
+use Rattle.specs_entity.proofs.CreateLemmas.{AreBirths-all_created}
+use Rattle.specs_entity.proofs.LawLemmas.{continues-through}
+use Rattle.specs_entity.proofs.ListLemmas.{CanKill-nil}
+use Rattle.specs_entity.proofs.BirthLemmas.{none-some, not-equal, some-same, more-none, next-taken, dead-lasting, living-lasting, living-fresh, count-lasting, count-fresh, living-with_life, count-with_life, living-freshened, fresh-same, fresh-other}
 
 pub born-stays : (before after : Births) (entity : LifeAt) → Continues before after → IsBorn before entity → IsBorn after entity
 born-stays before after entity goes born = (born.0, born.1, (let more = goes.births entity.id in let low = born.2 in omega arith))
@@ -78,3 +87,61 @@ module _ (births : Births) (kept : AreBirths births) (left : ¬ (IndicesAreSpent
       (count-fresh (created births) (next_index births) (fresh-same (with_next_taken births) (next_index births)) ∙ ap (λ last. number_of last + 1) (taken-at (next_index births)))
       (λ other ne. living-freshened (with_next_taken births) (next_index births) other ne ∙ taken-lives other)
       (λ other ne. ap (λ b. number_of (persistent_at (with_next_taken births) other) + cond b 1 0) (fresh-other (with_next_taken births) (next_index births) other ne) ∙ taken-count other)
+
+-- ---- births in a row
+
+next-low : (births : Births) → AreBirths births → ¬ (IndicesAreSpent births) → next_index births < 16777216
+next-low births kept left =
+    let taken = next-taken births kept left in
+    let used = taken.kept.used in
+    let most = taken.kept.indices in
+    let free = taken.free.used in
+    omega arith
+
+other-index : (births : Births) (kept : AreBirths births) (left : ¬ (IndicesAreSpent births)) (entity : LifeAt) → IsAlive births entity → entity.id ≢ next_index births
+other-index births kept left entity alive here =
+    none-some entity.generation
+    (sym (next-taken births kept left).free.dead ∙ taken-lives births kept left (next_index births) ∙ ap (living births) (sym here) ∙ alive)
+
+-- who lives before a birth lives after it
+still-lives : (births : Births) (kept : AreBirths births) (left : ¬ (IndicesAreSpent births)) (entity : LifeAt) → IsAlive births entity → IsAlive (created births) entity
+still-lives births kept left entity alive =
+    living-freshened (with_next_taken births) (next_index births) entity.id (other-index births kept left entity alive)
+    ∙ (taken-lives births kept left entity.id ∙ alive)
+
+pub continues-same : (births : Births) → Continues births births
+continues-same births = record { births = λ index. omega arith; lives = λ index life is. inl is }
+
+pub all_created-continues : (number : ℕ) (births : Births) → AreBirths births → CanCreate number births → Continues births (all_created number births)
+all_created-continues zero births kept can = continues-same births
+all_created-continues (suc more) births kept can =
+    continues-through births (all_created more births) (created (all_created more births)) (all_created-continues more births kept can.0)
+    (create-continues (all_created more births) (AreBirths-all_created more births kept can.0) can.1)
+
+pub newborns-new : (number : ℕ) (births : Births) → AreBirths births → CanCreate number births → AreNew births (newborns number births) (all_created number births)
+newborns-new zero births kept can =
+    record {
+      unborn = All-nil (λ (e : LifeAt). ¬ (IsBorn births e));
+      range = All-nil (λ (e : LifeAt). e.id < 16777216);
+      live = CanKill-nil (living births);
+    }
+newborns-new (suc more) births kept can =
+    let before : Births = all_created more births in
+    let there : AreBirths before = AreBirths-all_created more births kept can.0 in
+    let earlier = newborns-new more births kept can.0 in
+    let list = newborns more births in
+    let one = newborn before in
+    let apart : list_any (λ other. eqb one.id other) (indices_of list) ≡ false =
+    list_any_none (λ other. eqb one.id other) (indices_of list)
+    (All-map (λ index. eqb one.id index ≡ false) (λ (e : LifeAt). e.id) list
+    (All-weaker (λ (e : LifeAt). living before e.id ≡ Some e.generation) (λ (e : LifeAt). eqb one.id e.id ≡ false) (λ e lives. not-equal one.id e.id (λ same. other-index before there can.1 e lives (sym same))) list earlier.live.alive)) in
+    record {
+      unborn = All-push (λ (e : LifeAt). ¬ (IsBorn births e)) list one earlier.unborn (λ born. is-new before there can.1 (born-stays births before one (all_created-continues more births kept can.0) born));
+      range = All-push (λ (e : LifeAt). e.id < 16777216) list one earlier.range (next-low before there can.1);
+      live = record {
+        alive = All-push (λ (e : LifeAt). living (created before) e.id ≡ Some e.generation) list one
+            (All-weaker (λ (e : LifeAt). living before e.id ≡ Some e.generation) (λ (e : LifeAt). living (created before) e.id ≡ Some e.generation) (λ e lives. still-lives before there can.1 e lives) list earlier.live.alive)
+            (created-lives before there can.1);
+        apart = subst (IsDistinct eqb) (sym (map-append (λ (e : LifeAt). e.id) list (one ∷ []))) (IsDistinct-push nat_eq_equiv (indices_of list) one.id earlier.live.apart apart);
+      };
+    }

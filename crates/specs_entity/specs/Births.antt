@@ -232,3 +232,9 @@ IsDead births entity = IsBorn births entity × ¬ (IsAlive births entity)
 pub record Continues (before after : Births) : Type 0 where
   pub births : (index : ℕ) → count before index ≤ count after index
   pub lives : (index : ℕ) (life : Life) → living after index ≡ Some life → (living before index ≡ Some life) ⊎ (count before index < life.number)
+
+-- none of the entities was born before; after, each of them lives, at an index in range, and none is named twice
+pub record AreNew (before : Births) (entities : List Entity) (after : Births) : Type 0 where
+  pub unborn : All (λ entity. ¬ (IsBorn before entity)) entities
+  pub range : All (λ entity. entity.id < 16777216) entities
+  pub live : CanKill (living after) entities

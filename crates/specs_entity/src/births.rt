@@ -10,7 +10,7 @@ use hibitset::Index;
 use std::alloc::AllocError;
 
 impl EntitiesRes {
-    ghost use Rattle.specs_entity.specs.Births.{newborn, next_index, IndicesAreSpent, GenerationsAreSpent, RefusesBirth, with_next_taken, allocated, created, deleted, buried, settled, living, IsAlive, wrong_generation, number_of, persistent_at};
+    ghost use Rattle.specs_entity.specs.Births.{IsBorn, Continues, newborn, next_index, IndicesAreSpent, GenerationsAreSpent, RefusesBirth, with_next_taken, allocated, created, deleted, buried, settled, living, IsAlive, wrong_generation, number_of, persistent_at};
     ghost use Rattle.specs_entity.specs.Layout.{IsFree};
     ghost use Rattle.specs_entity.specs.declared.errors.Error.TheVariants as refusal;
 
@@ -25,6 +25,9 @@ impl EntitiesRes {
         ensures value { IfOk result (λ entity. entity ≡ newborn self.old) }
         ensures range { IfOk result (λ entity. entity.id < 16777216) }
         ensures ok { OnOk result (self.new ≡ allocated self.old) }
+        ensures new { IfOk result (λ entity. ¬ (IsBorn self.old entity)) }
+        ensures alive { IfOk result (IsAlive self.new) }
+        ensures continues { OnOk result (Continues self.old self.new) }
         ensures refused { IfErr result (RefusesBirth self.old) }
         ensures indices_spent { IsErrOf result refusal.IndicesSpent ↔ IndicesAreSpent self.old }
         ensures generations_spent { IsErrOf result refusal.GenerationsSpent ↔ GenerationsAreSpent self.old }
@@ -45,6 +48,9 @@ impl EntitiesRes {
         ensures value { IfOk result (λ entity. entity ≡ newborn self.old) }
         ensures range { IfOk result (λ entity. entity.id < 16777216) }
         ensures ok { OnOk result (self.new ≡ created self.old) }
+        ensures new { IfOk result (λ entity. ¬ (IsBorn self.old entity)) }
+        ensures alive { IfOk result (IsAlive self.new) }
+        ensures continues { OnOk result (Continues self.old self.new) }
         ensures refused { IfErr result (RefusesBirth self.old) }
         ensures indices_spent { IsErrOf result refusal.IndicesSpent ↔ IndicesAreSpent self.old }
         ensures generations_spent { IsErrOf result refusal.GenerationsSpent ↔ GenerationsAreSpent self.old }
@@ -66,6 +72,8 @@ impl EntitiesRes {
         ensures left { OnOk result (IndicesAreSpent self.now → ⊥) }
         ensures room { OnOk result (number_of (persistent_at self.now (next_index self.now)) < self.now.generations) }
         ensures range { IfOk result (λ entity. entity.id < 16777216) }
+        ensures lives { OnOk result (IsAlive (created self.now) (newborn self.now)) }
+        ensures continues { OnOk result (Continues self.now (created self.now)) }
     {
         let used = self.generations.len() as Index;
         let id = match self.cache.last() {
@@ -106,6 +114,7 @@ impl EntitiesRes {
     /// Errors: `WrongGeneration` if the entity isn't alive, and nothing changed.
     pub fn delete(&mut self, entity: Entity) -> Result<(), WrongGeneration>
         ensures ok { OnOk result (self.new ≡ deleted self.old entity.id) }
+        ensures continues { OnOk result (Continues self.old self.new) }
         ensures succeeds { IsOk result ↔ IsAlive self.old entity }
         ensures wrong_generation { IfErr result (wrong_generation self.old entity) }
         ensures err { OnErr result (self.new ≡ self.old) }
@@ -132,7 +141,8 @@ impl EntitiesRes {
     /// Buries the entity that lives at an index.
     pub(crate) fn bury(&mut self, id: Index)
         requires { living self.old id ≢ None }
-        ensures { self.new ≡ buried self.old id }
+        ensures value { self.new ≡ buried self.old id }
+        ensures continues { Continues self.old self.new }
     {
         if let Some(generation) = self.living(id) {
             self.generations[id as usize] = Some(generation.died());
@@ -146,7 +156,8 @@ impl EntitiesRes {
     /// Makes the fresh birth at an index persistent.
     pub(crate) fn settle(&mut self, id: Index)
         requires { set.contains self.old.fresh id ≡ true }
-        ensures { self.new ≡ settled self.old id }
+        ensures value { self.new ≡ settled self.old id }
+        ensures continues { Continues self.old self.new }
     {
         let last = self.generation(id);
         self.generations[id as usize] = Some(following(last));

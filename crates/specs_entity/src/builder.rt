@@ -46,7 +46,7 @@ impl Drop for EntityResBuilder<'_> {
 
 impl EntitiesRes {
     ghost use Rattle.std.specs.Borrow.{sem};
-    ghost use Rattle.specs_entity.specs.Births.{newborn, created, IndicesAreSpent, GenerationsAreSpent, RefusesBirth};
+    ghost use Rattle.specs_entity.specs.Births.{newborn, created, IsBorn, IsAlive, Continues, IndicesAreSpent, GenerationsAreSpent, RefusesBirth};
     ghost use Rattle.specs_entity.specs.Building.{rests_if_refused};
     ghost use Rattle.specs_entity.specs.declared.errors.Error.TheVariants as refusal;
 
@@ -58,6 +58,9 @@ impl EntitiesRes {
         ensures value { IfOk result (λ builder. builder.entity ≡ newborn self.old) }
         ensures range { IfOk result (λ builder. builder.entity.id < 16777216) }
         ensures ok { IfOk result (λ builder. builder.entities.now ≡ created self.old) }
+        ensures new { IfOk result (λ builder. ¬ (IsBorn self.old builder.entity)) }
+        ensures alive { IfOk result (λ builder. IsAlive builder.entities.now builder.entity) }
+        ensures continues { IfOk result (λ builder. Continues self.old builder.entities.now) }
         ensures same_reference { IfOk result (λ builder. builder.entities.ghost_name ≡ self.entry.ghost_name) }
         ensures refused { IfErr result (RefusesBirth self.old) }
         ensures indices_spent { IsErrOf result refusal.IndicesSpent ↔ IndicesAreSpent self.old }

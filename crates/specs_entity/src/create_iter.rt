@@ -45,7 +45,7 @@ impl Iterator for CreateIter {
 }
 
 impl EntitiesRes {
-    ghost use Rattle.specs_entity.specs.Births.{all_created, newborns, CanCreate, RefusesBirth, RefusesBirths};
+    ghost use Rattle.specs_entity.specs.Births.{AreNew, Continues, all_created, newborns, CanCreate, RefusesBirth, RefusesBirths};
     ghost use Rattle.specs_entity.specs.Layout.{IsCreated, AreMade};
 
     /// Creates so many entities, or none: each is alive at once, and its birth is persistent after the
@@ -56,6 +56,8 @@ impl EntitiesRes {
     pub fn create_iter(&mut self, count: usize) -> Result<CreateIter, Error>
         ensures value { IfOk result (λ entities. entities ≡ newborns count self.old) }
         ensures ok { OnOk result (self.new ≡ all_created count self.old) }
+        ensures new { IfOk result (λ entities. AreNew self.old entities self.new) }
+        ensures continues { OnOk result (Continues self.old self.new) }
         ensures possible { OnOk result (CanCreate count self.old) }
         ensures refused { IfErr result (RefusesBirths count self.old) }
         ensures err { OnErr result (self.new ≡ self.old) }

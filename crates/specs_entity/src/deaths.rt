@@ -13,7 +13,7 @@ use hibitset::{AtomicBitSet, BitSetLike, Index, Uncounted};
 use std::alloc::AllocError;
 
 impl EntitiesRes {
-    ghost use Rattle.specs_entity.specs.Births.{living, all_buried, all_settled, all_deleted, merged, RefusesKill};
+    ghost use Rattle.specs_entity.specs.Births.{Continues, living, all_buried, all_settled, all_deleted, merged, RefusesKill};
 
     /// Lets all entities of a list die, in its order. After its test it takes no memory.
     ///
@@ -24,6 +24,7 @@ impl EntitiesRes {
     /// before. Then nothing changed.
     pub fn kill(&mut self, entities: &[Entity]) -> Result<(), Error>
         ensures ok { OnOk result (self.new ≡ all_buried self.old (indices_of entities.now)) }
+        ensures continues { OnOk result (Continues self.old self.new) }
         ensures succeeds { IsOk result ↔ CanKill (living self.old) entities.now }
         ensures wrong_generation { IfErr result (RefusesKill self.old entities.now) }
         ensures err { OnErr result (self.new ≡ self.old) }
@@ -63,6 +64,7 @@ impl EntitiesRes {
     pub fn merge(&mut self) -> Result<Vec<Entity>, AllocError>
         ensures value { IfOk result (λ deleted. deleted.items ≡ all_deleted self.old) }
         ensures ok { OnOk result (self.new ≡ merged self.old) }
+        ensures continues { OnOk result (Continues self.old self.new) }
         ensures err { OnErr result (self.new ≡ self.old) }
     {
         let deleted = self.deleted()?;
@@ -84,7 +86,8 @@ impl EntitiesRes {
 
     /// Makes all fresh births persistent.
     fn settle_all(&mut self)
-        ensures { self.new ≡ all_settled self.old (walk (set.contains self.old.fresh)) }
+        ensures value { self.new ≡ all_settled self.old (walk (set.contains self.old.fresh)) }
+        ensures continues { Continues self.old self.new }
     {
         while let Some(id) = first_of(&self.raised) {
             self.settle(id);
@@ -93,7 +96,8 @@ impl EntitiesRes {
 
     /// Buries all entities whose deletion was accepted.
     fn bury_all(&mut self)
-        ensures { self.new ≡ all_buried self.old (walk (set.contains self.old.deletions)) }
+        ensures value { self.new ≡ all_buried self.old (walk (set.contains self.old.deletions)) }
+        ensures continues { Continues self.old self.new }
     {
         while let Some(id) = first_of(&self.killed) {
             self.bury(id);

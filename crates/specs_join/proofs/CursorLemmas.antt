@@ -26,6 +26,6 @@ module _ {V S : Type 0} (value_at : V → ℕ → Option S) (parts : SetWithRoom
     next-known None ended index come = absurd (subst (IsToCome index) ended.1 come)
     next-known (Some x) is index come = known index (subst (IsToCome index) (sym is) (inr come))
 
-    pub next-some : (result : Option ℕ) → MatchOption result ((left ≡ []) × (rest ≡ [])) (λ x. left ≡ x ∷ rest) → is_some result ≡ true → (x : ℕ) × (result ≡ Some x) × (left ≡ x ∷ rest) × IsAt value_at parts values x
+    pub next-some : (result : Option ℕ) → MatchOption result ((left ≡ []) × (rest ≡ [])) (λ x. left ≡ x ∷ rest) → is_some result ≡ true → (x : ℕ) × ((result ≡ Some x) × IsAt value_at parts values x) × (left ≡ x ∷ rest)
     next-some None ended there = absurd (true≢false (sym there))
-    next-some (Some x) is there = (x, refl, is, known x (subst (IsToCome x) (sym is) (inl refl)))
+    next-some (Some x) is there = (x, (refl, known x (subst (IsToCome x) (sym is) (inl refl))), is)

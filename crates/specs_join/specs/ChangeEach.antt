@@ -2,6 +2,7 @@
 use Rattle.std.specs.Prelude.{◌≡◌, ℕ, ◌<◌, ◌≤◌, Bool, ◌&&◌, List, [], ◌∷◌, Option, Some, None, is_some}
 use Rattle.hibitset_sets.specs.BitSet.{SetWithRoom, has_member}
 use Rattle.hibitset_sets.specs.Walk.{walk}
+use Rattle.specs_events.specs.Channels.{Log}
 use Rattle.specs_layouts.specs.Parts.{told}
 use Rattle.specs_layouts.specs.declared.track.ComponentEvent.{ComponentEvent}
 use Rattle.specs_layouts.specs.declared.track.ComponentEvent.TheVariants as event
@@ -11,7 +12,7 @@ abbrev pub shared_indices : {S : Type 0} → SetWithRoom → (ℕ → Option S) 
 shared_indices mask items = walk (λ index. has_member mask index && is_some (items index))
 
 -- the events after each index of a list was told to be modified
-abbrev pub told_each : Bool → List ComponentEvent → List ℕ → List ComponentEvent
+abbrev pub told_each : Bool → Log ComponentEvent → List ℕ → Log ComponentEvent
 told_each emits events [] = events
 told_each emits events (index ∷ indices) = told_each emits (told emits events (event.Modified index)) indices
 

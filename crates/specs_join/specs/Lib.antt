@@ -2,6 +2,8 @@ pub mod Joins
 pub mod Joining
 pub mod JoinLemmas
 pub mod Cursor
+pub mod Steps
+pub mod Cursors
 pub mod Collected
 pub mod ChangeEach
 pub mod EachErrors

@@ -16,6 +16,7 @@ mod nothing;
 pub mod par_join;
 mod parts;
 mod sets;
+pub mod shared;
 mod tuples;
 
 pub use absent::AntiStorage;

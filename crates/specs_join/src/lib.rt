@@ -10,4 +10,5 @@ pub use join::change_each::change_each;
 pub use join::cursor::JoinCursor;
 pub use join::iter::JoinIter;
 pub use join::par_join::{JoinParIter, ParJoin};
+pub use join::shared::SharedSteps;
 pub use join::{AntiStorage, Join, MaybeJoin};

@@ -2,6 +2,7 @@
 use Rattle.std.proofs.Common.{◌≡◌, ℕ, zero, suc, ◌+◌, ◌<◌, length, get_or, take, subst, arith, Bool, cond, List, [], ◌∷◌, ◌++◌, Option, None, is_some, refl, sym, ap, ◌∙◌, inl, inr}
 use Rattle.std.proofs.lemmas.List.{take_more, map-append}
 use Rattle.specs_entity.specs.Life.{LifeAt}
+use Rattle.specs_events.specs.Channels.{Log}
 use Rattle.std.proofs.lemmas.Bool.{cases_eq, eq-eqb, ne_eqb}
 use Rattle.specs_layouts.specs.declared.track.ComponentEvent.{ComponentEvent}
 use Rattle.specs_layouts.specs.declared.track.ComponentEvent.TheVariants as event
@@ -12,13 +13,13 @@ without-last : {T : Type 0} (parts : ℕ → Option T) (indices : List ℕ) (las
 without-last parts [] last index = refl
 without-last parts (first ∷ rest) last index = without-last (without parts first) rest last index
 
-told-last : {T : Type 0} (emits : Bool) (parts : ℕ → Option T) (events : List ComponentEvent) (indices : List ℕ) (last : ℕ) → told_all emits parts events (indices ++ last ∷ []) ≡ cond (is_some (without_all parts indices last)) (told emits (told_all emits parts events indices) (event.Removed last)) (told_all emits parts events indices)
+told-last : {T : Type 0} (emits : Bool) (parts : ℕ → Option T) (events : Log ComponentEvent) (indices : List ℕ) (last : ℕ) → told_all emits parts events (indices ++ last ∷ []) ≡ cond (is_some (without_all parts indices last)) (told emits (told_all emits parts events indices) (event.Removed last)) (told_all emits parts events indices)
 told-last emits parts events [] last = refl
 told-last emits parts events (first ∷ rest) last =
     told-last emits (without parts first) (cond (is_some (parts first)) (told emits events (event.Removed first)) events) rest last
 
-module _ {T : Type 0} (had : ℕ → Option T) (was_told : List ComponentEvent) (emits : Bool) (indices : List ℕ) (has : ℕ → Option T) (tells : List ComponentEvent) (emits_now : Bool) (dropped : DropsAll had was_told emits indices has tells emits_now) where
-  pub drops-more : (index : ℕ) (after : ℕ → Option T) (events : List ComponentEvent) (emits_after : Bool) → Puts has index None after → events ≡ cond (is_some (has index)) (told emits_now tells (event.Removed index)) tells → emits_after ≡ emits_now → DropsAll had was_told emits (indices ++ index ∷ []) after events emits_after
+module _ {T : Type 0} (had : ℕ → Option T) (was_told : Log ComponentEvent) (emits : Bool) (indices : List ℕ) (has : ℕ → Option T) (tells : Log ComponentEvent) (emits_now : Bool) (dropped : DropsAll had was_told emits indices has tells emits_now) where
+  pub drops-more : (index : ℕ) (after : ℕ → Option T) (events : Log ComponentEvent) (emits_after : Bool) → Puts has index None after → events ≡ cond (is_some (has index)) (told emits_now tells (event.Removed index)) tells → emits_after ≡ emits_now → DropsAll had was_told emits (indices ++ index ∷ []) after events emits_after
   drops-more index after events emits_after puts tells_more same = record {
     parts = λ other.
         elim (cases_eq other index) [
@@ -37,7 +38,7 @@ module _ {T : Type 0} (had : ℕ → Option T) (was_told : List ComponentEvent) 
     emission = same ∙ dropped.emission;
   }
 
-  pub drops-same : (after : ℕ → Option T) (events : List ComponentEvent) (emits_after : Bool) → SameParts has after → events ≡ tells → emits_after ≡ emits_now → DropsAll had was_told emits indices after events emits_after
+  pub drops-same : (after : ℕ → Option T) (events : Log ComponentEvent) (emits_after : Bool) → SameParts has after → events ≡ tells → emits_after ≡ emits_now → DropsAll had was_told emits indices after events emits_after
   drops-same after events emits_after parts told_same same = record {
     parts = λ other. parts other ∙ dropped.parts other;
     events = told_same ∙ dropped.events;

@@ -5,6 +5,7 @@ pub mod Entries
 pub mod EntryLends
 pub mod Masked
 pub mod MaskedLends
+pub mod TrackedLends
 pub mod Dense
 pub mod DenseLemmas
 pub mod Defaults

@@ -1,6 +1,7 @@
 -- What a masked storage ends as, where a part of it was lent.
-use Rattle.std.specs.Prelude.{ℕ, Bool, List, Option, Result}
+use Rattle.std.specs.Prelude.{ℕ, Bool, Option, Result}
 use Rattle.std.specs.Borrow.{Fml, RattleType, MutBor, LendsIfOk}
+use Rattle.specs_events.specs.Channels.{Log}
 use Rattle.specs_layouts.specs.Masked.{Masked}
 use Rattle.specs_layouts.specs.declared.track.ComponentEvent.{ComponentEvent}
 use Rattle.specs_layouts.specs.contracts.masked.MaskedStorage.{the_row}
@@ -13,7 +14,7 @@ StorageMembers S T =
       always : Bool;
       part_at : S → ℕ → Option T;
       written : S → ℕ → T → S;
-      events : S → List ComponentEvent;
+      events : S → Log ComponentEvent;
       emits : S → Bool;
       has_room : S → ℕ → Type 0;
     }

@@ -8,6 +8,7 @@ pub mod masked;
 pub mod slices;
 pub mod storages;
 pub mod track;
+pub mod tracked;
 pub mod unprotected;
 
 pub use any_storage::AnyStorage;
@@ -19,4 +20,5 @@ pub use storages::{
     VecStorage,
 };
 pub use track::ComponentEvent;
+pub use tracked::Tracked;
 pub use unprotected::{DistinctStorage, TryDefault, UnprotectedStorage};

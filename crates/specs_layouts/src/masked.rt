@@ -2,12 +2,16 @@
 ghost use Rattle.std.specs.Prelude.{◌≡◌, ℕ, ◌+◌, ◌<◌, true, false, Option, None, Some, IsSome, is_some, is_ok, IsOk, IfOk, OnOk, OnErr, IfErr, if◌then◌else◌};
 ghost use Rattle.std.specs.FinSet as set;
 ghost use Rattle.std.specs.Borrow.{sem};
+ghost use Rattle.specs_events.specs.Channels.{with_reader, CaughtUp};
 ghost use Rattle.specs_layouts.specs.Parts.{Puts, SameParts, HasNone, told};
 ghost use Rattle.specs_layouts.specs.declared.track.ComponentEvent.TheVariants as event;
 
 use crate::comp::Component;
+use crate::track::ComponentEvent;
+use crate::tracked::Tracked;
 use crate::unprotected::UnprotectedStorage;
 use hibitset_sets::{BitSet, Index};
+use specs_events::{EventChannel, ReaderId};
 use std::alloc::{AllocError, AllocFailed, Global};
 use std::marker::Model;
 use std::mem;
@@ -54,6 +58,15 @@ impl<T: Component> MaskedStorage<T> {
     {
         let _words = self.mask.layer0_as_slice();
         &self.mask
+    }
+
+    /// The indices that have a part, and the layout that holds the parts.
+    pub fn into_parts(self) -> (BitSet, T::Storage)
+        ensures mask { result.0 ≡ self.mask }
+        ensures inner { result.1 ≡ self.inner }
+        ensures agrees { Agrees self.mask (T.Storage.part_at self.inner) }
+    {
+        (self.mask, self.inner)
     }
 
     /// The layout that holds the parts.
@@ -237,5 +250,54 @@ impl<T: Component> MaskedStorage<T> {
         ensures within_room { T.Storage.has_room self.old.inner count → IsOk result }
     {
         self.inner.make_room(count)
+    }
+}
+
+impl<T: Component> MaskedStorage<T>
+where
+    T::Storage: Tracked<T>,
+{
+    ghost use Rattle.specs_layouts.specs.TrackedLends.{lends_masked_channel};
+
+    /// The channel that is told of its changes.
+    pub fn channel(&self) -> &EventChannel<ComponentEvent>
+        ensures { result.now ≡ T.Storage.channel_of self.now.inner }
+    {
+        self.inner.channel()
+    }
+
+    /// The channel that is told of its changes, for readers to be registered and to read.
+    pub fn channel_mut(&mut self) -> &mut EventChannel<ComponentEvent>
+        ensures* writes_back { sem 𝓛 (lends_masked_channel T.row T.Storage.row T.Storage.UnprotectedStorage T.Storage.with_channel self.entry result) }
+        ensures value { result.now ≡ T.Storage.channel_of self.old.inner }
+    {
+        self.inner.channel_mut()
+    }
+
+    /// Whether emission is on.
+    pub fn event_emission(&self) -> bool
+        ensures { result ≡ T.Storage.emission_of self.now.inner }
+    {
+        self.inner.event_emission()
+    }
+
+    /// Turns emission on or off.
+    pub fn set_event_emission(&mut self, emission: bool)
+        ensures mask { self.new.mask ≡ self.old.mask }
+        ensures inner { self.new.inner ≡ T.Storage.with_emission self.old.inner emission }
+    {
+        self.inner.set_event_emission(emission);
+    }
+
+    /// A reader more of its events, who will read what is written from now on.
+    ///
+    /// Errors: `AllocError`, and nothing changed.
+    pub fn register_reader(&mut self) -> Result<ReaderId, AllocError>
+        ensures ok { OnOk result (self.new.inner ≡ T.Storage.with_channel self.old.inner (with_reader (T.Storage.channel_of self.old.inner))) }
+        ensures mask { self.new.mask ≡ self.old.mask }
+        ensures caught_up { IfOk result (λ reader. CaughtUp (T.Storage.events self.new.inner) reader) }
+        ensures err { OnErr result (self.new.inner ≡ T.Storage.with_channel self.old.inner (T.Storage.channel_of self.old.inner)) }
+    {
+        self.inner.channel_mut().register_reader()
     }
 }

@@ -1,6 +1,7 @@
 //! What every storage does, and what each call leaves.
-ghost use Rattle.std.specs.Prelude.{◌≡◌, ◌≢◌, ℕ, ◌+◌, ◌<◌, Bool, true, false, List, Option, None, Some, is_some, is_ok, IsSome, IsOk, IfOk, IfErr, OnOk, OnErr, if◌then◌else◌};
+ghost use Rattle.std.specs.Prelude.{◌≡◌, ◌≢◌, ℕ, ◌+◌, ◌<◌, Bool, true, false, Option, None, Some, is_some, is_ok, IsSome, IsOk, IfOk, IfErr, OnOk, OnErr, if◌then◌else◌};
 ghost use Rattle.std.specs.Borrow.{LendsIfOk, sem};
+ghost use Rattle.specs_events.specs.Channels.{Log};
 ghost use Rattle.specs_layouts.specs.Parts.{Puts, SameParts, HasNone, told};
 ghost use Rattle.specs_layouts.specs.declared.track.ComponentEvent.{ComponentEvent};
 ghost use Rattle.specs_layouts.specs.declared.track.ComponentEvent.TheVariants as event;
@@ -37,10 +38,6 @@ pub trait TryDefault {
     }
 }
 
-/// A mark of storages whose `get_mut` touches the part at its index and nothing else: no other part,
-/// and no event.
-pub trait DistinctStorage {}
-
 /// A finite map from index to part, for callers that know which indices have one.
 ///
 /// A change of a storage that emits writes an event, and may find no memory for it. Where a call is
@@ -52,8 +49,8 @@ pub trait UnprotectedStorage<T: Drop>: TryDefault {
     /// The storage after a part was written at an index through what `get_mut` lent.
     ghost written: { Self → ℕ → T → Self };
 
-    /// The events written since the storage was made, the oldest first.
-    ghost events: { Self → List ComponentEvent };
+    /// The events held, the oldest first, and how many of them each reader has read.
+    ghost events: { Self → Log ComponentEvent };
 
     /// Whether a change writes an event.
     ghost emits: { Self → Bool };
@@ -164,4 +161,11 @@ pub trait UnprotectedStorage<T: Drop>: TryDefault {
 
     /// A default has no part.
     ghost starts_empty: { (s : Self) → Self.is_default s → HasNone (part_at s) };
+}
+
+/// A mark of storages whose `get_mut` touches the part at its index and nothing else: no other part,
+/// and no event.
+pub trait DistinctStorage<T: Drop>: UnprotectedStorage<T> {
+    /// It never writes an event.
+    ghost silent: { (s : Self) → Self.emits s ≡ false };
 }

@@ -3,3 +3,9 @@ pub mod Left
 pub mod StorageLends
 pub mod EntryLends
 pub mod Pairs
+pub mod Restricted
+pub mod RestrictedMut
+pub mod Paired
+pub mod PairedMut
+pub mod PairCursors
+pub mod EntryCursors

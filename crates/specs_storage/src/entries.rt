@@ -44,7 +44,8 @@ struct Steps<R: Join> {
 pub struct Place<'a, T: Component> {
     /// The storage.
     pub store: &'a mut MaskedStorage<T>,
-    id: Index,
+    /// The index.
+    pub id: Index,
     ghost range: { id < 16777216 },
 }
 
@@ -59,6 +60,8 @@ impl<'e, T: Component> Storage<'e, T, &'e mut MaskedStorage<T>> {
 }
 
 impl<'a, T: Component> Entries<'a, T> {
+    ghost use Rattle.specs_storage.specs.EntryCursors.{values_of, indices_left};
+
     /// The indices that have a place: all of them.
     pub fn mask(&self) -> BitSetAll
         ensures { (index : ℕ) → ⟦<BitSetAll as BitSetLike>⟧.members result index ≡ true }
@@ -77,8 +80,8 @@ impl<'a, T: Component> Entries<'a, T> {
     pub fn cursor<R: Join>(self, read: R) -> EntryCursor<'a, T, R>
         ensures same_reference { result.store.ghost_name ≡ self.entry.store.ghost_name }
         ensures store { result.store.now ≡ self.entry.store.now }
-        ensures left { left_of R.Mask.members result.walk.keys ≡ walk (λ index. is_some (R.joins read index)) }
-        ensures values { (index : ℕ) → index < 16777216 → IsSome (R.joins read index) → R.value_at result.walk.values index ≡ R.joins read index }
+        ensures left { indices_left R.Mask.members result ≡ walk (λ index. is_some (R.joins read index)) }
+        ensures values { (index : ℕ) → index < 16777216 → IsSome (R.joins read index) → R.value_at (values_of result) index ≡ R.joins read index }
     {
         let (mask, values) = read.open();
         EntryCursor {
@@ -107,22 +110,24 @@ impl<R: Join> Steps<R> {
 
 impl<'a, T: Component, R: Join> EntryCursor<'a, T, R> {
     ghost use Rattle.specs_storage.specs.contracts.entries.EntryCursor.{the_row};
+    ghost use Rattle.specs_storage.specs.EntryCursors.{values_of, index_of, indices_left, with_store};
 
     /// Goes on to the next index, and answers it, or none where there is none.
     pub fn advance(&mut self) -> Option<Index>
         ensures same_reference { self.new.store.ghost_name ≡ self.old.store.ghost_name }
         ensures store { self.new.store.now ≡ self.old.store.now }
-        ensures values { self.new.walk.values ≡ self.old.walk.values }
-        ensures index { self.new.walk.index ≡ result }
-        ensures item { MatchOption result (left_of R.Mask.members self.old.walk.keys ≡ []) (λ next. left_of R.Mask.members self.old.walk.keys ≡ next ∷ left_of R.Mask.members self.new.walk.keys) }
+        ensures values { values_of self.new ≡ values_of self.old }
+        ensures index { index_of self.new ≡ result }
+        ensures item { MatchOption result (indices_left R.Mask.members self.old ≡ [])
+            (λ next. indices_left R.Mask.members self.old ≡ next ∷ indices_left R.Mask.members self.new) }
     {
         self.walk.advance()
     }
 
     /// What the join has at the index.
     pub fn item(&self) -> R::Type
-        requires { IsSome self.now.walk.index }
-        ensures { IfSome self.now.walk.index (λ index. R.value_at self.now.walk.values index ≡ Some (R.show result)) }
+        requires { IsSome (index_of self.now) }
+        ensures { IfSome (index_of self.now) (λ index. R.value_at (values_of self.now) index ≡ Some (R.show result)) }
     {
         let Some(id) = self.walk.index else {
             unreachable!()
@@ -132,15 +137,15 @@ impl<'a, T: Component, R: Join> EntryCursor<'a, T, R> {
 
     /// The place at the index.
     pub fn place(&mut self) -> Place<'_, T>
-        requires { IsSome self.old.walk.index }
+        requires { IsSome (index_of self.old) }
         ensures* writes_back { sem 𝓛 (Lends (the_row (record { mir = named 1; lft = [] }) T.row R.row T.Storage.row R.Type.row R.Shown.row R.Value.row R.Mask.row
             (record { show = R.show; joins = R.joins; opens = R.opens; unconstrained = R.unconstrained; value_at = R.value_at })
             (record { members = R.Mask.members; words = R.Mask.words; reads = R.Mask.reads })
             (record { part_at = T.Storage.part_at; written = T.Storage.written; events = T.Storage.events; emits = T.Storage.emits; has_room = T.Storage.has_room })
             (record { is_default = T.Storage.is_default; always = T.Storage.always })) (masked_row T.row T.Storage.row T.Storage.UnprotectedStorage) self.entry result.store
-            (λ store. record self.old { store = record self.old.store { now = store } })) }
+            (with_store self.old)) }
         ensures store { result.store.now ≡ self.old.store.now }
-        ensures index { self.old.walk.index ≡ Some result.id }
+        ensures index { index_of self.old ≡ Some result.id }
     {
         let Some(index) = self.walk.index else {
             unreachable!()

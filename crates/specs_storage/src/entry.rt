@@ -29,7 +29,8 @@ struct EntryOf<'a, T: Component> {
 pub struct OccupiedEntry<'a, T: Component> {
     /// The storage.
     pub store: &'a mut MaskedStorage<T>,
-    id: Index,
+    /// The index.
+    pub id: Index,
     ghost there: { IsSome (T.Storage.part_at store.now.inner id) },
     ghost range: { id < 16777216 },
 }
@@ -39,7 +40,8 @@ pub struct OccupiedEntry<'a, T: Component> {
 pub struct VacantEntry<'a, T: Component> {
     /// The storage.
     pub store: &'a mut MaskedStorage<T>,
-    id: Index,
+    /// The index.
+    pub id: Index,
     ghost lacking: { is_some (T.Storage.part_at store.now.inner id) ≡ false },
     ghost range: { id < 16777216 },
 }

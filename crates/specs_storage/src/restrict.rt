@@ -46,6 +46,7 @@ pub trait Restrict<T: Component> {
     ghost use Rattle.std.specs.Prelude.{◌≡◌};
     ghost use Rattle.specs_entity.specs.Births.{Births};
     ghost use Rattle.specs_layouts.specs.Masked.{Masked};
+    ghost use Rattle.specs_storage.specs.Restricted.{entities_of, store_of};
 
     /// The births of the entities.
     ghost births: { Self → Births };
@@ -55,8 +56,8 @@ pub trait Restrict<T: Component> {
 
     /// The parts, for reading by many callers.
     fn restrict(&self) -> RestrictedStorage<'_, T, ImmutableParallelRestriction>
-        ensures entities { result.entities.now ≡ births self.now }
-        ensures store { result.store.now ≡ masked self.now };
+        ensures entities { (entities_of result).now ≡ births self.now }
+        ensures store { (store_of result).now ≡ masked self.now };
 }
 
 impl<'e, T: Component, D: Loan<T>> Restrict<T> for Storage<'e, T, D> {
@@ -78,6 +79,7 @@ pub trait RestrictMut<T: Component>: Restrict<T> {
     ghost use Rattle.std.specs.Prelude.{◌≡◌};
     ghost use Rattle.std.specs.Borrow.{sem, Lends};
     ghost use Rattle.specs_layouts.specs.Masked.{Masked};
+    ghost use Rattle.specs_storage.specs.RestrictedMut.{entities_of, store_of};
     ghost use Rattle.specs_storage.specs.StorageLends.{masked_row};
 
     /// The storage with other parts.
@@ -85,15 +87,15 @@ pub trait RestrictMut<T: Component>: Restrict<T> {
 
     /// The parts, for reading and writing by one caller.
     fn restrict_mut(&mut self) -> RestrictedStorageMut<'_, T, SequentialRestriction>
-        ensures* writes_back { sem 𝓛 (Lends Self.row (masked_row T.row T.Storage.row T.Storage.UnprotectedStorage) self.entry result.store (with_left self.old)) }
-        ensures entities { result.entities.now ≡ Self.births self.old }
-        ensures store { result.store.now ≡ Self.masked self.old };
+        ensures* writes_back { sem 𝓛 (Lends Self.row (masked_row T.row T.Storage.row T.Storage.UnprotectedStorage) self.entry (store_of result) (with_left self.old)) }
+        ensures entities { (entities_of result).now ≡ Self.births self.old }
+        ensures store { (store_of result).now ≡ Self.masked self.old };
 
     /// The parts, for many callers, each of which may get what is at its own index alone.
     fn par_restrict_mut(&mut self) -> RestrictedStorageMut<'_, T, MutableParallelRestriction>
-        ensures* writes_back { sem 𝓛 (Lends Self.row (masked_row T.row T.Storage.row T.Storage.UnprotectedStorage) self.entry result.store (with_left self.old)) }
-        ensures entities { result.entities.now ≡ Self.births self.old }
-        ensures store { result.store.now ≡ Self.masked self.old };
+        ensures* writes_back { sem 𝓛 (Lends Self.row (masked_row T.row T.Storage.row T.Storage.UnprotectedStorage) self.entry (store_of result) (with_left self.old)) }
+        ensures entities { (entities_of result).now ≡ Self.births self.old }
+        ensures store { (store_of result).now ≡ Self.masked self.old };
 }
 
 impl<'e, T: Component> RestrictMut<T> for Storage<'e, T, &'e mut MaskedStorage<T>> {

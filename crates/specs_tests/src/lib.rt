@@ -6,6 +6,8 @@ mod carried;
 #[cfg(test)]
 mod changes;
 #[cfg(test)]
+mod channels;
+#[cfg(test)]
 mod cursors;
 pub mod drifting;
 #[cfg(test)]

@@ -1,6 +1,6 @@
 //! Restricted storages: pairs that are read, and pairs whose parts are raised by a cursor.
 ghost use Rattle.std.specs.Prelude.{◌≡◌, ℕ, ◌<◌, Some};
-ghost use Rattle.specs_join.specs.Cursor.{IsAt};
+ghost use Rattle.specs_storage.specs.PairCursors.{CanGoOn, StandsAt, indices_left};
 
 use crate::parts::Speed;
 use hibitset::BitSet;
@@ -39,12 +39,9 @@ fn are_raised(parts: &MaskedStorage<Speed>, count: u32) -> bool
 
 /// Adds one to the part at the cursor's index, and answers whether it was lent.
 fn raise<R: Join>(cursor: &mut PairCursor<'_, Speed, R>) -> bool
-    requires { (index : ℕ) × (cursor.old.index ≡ Some index) × IsAt R.value_at cursor.old.store.now.mask cursor.old.values index }
-    ensures parts { cursor.new.store.now.mask ≡ cursor.old.store.now.mask }
-    ensures mask { cursor.new.mask ≡ cursor.old.mask }
-    ensures values { cursor.new.values ≡ cursor.old.values }
-    ensures masks { cursor.new.masks ≡ cursor.old.masks }
-    ensures prefix { cursor.new.prefix ≡ cursor.old.prefix }
+    requires { (index : ℕ) × StandsAt R.value_at cursor.old index }
+    ensures left { indices_left R.Mask.members cursor.new ≡ indices_left R.Mask.members cursor.old }
+    ensures ready { CanGoOn R.Mask.members R.value_at cursor.old → CanGoOn R.Mask.members R.value_at cursor.new }
 {
     match cursor.values() {
         Ok(part) => {
@@ -69,12 +66,9 @@ fn raise_all<R: Join>(storage: &mut WriteStorage<'_, Speed>, read: R) -> u32 {
 
 /// Adds the part at the cursor's index to that of an entity, and answers whether that was lent.
 fn add_to<R: Join>(cursor: &mut PairCursor<'_, Speed, R>, sum: Entity) -> bool
-    requires { (index : ℕ) × (cursor.old.index ≡ Some index) × IsAt R.value_at cursor.old.store.now.mask cursor.old.values index }
-    ensures parts { cursor.new.store.now.mask ≡ cursor.old.store.now.mask }
-    ensures mask { cursor.new.mask ≡ cursor.old.mask }
-    ensures values { cursor.new.values ≡ cursor.old.values }
-    ensures masks { cursor.new.masks ≡ cursor.old.masks }
-    ensures prefix { cursor.new.prefix ≡ cursor.old.prefix }
+    requires { (index : ℕ) × StandsAt R.value_at cursor.old index }
+    ensures left { indices_left R.Mask.members cursor.new ≡ indices_left R.Mask.members cursor.old }
+    ensures ready { CanGoOn R.Mask.members R.value_at cursor.old → CanGoOn R.Mask.members R.value_at cursor.new }
 {
     let own = cursor.get_unchecked().0;
     match cursor.get_mut(sum) {

@@ -2,12 +2,11 @@
 ghost use mir.Syntax.{named};
 ghost use Rattle.std.specs.Prelude.{◌≡◌, ℕ, ◌<◌, ◌&&◌, [], ◌∷◌, true, false, Some, is_some, unwrap_or, IsSome, IsTrue, IsOk, IfOk};
 ghost use Rattle.std.specs.Borrow.{sem, LendsIfOk};
-ghost use Rattle.hibitset_sets.specs.BitSet.{has_member};
-ghost use Rattle.hibitset_sets.specs.Walk.{walk};
-ghost use Rattle.specs_join.specs.Cursor.{left_in, IsReady, IsAt};
+ghost use Rattle.specs_join.specs.ChangeEach.{shared_indices};
 
 use crate::join::Join;
-use hibitset::{BitIter, BitSetAnd, BitSetLike, Index, Uncounted};
+use crate::join::shared::SharedSteps;
+use hibitset::Index;
 use specs_layouts::{Component, MaskedStorage};
 use std::alloc::AllocError;
 
@@ -17,22 +16,22 @@ pub struct JoinCursor<'a, T: Component, R: Join> {
     storage: &'a mut MaskedStorage<T>,
     mask: R::Mask,
     values: R::Value,
-    masks: [u64; 4],
-    prefix: [u32; 3],
+    steps: SharedSteps,
     index: Option<Index>,
 }
 
 impl<T: Component, R: Join> Drop for JoinCursor<'_, T, R> {
+    ghost use Rattle.specs_join.specs.Cursors.{storage_of};
+
     /// Leaves the storage as it is.
     fn drop(self)
-        ensures { self.exit.0.now ≡ self.entry.storage.now }
+        ensures { self.exit.0.now ≡ (storage_of self.entry).now }
     {
         let JoinCursor {
             storage: _,
             mask,
             values,
-            masks: _,
-            prefix: _,
+            steps: _,
             index: _,
         } = self;
         drop(mask);
@@ -42,60 +41,48 @@ impl<T: Component, R: Join> Drop for JoinCursor<'_, T, R> {
 
 impl<'a, T: Component, R: Join> JoinCursor<'a, T, R> {
     ghost use Rattle.specs_join.specs.contracts.join.cursor.JoinCursor.{the_row};
+    ghost use Rattle.specs_join.specs.Cursors.{storage_of, mask_of, values_of, index_of, indices_left, CanGoOn, StandsAt, with_part_written};
 
     /// A cursor before the first index that the storage and the join share.
     pub fn new(storage: &'a mut MaskedStorage<T>, read: R) -> Self
-        ensures same_reference { result.storage.ghost_name ≡ storage.entry.ghost_name }
-        ensures storage { result.storage.now ≡ storage.old }
-        ensures left { left_in R.Mask.members result.storage.now.mask result.mask result.masks result.prefix
-            ≡ walk (λ index. has_member storage.old.mask index && is_some (R.joins read index)) }
-        ensures values { (index : ℕ) → index < 16777216 → IsSome (R.joins read index) → R.value_at result.values index ≡ R.joins read index }
-        ensures ready { IsReady R.Mask.members R.value_at result.storage.now.mask result.mask result.values result.masks result.prefix }
+        ensures same_reference { (storage_of result).ghost_name ≡ storage.entry.ghost_name }
+        ensures storage { (storage_of result).now ≡ storage.old }
+        ensures left { indices_left R.Mask.members result ≡ shared_indices storage.old.mask (R.joins read) }
+        ensures values { (index : ℕ) → index < 16777216 → IsSome (R.joins read index) → R.value_at (values_of result) index ≡ R.joins read index }
+        ensures ready { CanGoOn R.Mask.members R.value_at result }
     {
         let (mask, values) = read.open();
-        let walk = BitSetAnd(storage.mask(), &mask).iter();
-        let (_, masks, prefix) = walk.into_parts();
+        let steps = SharedSteps::new(storage.mask(), &mask);
         JoinCursor {
             storage,
             mask,
             values,
-            masks,
-            prefix,
+            steps,
             index: None,
         }
     }
 
     /// Goes on to the next index, or answers false where there is none.
     pub fn advance(&mut self) -> bool
-        requires { IsReady R.Mask.members R.value_at self.old.storage.now.mask self.old.mask self.old.values self.old.masks self.old.prefix }
-        ensures same_reference { self.new.storage.ghost_name ≡ self.old.storage.ghost_name }
-        ensures storage { self.new.storage.now ≡ self.old.storage.now }
-        ensures mask { self.new.mask ≡ self.old.mask }
-        ensures values { self.new.values ≡ self.old.values }
-        ensures ready { IsReady R.Mask.members R.value_at self.new.storage.now.mask self.new.mask self.new.values self.new.masks self.new.prefix }
-        ensures some { IsTrue result → (index : ℕ) × (self.new.index ≡ Some index)
-            × (left_in R.Mask.members self.old.storage.now.mask self.old.mask self.old.masks self.old.prefix
-            ≡ index ∷ left_in R.Mask.members self.new.storage.now.mask self.new.mask self.new.masks self.new.prefix)
-            × IsAt R.value_at self.new.storage.now.mask self.new.values index }
-        ensures ended { result ≡ false → left_in R.Mask.members self.old.storage.now.mask self.old.mask self.old.masks self.old.prefix ≡ [] }
+        requires { CanGoOn R.Mask.members R.value_at self.old }
+        ensures same_reference { (storage_of self.new).ghost_name ≡ (storage_of self.old).ghost_name }
+        ensures storage { (storage_of self.new).now ≡ (storage_of self.old).now }
+        ensures mask { mask_of self.new ≡ mask_of self.old }
+        ensures values { values_of self.new ≡ values_of self.old }
+        ensures ready { CanGoOn R.Mask.members R.value_at self.new }
+        ensures some { IsTrue result → (index : ℕ) × StandsAt R.value_at self.new index
+            × (indices_left R.Mask.members self.old ≡ index ∷ indices_left R.Mask.members self.new) }
+        ensures ended { result ≡ false → indices_left R.Mask.members self.old ≡ [] }
     {
-        let mut walk = BitIter::new(
-            BitSetAnd(self.storage.mask(), &self.mask),
-            self.masks,
-            self.prefix,
-        );
-        let next = walk.next_counted(&mut Uncounted);
-        let (_, masks, prefix) = walk.into_parts();
-        self.masks = masks;
-        self.prefix = prefix;
+        let next = self.steps.step(self.storage.mask(), &self.mask);
         self.index = next;
         next.is_some()
     }
 
     /// The index at which the cursor is.
     pub fn index(&self) -> Index
-        requires { IsSome self.now.index }
-        ensures { self.now.index ≡ Some result }
+        requires { IsSome (index_of self.now) }
+        ensures { index_of self.now ≡ Some result }
     {
         let Some(id) = self.index else { unreachable!() };
         id
@@ -103,8 +90,8 @@ impl<'a, T: Component, R: Join> JoinCursor<'a, T, R> {
 
     /// What the join has at the index.
     pub fn item(&self) -> R::Type
-        requires { (index : ℕ) × (self.now.index ≡ Some index) × IsAt R.value_at self.now.storage.now.mask self.now.values index }
-        ensures { (index : ℕ) → self.now.index ≡ Some index → R.value_at self.now.values index ≡ Some (R.show result) }
+        requires { (index : ℕ) × StandsAt R.value_at self.now index }
+        ensures { (index : ℕ) → index_of self.now ≡ Some index → R.value_at (values_of self.now) index ≡ Some (R.show result) }
     {
         let Some(id) = self.index else { unreachable!() };
         R::get(&self.values, id)
@@ -114,14 +101,14 @@ impl<'a, T: Component, R: Join> JoinCursor<'a, T, R> {
     ///
     /// Errors: `AllocError`, where the storage emits, and nothing changed.
     pub fn values(&mut self) -> Result<&mut T, AllocError>
-        requires { (index : ℕ) × (self.old.index ≡ Some index) × IsAt R.value_at self.old.storage.now.mask self.old.values index }
+        requires { (index : ℕ) × StandsAt R.value_at self.old index }
         ensures* writes_back { sem 𝓛 (LendsIfOk (the_row (record { mir = named 1; lft = [] }) T.row R.row T.Storage.row R.Type.row R.Shown.row R.Value.row R.Mask.row
             (record { part_at = T.Storage.part_at; written = T.Storage.written; events = T.Storage.events; emits = T.Storage.emits; has_room = T.Storage.has_room })
             (record { is_default = T.Storage.is_default; always = T.Storage.always })) T.row self.entry result
-            (λ part. record self.old { storage = record self.old.storage { now = record self.old.storage.now { inner = T.Storage.written self.old.storage.now.inner (unwrap_or self.old.index 0) part } } }) self.old) }
-        ensures part { IfOk result (λ part. (index : ℕ) → self.old.index ≡ Some index → T.Storage.part_at self.old.storage.now.inner index ≡ Some part.now) }
-        ensures succeeds { T.Storage.emits self.old.storage.now.inner ≡ false → IsOk result }
-        ensures within_room { T.Storage.has_room self.old.storage.now.inner 1 → IsOk result }
+            (with_part_written T.Storage.written self.old (unwrap_or (index_of self.old) 0)) self.old) }
+        ensures part { IfOk result (λ part. (index : ℕ) → index_of self.old ≡ Some index → T.Storage.part_at (storage_of self.old).now.inner index ≡ Some part.now) }
+        ensures succeeds { T.Storage.emits (storage_of self.old).now.inner ≡ false → IsOk result }
+        ensures within_room { T.Storage.has_room (storage_of self.old).now.inner 1 → IsOk result }
     {
         let Some(id) = self.index else { unreachable!() };
         let _mask = self.storage.mask();

@@ -56,9 +56,8 @@ impl<T> TryDefault for BTreeStorage<T> {
     }
 }
 
-impl<T> DistinctStorage for BTreeStorage<T> {}
-
 impl<T: Drop> UnprotectedStorage<T> for BTreeStorage<T> {
+    ghost use Rattle.specs_events.specs.Channels.{no_log};
     ghost use Rattle.std.specs.Prelude.{[], false, refl};
     ghost use Rattle.specs_layouts.specs.Entries.{tree_part, with_tree_part};
     ghost use Rattle.specs_layouts.specs.EntryLemmas.{with_tree_part-puts, tree-starts};
@@ -67,7 +66,7 @@ impl<T: Drop> UnprotectedStorage<T> for BTreeStorage<T> {
 
     ghost written = { with_tree_part };
 
-    ghost events = { λ _. [] };
+    ghost events = { λ _. no_log };
 
     ghost emits = { λ _. false };
 
@@ -120,4 +119,10 @@ impl<T: Drop> UnprotectedStorage<T> for BTreeStorage<T> {
     fn make_room(&mut self, _count: usize) -> Result<(), AllocError> {
         Ok(())
     }
+}
+
+impl<T: Drop> DistinctStorage<T> for BTreeStorage<T> {
+    ghost use Rattle.std.specs.Prelude.{refl};
+
+    ghost silent = { λ _. refl };
 }

@@ -105,9 +105,8 @@ impl<T: Default> TryDefault for DefaultVecStorage<T> {
     }
 }
 
-impl<T: Default> DistinctStorage for DefaultVecStorage<T> {}
-
 impl<T: Default + Drop> UnprotectedStorage<T> for DefaultVecStorage<T> {
+    ghost use Rattle.specs_events.specs.Channels.{no_log};
     ghost use Rattle.std.specs.Prelude.{[], false, refl};
     ghost use Rattle.specs_layouts.specs.Defaults.{filled_part, with_filled_part};
     ghost use Rattle.specs_layouts.specs.FilledLemmas.{with_filled_part-puts, filled-starts};
@@ -116,7 +115,7 @@ impl<T: Default + Drop> UnprotectedStorage<T> for DefaultVecStorage<T> {
 
     ghost written = { with_filled_part };
 
-    ghost events = { λ _. [] };
+    ghost events = { λ _. no_log };
 
     ghost emits = { λ _. false };
 
@@ -210,4 +209,10 @@ impl<T: Default> SliceAccess<T> for DefaultVecStorage<T> {
     {
         self.slots.as_slice()
     }
+}
+
+impl<T: Default + Drop> DistinctStorage<T> for DefaultVecStorage<T> {
+    ghost use Rattle.std.specs.Prelude.{refl};
+
+    ghost silent = { λ _. refl };
 }

@@ -72,9 +72,8 @@ impl<T> TryDefault for DenseVecStorage<T> {
     }
 }
 
-impl<T> DistinctStorage for DenseVecStorage<T> {}
-
 impl<T: Drop> UnprotectedStorage<T> for DenseVecStorage<T> {
+    ghost use Rattle.specs_events.specs.Channels.{no_log};
     ghost use Rattle.std.specs.Prelude.{[], false, refl};
     ghost use Rattle.specs_layouts.specs.Dense.{dense_part, with_dense_part};
     ghost use Rattle.specs_layouts.specs.DenseLemmas.{with_dense_part-puts, dense-starts};
@@ -83,7 +82,7 @@ impl<T: Drop> UnprotectedStorage<T> for DenseVecStorage<T> {
 
     ghost written = { with_dense_part };
 
-    ghost events = { λ _. [] };
+    ghost events = { λ _. no_log };
 
     ghost emits = { λ _. false };
 
@@ -173,4 +172,10 @@ impl<T> SliceAccess<T> for DenseVecStorage<T> {
     {
         self.parts.as_slice()
     }
+}
+
+impl<T: Drop> DistinctStorage<T> for DenseVecStorage<T> {
+    ghost use Rattle.std.specs.Prelude.{refl};
+
+    ghost silent = { λ _. refl };
 }

@@ -57,9 +57,8 @@ impl<T> TryDefault for HashMapStorage<T> {
     }
 }
 
-impl<T> DistinctStorage for HashMapStorage<T> {}
-
 impl<T: Drop> UnprotectedStorage<T> for HashMapStorage<T> {
+    ghost use Rattle.specs_events.specs.Channels.{no_log};
     ghost use Rattle.std.specs.Prelude.{[], false, refl};
     ghost use Rattle.specs_layouts.specs.Entries.{table_part, with_table_part};
     ghost use Rattle.specs_layouts.specs.EntryLemmas.{with_table_part-puts, table-starts};
@@ -68,7 +67,7 @@ impl<T: Drop> UnprotectedStorage<T> for HashMapStorage<T> {
 
     ghost written = { with_table_part };
 
-    ghost events = { λ _. [] };
+    ghost events = { λ _. no_log };
 
     ghost emits = { λ _. false };
 
@@ -121,4 +120,10 @@ impl<T: Drop> UnprotectedStorage<T> for HashMapStorage<T> {
     fn make_room(&mut self, _count: usize) -> Result<(), AllocError> {
         Ok(())
     }
+}
+
+impl<T: Drop> DistinctStorage<T> for HashMapStorage<T> {
+    ghost use Rattle.std.specs.Prelude.{refl};
+
+    ghost silent = { λ _. refl };
 }

@@ -21,8 +21,9 @@ pub struct NullStorage<T> {
 impl<T: Single> TryDefault for NullStorage<T> {
     ghost use Rattle.std.specs.Prelude.{◌≡◌, true};
     ghost use Rattle.std.specs.FinSet as set;
+    ghost use Rattle.specs_layouts.specs.Flags.{flagged};
 
-    ghost is_default = { λ s. s.present.members ≡ set.empty };
+    ghost is_default = { λ s. flagged s ≡ set.empty };
 
     ghost always = { true };
 
@@ -34,9 +35,8 @@ impl<T: Single> TryDefault for NullStorage<T> {
     }
 }
 
-impl<T> DistinctStorage for NullStorage<T> {}
-
 impl<T: Single> UnprotectedStorage<T> for NullStorage<T> {
+    ghost use Rattle.specs_events.specs.Channels.{no_log};
     ghost use Rattle.std.specs.Prelude.{[], false, refl};
     ghost use Rattle.specs_layouts.specs.Flags.{flag_part, with_flag_part};
     ghost use Rattle.specs_layouts.specs.FlagLemmas.{with_flag_part-puts, flags-start};
@@ -45,7 +45,7 @@ impl<T: Single> UnprotectedStorage<T> for NullStorage<T> {
 
     ghost written = { with_flag_part };
 
-    ghost events = { λ _. [] };
+    ghost events = { λ _. no_log };
 
     ghost emits = { λ _. false };
 
@@ -90,4 +90,10 @@ impl<T: Single> UnprotectedStorage<T> for NullStorage<T> {
     fn make_room(&mut self, _count: usize) -> Result<(), AllocError> {
         Ok(())
     }
+}
+
+impl<T: Single> DistinctStorage<T> for NullStorage<T> {
+    ghost use Rattle.std.specs.Prelude.{refl};
+
+    ghost silent = { λ _. refl };
 }

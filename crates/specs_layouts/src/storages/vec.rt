@@ -54,8 +54,9 @@ fn empty_slot<T: Drop>(slots: &mut Vec<Option<T>>, id: Index)
 
 impl<T> TryDefault for VecStorage<T> {
     ghost use Rattle.std.specs.Prelude.{◌≡◌, [], true};
+    ghost use Rattle.specs_layouts.specs.Slots.{slots_of};
 
-    ghost is_default = { λ s. s.slots.items ≡ [] };
+    ghost is_default = { λ s. slots_of s ≡ [] };
 
     ghost always = { true };
 
@@ -66,18 +67,17 @@ impl<T> TryDefault for VecStorage<T> {
     }
 }
 
-impl<T> DistinctStorage for VecStorage<T> {}
-
 impl<T: Drop> UnprotectedStorage<T> for VecStorage<T> {
+    ghost use Rattle.specs_events.specs.Channels.{no_log};
     ghost use Rattle.std.specs.Prelude.{[], false, refl};
-    ghost use Rattle.specs_layouts.specs.Slots.{slot_at, with_part};
+    ghost use Rattle.specs_layouts.specs.Slots.{slots_of, slot_at, with_part};
     ghost use Rattle.specs_layouts.specs.SlotLemmas.{with_part-puts, slots-start};
 
-    ghost part_at = { λ s. slot_at s.slots.items };
+    ghost part_at = { λ s. slot_at (slots_of s) };
 
     ghost written = { with_part };
 
-    ghost events = { λ _. [] };
+    ghost events = { λ _. no_log };
 
     ghost emits = { λ _. false };
 
@@ -93,7 +93,7 @@ impl<T: Drop> UnprotectedStorage<T> for VecStorage<T> {
 
     ghost room_for_fewer = { λ _ _ room. room };
 
-    ghost starts_empty = { λ s. slots-start s.slots.items };
+    ghost starts_empty = { λ s. slots-start (slots_of s) };
 
     fn clean<B: BitSetLike + Drop>(&mut self, has: B) {
         let mut left = has.iter();
@@ -135,14 +135,22 @@ impl<T: Drop> UnprotectedStorage<T> for VecStorage<T> {
 }
 
 impl<T> SliceAccess<T> for VecStorage<T> {
+    ghost use Rattle.specs_layouts.specs.Slots.{slots_of};
+
     type Element = Option<T>;
 
-    ghost shown = { λ s. s.slots.items };
+    ghost shown = { slots_of };
 
     fn as_slice(&self) -> &[Option<T>]
-        ensures value { result.now ≡ self.now.slots.items }
-        ensures parts { (index : ℕ) → slot_at result.now index ≡ slot_at self.now.slots.items index }
+        ensures value { result.now ≡ slots_of self.now }
+        ensures parts { (index : ℕ) → slot_at result.now index ≡ slot_at (slots_of self.now) index }
     {
         self.slots.as_slice()
     }
+}
+
+impl<T: Drop> DistinctStorage<T> for VecStorage<T> {
+    ghost use Rattle.std.specs.Prelude.{refl};
+
+    ghost silent = { λ _. refl };
 }

@@ -33,29 +33,34 @@ pub struct PairedStorageMut<'a, T: Component> {
 }
 
 impl<'a, T: Component, R> PairedStorage<'a, T, R> {
+    ghost use Rattle.specs_storage.specs.Paired.{store_of, index_of};
+
     /// The part at the index.
     pub fn get_unchecked(&self) -> &T
-        ensures { T.Storage.part_at self.now.store.now.inner self.now.index ≡ Some result.now }
+        ensures { T.Storage.part_at (store_of self.now).now.inner (index_of self.now) ≡ Some result.now }
     {
         self.store.get(self.index)
     }
 }
 
 impl<'a, T: Component, R: ImmutableAliasing> PairedStorage<'a, T, R> {
+    ghost use Rattle.specs_storage.specs.Paired.{entities_of, store_of};
+
     /// The part of an entity, or none where the entity isn't alive or has none.
     pub fn get(&self, entity: Entity) -> Option<&T>
-        ensures { Finds self.now.entities.now (T.Storage.part_at self.now.store.now.inner) entity (option_copied result) }
+        ensures { Finds (entities_of self.now).now (T.Storage.part_at (store_of self.now).now.inner) entity (option_copied result) }
     {
         part_of(self.store, self.entities, entity)
     }
 }
 
 impl<'a, T: Component> PairedStorageMut<'a, T> {
+    ghost use Rattle.specs_storage.specs.PairedMut.{entities_of, store_of, index_of};
     ghost use Rattle.specs_storage.specs.Pairs.{lends_pair};
 
     /// The part at the index.
     pub fn get_unchecked(&self) -> &T
-        ensures { T.Storage.part_at self.now.store.now.inner self.now.index ≡ Some result.now }
+        ensures { T.Storage.part_at (store_of self.now).now.inner (index_of self.now) ≡ Some result.now }
     {
         let index = self.index;
         self.store.get(index)
@@ -63,7 +68,7 @@ impl<'a, T: Component> PairedStorageMut<'a, T> {
 
     /// The part of an entity, or none where the entity isn't alive or has none.
     pub fn get(&self, entity: Entity) -> Option<&T>
-        ensures { Finds self.now.entities.now (T.Storage.part_at self.now.store.now.inner) entity (option_copied result) }
+        ensures { Finds (entities_of self.now).now (T.Storage.part_at (store_of self.now).now.inner) entity (option_copied result) }
     {
         let entities = self.entities;
         part_of(self.store, entities, entity)
@@ -73,9 +78,9 @@ impl<'a, T: Component> PairedStorageMut<'a, T> {
     ///
     /// Errors: `AllocError`, where the storage emits, and nothing changed.
     pub fn get_mut_unchecked(&mut self) -> Result<&mut T, AllocError>
-        ensures* writes_back { sem 𝓛 (lends_pair T.row T.Storage.row self.entry self.old.index result) }
-        ensures value { IfOk result (λ part. T.Storage.part_at self.old.store.now.inner self.old.index ≡ Some part.now) }
-        ensures succeeds { T.Storage.emits self.old.store.now.inner ≡ false → IsOk result }
+        ensures* writes_back { sem 𝓛 (lends_pair T.row T.Storage.row self.entry (index_of self.old) result) }
+        ensures value { IfOk result (λ part. T.Storage.part_at (store_of self.old).now.inner (index_of self.old) ≡ Some part.now) }
+        ensures succeeds { T.Storage.emits (store_of self.old).now.inner ≡ false → IsOk result }
     {
         let index = self.index;
         self.store.get_mut(index)
@@ -86,9 +91,9 @@ impl<'a, T: Component> PairedStorageMut<'a, T> {
     /// Errors: `Absent` if the entity isn't alive or has no part, and `Memory`, where the storage emits. Nothing changed.
     pub fn get_mut(&mut self, entity: Entity) -> Result<&mut T, LendError>
         ensures* writes_back { sem 𝓛 (lends_pair T.row T.Storage.row self.entry entity.id result) }
-        ensures value { IfOk result (λ part. T.Storage.part_at self.old.store.now.inner entity.id ≡ Some part.now) }
-        ensures absent { IsErrOf result lending.Absent ↔ ¬ (HasPart self.old.entities.now (T.Storage.part_at self.old.store.now.inner) entity) }
-        ensures succeeds { T.Storage.emits self.old.store.now.inner ≡ false → HasPart self.old.entities.now (T.Storage.part_at self.old.store.now.inner) entity → IsOk result }
+        ensures value { IfOk result (λ part. T.Storage.part_at (store_of self.old).now.inner entity.id ≡ Some part.now) }
+        ensures absent { IsErrOf result lending.Absent ↔ ¬ (HasPart (entities_of self.old).now (T.Storage.part_at (store_of self.old).now.inner) entity) }
+        ensures succeeds { T.Storage.emits (store_of self.old).now.inner ≡ false → HasPart (entities_of self.old).now (T.Storage.part_at (store_of self.old).now.inner) entity → IsOk result }
     {
         let entities = self.entities;
         if !has_part(self.store, entities, entity) {

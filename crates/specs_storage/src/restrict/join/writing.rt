@@ -20,13 +20,15 @@ where
     type Mask = &'a BitSet;
 
     ghost use Rattle.std.specs.Prelude.{◌≡◌, false};
+    ghost use Rattle.specs_storage.specs.Paired as paired;
     ghost use Rattle.specs_storage.specs.Pairs.{shown_at};
+    ghost use Rattle.specs_storage.specs.RestrictedMut.{entities_of, store_of};
 
-    ghost show = { λ pair. (pair.entities.now, pair.store.now, pair.index) };
+    ghost show = { λ pair. ((paired.entities_of pair).now, (paired.store_of pair).now, paired.index_of pair) };
 
-    ghost joins = { λ storage. shown_at T.Storage.part_at storage.now.entities.now storage.now.store.now };
+    ghost joins = { λ storage. shown_at T.Storage.part_at (entities_of storage.now).now (store_of storage.now).now };
 
-    ghost opens = { λ storage mask. mask.now ≡ storage.now.store.now.mask };
+    ghost opens = { λ storage mask. mask.now ≡ (store_of storage.now).now.mask };
 
     ghost unconstrained = { false };
 

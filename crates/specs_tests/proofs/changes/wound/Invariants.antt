@@ -1,12 +1,12 @@
 use Rattle.std.proofs.Common.{length}
 use Rattle.hibitset_sets.specs.BitSet.{has_member}
-use Rattle.specs_join.specs.Cursor.{IsReady, left_in}
+use Rattle.specs_join.specs.Cursors.{CanGoOn, indices_left}
 use Rattle.specs_changes.specs.Changes.{changes_in}
 use Rattle.specs_tests.proofs.changes.wound.Given as goal
 
 abbrev pub invariant-loop-cursor : goal.invariant-loop-cursor
 invariant-loop-cursor l =
-    IsReady (λ mask. has_member mask.now) (λ inner. changes_in inner.now) l.cursor.storage.now.mask l.cursor.mask l.cursor.values l.cursor.masks l.cursor.prefix
+    CanGoOn (λ mask. has_member mask.now) (λ inner. changes_in inner.now) l.cursor
 
 abbrev pub decreases-loop-cursor : goal.decreases-loop-cursor
-decreases-loop-cursor l = length (left_in (λ mask. has_member mask.now) l.cursor.storage.now.mask l.cursor.mask l.cursor.masks l.cursor.prefix)
+decreases-loop-cursor l = length (indices_left (λ mask. has_member mask.now) l.cursor)

@@ -1,11 +1,14 @@
 use Rattle.std.proofs.Common.{◌≡◌, length}
 use Rattle.std.specs.FinSet as fin
 use Rattle.hibitset_sets.specs.Walk.{walk}
-use Rattle.specs_entity.specs.Births.{all_buried}
+use Rattle.specs_entity.specs.Births.{all_buried, Continues}
 use Rattle.specs_entity.proofs.entities_res.EntitiesRes.bury_all.Given as goal
 
 abbrev pub invariant-loop-id : goal.invariant-loop-id
-invariant-loop-id l = all_buried l.self (walk (fin.contains l.self.deletions)) ≡ all_buried l.initial.self (walk (fin.contains l.initial.self.deletions))
+invariant-loop-id l = record {
+  value : all_buried l.self (walk (fin.contains l.self.deletions)) ≡ all_buried l.initial.self (walk (fin.contains l.initial.self.deletions));
+  goes : Continues l.initial.self l.self;
+}
 
 abbrev pub decreases-loop-id : goal.decreases-loop-id
 decreases-loop-id l = length (walk (fin.contains l.self.deletions))

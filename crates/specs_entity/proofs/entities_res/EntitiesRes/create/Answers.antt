@@ -1,7 +1,7 @@
 use Rattle.std.proofs.Common.{◌≡◌, ◌<◌, ap, sym, ◌∙◌, subst, arith}
 use Rattle.std.specs.FinSet as fin
 use Rattle.specs_entity.specs.Life.{LifeAt}
-use Rattle.specs_entity.specs.Births.{Births, MarksLiving, next_index, number_of, persistent_at, with_next_taken}
+use Rattle.specs_entity.specs.Births.{Births, Continues, IsAlive, MarksLiving, created, next_index, number_of, persistent_at, with_next_taken}
 use Rattle.specs_entity.specs.Layout.{AreBirths, IsFree, births_of}
 use Rattle.specs_entity.proofs.BirthLemmas.{AreBirths-fresh, freshened, on-ok}
 use Rattle.specs_entity.proofs.AliveLemmas.{marks-fresh}
@@ -57,6 +57,16 @@ returns-clause-ok c =
     let taken : births_of c.self.inside ≡ with_next_taken c.args.self.now = c.self.view_is ∙ c.in_ok-take_next.ensures.ok in
     ap (λ (s : fin.FinSet _). record (births_of c.self.inside) { fresh = s }) (members c)
     ∙ ap (λ (b : Births). freshened b (next_index c.args.self.now)) taken
+
+pub returns-clause-alive : goal.returns-clause-alive
+returns-clause-alive c =
+    subst (λ (b : Births). IsAlive b c.in_ok-entity.entity) (sym (returns-clause-ok c))
+    (subst (IsAlive (created c.args.self.now)) (sym c.in_ok-entity.ensures.ok) c.in_ok-entity.ensures.lives)
+
+pub returns-clause-continues : goal.returns-clause-continues
+returns-clause-continues c =
+    subst (Continues c.args.self.now) (sym (returns-clause-ok c))
+    c.in_ok-entity.ensures.continues
 
 pub invariant_of-self : goal.invariant_of-self
 invariant_of-self c =

@@ -3,6 +3,7 @@ use Rattle.std.proofs.lemmas.Bool.{false≢true}
 use Rattle.specs_entity.specs.Life.{LifeAt}
 use Rattle.specs_entity.specs.Births.{Births, buried, living}
 use Rattle.specs_entity.proofs.BirthLemmas.{some-none}
+use Rattle.specs_entity.proofs.LawLemmas.{continues-through}
 use Rattle.specs_entity.proofs.ListLemmas.{buried-next, fault-not-killable, living-next}
 use Rattle.specs_entity.proofs.entities_res.EntitiesRes.kill.Goals as goal
 
@@ -26,6 +27,7 @@ loop-entity-preserved c =
     let before : Births = c.first_fault.new.self in
     let named = ap (λ (e : LifeAt). e.id) (c.entity.view_is ∙ c.entity-item.is) in
     record {
-      run = c.bury.ensures ∙ (ap (buried c.loop-entity.self) named ∙ (ap (λ (b : Births). buried b (get_or all place c.entity-item.result).id) c.loop-entity.invariant.run ∙ sym (buried-next before all place c.entity-item.result c.loop-entity-test.true)));
+      run = c.bury.ensures.value ∙ (ap (buried c.loop-entity.self) named ∙ (ap (λ (b : Births). buried b (get_or all place c.entity-item.result).id) c.loop-entity.invariant.run ∙ sym (buried-next before all place c.entity-item.result c.loop-entity-test.true)));
       can = c.loop-entity.invariant.can;
+      goes = continues-through _ _ _ c.loop-entity.invariant.goes c.bury.ensures.continues;
     }

@@ -2,14 +2,15 @@ use Rattle.std.proofs.Common.{◌≡◌, true, Some, ap, sym, ◌∙◌, subst, 
 use Rattle.std.proofs.Math.ListN.{length-set}
 use Rattle.std.specs.FinSet as fin
 use Rattle.specs_entity.specs.Life.{Life}
-use Rattle.specs_entity.specs.Births.{Births, MarksLiving, settled, persistent_at, next_life}
+use Rattle.specs_entity.specs.Births.{Births, Continues, MarksLiving, settled, persistent_at, next_life}
 use Rattle.specs_entity.specs.Layout.{AreBirths, births_of}
 use Rattle.specs_entity.proofs.BirthLemmas.{AreBirths-settled, births-same}
 use Rattle.specs_entity.proofs.AliveLemmas.{marks-settled}
+use Rattle.specs_entity.proofs.LawLemmas.{settle-continues}
 use Rattle.specs_entity.proofs.entities_res.EntitiesRes.settle.Goals as goal
 
-pub returns : goal.returns
-returns c =
+pub returns-clause-value : goal.returns-clause-value
+returns-clause-value c =
     let births : Births = births_of c.self.inside in
     let last = c.generation-last.ensures ∙ ap (λ (b : Births). persistent_at b c.args.id) (sym c.self.view_is) in
     births-same _ (settled births c.args.id)
@@ -17,6 +18,11 @@ returns c =
     c.remove.ensures.members
     refl refl refl refl
     ∙ ap (λ (b : Births). settled b c.args.id) c.self.view_is
+
+pub returns-clause-continues : goal.returns-clause-continues
+returns-clause-continues c =
+    subst (Continues c.args.self.now) (sym (returns-clause-value c))
+    (settle-continues c.args.self.now c.args.id (subst AreBirths c.self.view_is c.self.invariant.births) c.requires)
 
 pub invariant_of-self : goal.invariant_of-self
 invariant_of-self c =
@@ -29,12 +35,12 @@ invariant_of-self c =
     let marked = c.self.invariant.marked in
     let cache = c.self.invariant.cache in
     record {
-      births = subst AreBirths (ap (λ (b : Births). settled b c.args.id) c.self.view_is ∙ sym (returns c)) (AreBirths-settled births c.args.id kept is_fresh);
+      births = subst AreBirths (ap (λ (b : Births). settled b c.args.id) c.self.view_is ∙ sym (returns-clause-value c)) (AreBirths-settled births c.args.id kept is_fresh);
       raised = let r = c.remove.ensures.room in omega arith;
       killed = omega arith;
       marked = omega arith;
       cache = omega arith;
       unmarked = c.self.invariant.unmarked;
       alive_room = let h = c.self.invariant.alive_room in omega arith;
-      alive = subst (MarksLiving c.self.inside.alive.members) (ap (λ (b : Births). settled b c.args.id) c.self.view_is ∙ sym (returns c)) (marks-settled c.self.inside.alive.members births c.args.id c.self.invariant.alive kept is_fresh);
+      alive = subst (MarksLiving c.self.inside.alive.members) (ap (λ (b : Births). settled b c.args.id) c.self.view_is ∙ sym (returns-clause-value c)) (marks-settled c.self.inside.alive.members births c.args.id c.self.invariant.alive kept is_fresh);
     }

@@ -1,0 +1,19 @@
+use Rattle.std.proofs.Common.{◌≡◌, List, length, ap, sym, subst, ◌∙◌}
+use Rattle.specs_entity.specs.Life.{LifeAt}
+use Rattle.specs_entity.specs.Births.{Births, AreNew, Continues, all_created, newborns}
+use Rattle.specs_entity.proofs.NewLemmas.{newborns-new, all_created-continues}
+use Rattle.specs_entity.proofs.entities_res.EntitiesRes.create_iter.Goals as goal
+
+pub returns-clause-new : goal.returns-clause-new
+returns-clause-new c =
+    let before : Births = c.args.self.now in
+    let made = c.create_all.ensures.made in
+    subst (λ (list : List LifeAt). AreNew before list c.create_all.new.self) (sym c.into_iter.ensures.rest)
+    (subst (AreNew before c.create_all.new.made.items) (sym made.run)
+    (subst (λ (list : List LifeAt). AreNew before list (all_created (length c.create_all.new.made.items) before)) (sym made.made)
+    (newborns-new (length c.create_all.new.made.items) before made.kept made.can)))
+
+pub returns-clause-continues : goal.returns-clause-continues
+returns-clause-continues c =
+    let made = c.create_all.ensures.made in
+    subst (Continues c.args.self.now) (sym made.run) (all_created-continues (length c.create_all.new.made.items) c.args.self.now made.kept made.can)
