@@ -93,9 +93,13 @@ all-numbered names (name ∷ after) e = by (number_under names name) e (all-numb
     by None is later = absurd (false≢true (sym is))
     by (Some n) is later = ap (λ list. Some n ∷ list) (later is)
 
-pub none-passed-over : {S : Type 0} (building : Building S) (name : List ℕ) (after : List (List ℕ)) → refusal building name after ≡ None → AreNumbersOf building.names after (numbers_under building.names after)
-none-passed-over building name after e = all-numbered building.names after (by (lacks_one building.names after) e)
+-- no name that a system gives is unknown, where it is taken
+pub none-unknown : {S : Type 0} (building : Building S) (name : List ℕ) (after : List (List ℕ)) → refusal building name after ≡ None → lacks_one building.names after ≡ false
+none-unknown building name after e = by (lacks_one building.names after) e
   where
     by : (b : Bool) → (if b then Some NoSuchSystem else (if is_some (number_under building.names name) then Some NameTaken else (if nat_lt (length building.staging.systems) 65536 then None else Some SystemsFull))) ≡ None → b ≡ false
     by true is = absurd (none-some NoSuchSystem (sym is))
     by false is = refl
+
+pub none-passed-over : {S : Type 0} (building : Building S) (name : List ℕ) (after : List (List ℕ)) → refusal building name after ≡ None → AreNumbersOf building.names after (numbers_under building.names after)
+none-passed-over building name after e = all-numbered building.names after (none-unknown building name after e)

@@ -13,7 +13,8 @@ use Rattle.shred_stages.specs.Staging.{Staging}
 use Rattle.shred_async.specs.Away.{staging_code}
 use Rattle.shred.specs.declared.async_error.AsyncError.{AsyncError}
 use Rattle.shred.specs.declared.async_error.AsyncError.TheVariants.{Refused, Memory, Failed}
-use Rattle.shred.specs.Dispatching.{Dispatching, DispatchesOnThreads, DispatchesLocals, DispatchesAll, DispatcherSetsUp}
+use Rattle.shred_stages.specs.Orders.{RunsInAnyOrder}
+use Rattle.shred.specs.Dispatching.{Dispatching, DispatchesOnThreads, DispatchesLocals, DispatchesAll, DispatchesInAnyOrder, DispatcherSetsUp}
 
 -- the dispatcher and its world, as they are, or as they were when the dispatch that is away began
 pub record Owning (V S L : Type 0) : Type 0 where
@@ -124,15 +125,25 @@ module _ {V S L A : Type 0} where
       pub at_hand : after ≡ here left world
 
 module _ {V S L : Type 0} (meets : S → Holding V → Option Stop → S → Holding V → Type 0) (local_meets : L → Holding V → Option Stop → L → Holding V → Type 0) where
+  -- the staged systems have run on threads; where none refused, their steps come to the same in any order
+  pub record HasRun {A : Type 0} (before : Dispatching S L) (w : Holding V) (result : Result A DispatchError) (after : Dispatching S L) (w_after : Holding V) : Type 0 where
+    pub runs : DispatchesOnThreads meets local_meets before w result after w_after
+    pub any_order : RunsInAnyOrder meets before.staging w result after.staging w_after
+
+  -- so they have, and then the local ones
+  pub record HasRunWhole {A : Type 0} (before : Dispatching S L) (w : Holding V) (result : Result A DispatchError) (after : Dispatching S L) (w_after : Holding V) : Type 0 where
+    pub runs : DispatchesAll meets local_meets before w result after w_after
+    pub any_order : DispatchesInAnyOrder meets local_meets before w result after w_after
+
   -- a dispatch that is under way is waited for: the staged systems have run on threads; what is at hand stays
   abbrev pub Joins : {A : Type 0} → Owned V S L → Result A AsyncError → Owned V S L → Type 0
   Joins None answer after = IsLost answer after
-  Joins (Some before) answer after = WhenAway before.is_away (Ends (DispatchesOnThreads meets local_meets) before answer after) (IsAccepted answer × (after ≡ Some before))
+  Joins (Some before) answer after = WhenAway before.is_away (Ends HasRun before answer after) (IsAccepted answer × (after ≡ Some before))
 
   -- the same, and then the local systems run: with the dispatch that was under way, as a dispatch does both
   abbrev pub Finishes : {A : Type 0} → Owned V S L → Result A AsyncError → Owned V S L → Type 0
   Finishes None answer after = IsLost answer after
-  Finishes (Some before) answer after = WhenAway before.is_away (Ends (DispatchesAll meets local_meets) before answer after) (Ends (DispatchesLocals meets local_meets) before answer after)
+  Finishes (Some before) answer after = WhenAway before.is_away (Ends HasRunWhole before answer after) (Ends (DispatchesLocals meets local_meets) before answer after)
 
   -- a dispatch that is under way is waited for; where that is accepted, something is done with what is then at hand
   pub record JoinsFirst {A : Type 0} (does : Owning V S L → Result A AsyncError → Owned V S L → Type 0) (before : Owned V S L) (answer : Result A AsyncError) (after : Owned V S L) : Type 0 where

@@ -8,7 +8,9 @@ use Rattle.shred.specs.declared.locals.LocalRefusal.{LocalRefusal}
 use Rattle.shred_stages.specs.declared.error.DispatchError.{DispatchError}
 use Rattle.shred_stages.specs.declared.error.DispatchError.TheVariants.{System, Local, Memory, Threads}
 use Rattle.shred_stages.specs.Staging.{Staging, Runs}
+use Rattle.shred_plan.specs.Plan.{plan_order}
 use Rattle.shred_stages.specs.Ends.{RunsApart}
+use Rattle.shred_stages.specs.Orders.{RunsUpToOrder}
 use Rattle.shred.specs.Locals.{LocalsRun}
 use Rattle.shred_stages.specs.Setups.{WhenAccepted, SetsUpEach, DisposesEach}
 
@@ -79,6 +81,21 @@ module _ {V S L A : Type 0} (meets : S → Holding V → Option Stop → S → H
     pub staged_result : Result A DispatchError
     pub staged : DispatchesOnThreads before w staged_result between w_between
     pub then_locals : ThenLocals between w_between staged_result result after w_after
+
+module _ {V S L : Type 0} (meets : S → Holding V → Option Stop → S → Holding V → Type 0) (local_meets : L → Holding V → Option Stop → L → Holding V → Type 0) where
+  -- no staged system refuses: they take steps, which come to the same in any order, and the local ones run over what those leave
+  pub record StepsThenLocals (before : Dispatching S L) (w : Holding V) (refused : Option (ℕ × Stop)) (after : Dispatching S L) (w_after : Holding V) : Type 0 where
+    pub w_between : Holding V
+    pub steps : RunsUpToOrder meets (plan_order before.staging.planning.stages) (record { systems = before.staging.systems; held = w }) (record { systems = after.staging.systems; held = w_between })
+    pub locals : LocalsRun local_meets 0 before.locals w_between refused after.locals w_after
+
+  -- so it is where a dispatch is accepted, and where a local system refuses
+  abbrev pub DispatchesInAnyOrder : {A : Type 0} → Dispatching S L → Holding V → Result A DispatchError → Dispatching S L → Holding V → Type 0
+  DispatchesInAnyOrder before w (Ok a) after w_after = StepsThenLocals before w None after w_after
+  DispatchesInAnyOrder before w (Err (System id stop)) after w_after = Unit {0}
+  DispatchesInAnyOrder before w (Err (Local place stop)) after w_after = StepsThenLocals before w (Some (place, stop)) after w_after
+  DispatchesInAnyOrder before w (Err Memory) after w_after = Unit {0}
+  DispatchesInAnyOrder before w (Err Threads) after w_after = Unit {0}
 
 -- the staged systems are set up, and then the local ones, up to the first that is refused; the plan and the workers stay
 abbrev pub DispatcherSetsUp : {V S L : Type 0} → (S → Bool → Slots V → S → Slots V → Type 0) → (L → Bool → Slots V → L → Slots V → Type 0)

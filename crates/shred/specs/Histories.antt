@@ -3,6 +3,7 @@ use Rattle.std.specs.Prelude.{◌≡◌, ℕ, Bool, List, [], ◌∷◌, length,
 use Rattle.shred_world.specs.declared.resource_id.ResourceId.{ResourceId}
 use Rattle.shred_plan.specs.Plan.{Added, fence, placing}
 use Rattle.shred.specs.Names.{Named, number_under, numbers_under}
+use Rattle.shred_stages.specs.Seats.{IsPlanned}
 use Rattle.shred.specs.Building.{Building, Declared, built_with, fenced}
 
 -- to take a system of a name, after those of some names; or to close the stages so far
@@ -19,6 +20,10 @@ module _ {S : Type 0} (same : ResourceId → ResourceId → Bool) where
   abbrev pub built_from : Building S → List (Asked S) → Building S
   built_from building [] = building
   built_from building (asked ∷ later) = built_from (with_asked building asked) later
+
+  -- a builder's plan is that of its systems, numbered in the order in which they were added
+  abbrev pub IsPlannedIn : Building S → Type 0
+  IsPlannedIn building = IsPlanned same building.staging.planning (length building.staging.systems)
 
   -- what the planner is told meanwhile: names as numbers
   abbrev pub told_of : Building S → Asked S → Added ResourceId

@@ -9,3 +9,6 @@ pub mod Asyncs
 pub mod Places
 pub mod Lendings
 pub mod Batches
+pub mod Waits
+pub mod Numbers
+pub mod Nothing

@@ -3,7 +3,8 @@ ghost use Rattle.std.specs.Prelude.{◌≡◌, is_ok};
 ghost use Rattle.shred_world.specs.Bundles.{holding_of};
 ghost use Rattle.shred_plan.specs.Plan.{most_groups};
 ghost use Rattle.shred_stages.specs.Views.{Leaves};
-ghost use Rattle.shred.specs.Dispatching.{Dispatching, Dispatches, DispatchesAll, DispatchesOnThreads, DispatchesStaged, DispatchesLocals, local_refusal, TellsLocal, DispatcherSetsUp, DispatcherDisposes, TellsFirst, stop_in, MeetsAsLocal, DisposesAsLocal};
+ghost use Rattle.shred_stages.specs.Orders.{RunsInAnyOrder};
+ghost use Rattle.shred.specs.Dispatching.{Dispatching, Dispatches, DispatchesAll, DispatchesInAnyOrder, DispatchesOnThreads, DispatchesStaged, DispatchesLocals, local_refusal, TellsLocal, DispatcherSetsUp, DispatcherDisposes, TellsFirst, stop_in, MeetsAsLocal, DisposesAsLocal};
 ghost use Rattle.shred_stages.specs.Seats.{refusal_of};
 
 use crate::locals::{LocalRefusal, dispose_locals, run_locals, set_up_list};
@@ -91,6 +92,10 @@ impl<V: Drop, S: System<V> + Drop, L: RunNow<V> + Drop> Dispatcher<V, S, L> {
         S: Send,
         ensures runs { DispatchesAll S.meets L.meets self.old (holding_of world.old) result self.new (holding_of world.new) }
 
+        // Where no staged system refuses, the same steps come to the same in each order that keeps those that are
+        // bound to one another.
+        ensures any_order { DispatchesInAnyOrder S.meets L.meets self.old (holding_of world.old) result self.new (holding_of world.new) }
+
         // The same ids have values as before.
         ensures leaves { Leaves (holding_of world.old) (holding_of world.new) }
     {
@@ -116,6 +121,7 @@ impl<V: Drop, S: System<V> + Drop, L: RunNow<V> + Drop> Dispatcher<V, S, L> {
         V: Send + Sync,
         S: Send,
         ensures runs { DispatchesOnThreads S.meets L.meets self.old (holding_of world.old) result self.new (holding_of world.new) }
+        ensures any_order { RunsInAnyOrder S.meets self.old.staging (holding_of world.old) result self.new.staging (holding_of world.new) }
         ensures leaves { Leaves (holding_of world.old) (holding_of world.new) }
     {
         self.stages.execute(rt, self.workers, world)
@@ -132,6 +138,7 @@ impl<V: Drop, S: System<V> + Drop, L: RunNow<V> + Drop> Dispatcher<V, S, L> {
         world: &mut World<V>,
     ) -> Result<(), DispatchError>
         ensures runs { DispatchesStaged S.meets L.meets self.old (holding_of world.old) result self.new (holding_of world.new) }
+        ensures any_order { RunsInAnyOrder S.meets self.old.staging (holding_of world.old) result self.new.staging (holding_of world.new) }
         ensures leaves { Leaves (holding_of world.old) (holding_of world.new) }
     {
         self.dispatch_staged(rt, world)
@@ -173,6 +180,7 @@ impl<V: Drop, S: System<V> + Drop, L: RunNow<V> + Drop> Dispatcher<V, S, L> {
         world: &mut W,
     ) -> Result<(), DispatchError>
         ensures runs { DispatchesStaged S.meets L.meets self.old (W.slots world.old) result self.new (W.slots world.new) }
+        ensures any_order { RunsInAnyOrder S.meets self.old.staging (W.slots world.old) result self.new.staging (W.slots world.new) }
         ensures leaves { Leaves (W.slots world.old) (W.slots world.new) }
     {
         self.stages.execute_seq(rt, world)

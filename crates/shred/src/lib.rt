@@ -12,6 +12,7 @@ pub mod laws;
 mod locals;
 mod multi;
 mod names;
+mod nothing;
 mod pooled;
 mod run_now;
 mod systems;
@@ -24,13 +25,17 @@ pub use builder::DispatcherBuilder;
 pub use dispatcher::Dispatcher;
 pub use error::AddError;
 pub use multi::MultiDispatcher;
+pub use nothing::{NoBatch, NoLocal};
 pub use run_now::RunNow;
 pub use shred_cells::{
     FetchError, InvalidBorrow, LoneMut, Ref, RefMut, SharedFetch, SharedFetchMut, SharedWorld,
     TrustCell, cell_core,
 };
+pub use shred_crew::cut;
 pub use shred_plan::{Adding, Group, Planner, RunningTime, Stage, Way};
-pub use shred_stages::{BatchAccessor, DispatchError, StagesBuilder, Stop, System, SystemId, View};
+pub use shred_stages::{
+    BatchAccessor, DispatchError, StagesBuilder, Stop, System, SystemId, View, run_alone,
+};
 pub use shred_trees::{Leaf, Nil, Par, ParError, ParSeq, RunWithPool, Seq, par, seq};
 pub use shred_world::{
     Accessor, DefaultProvider, DynamicSystemData, Entry, ExecError, Fetch, FetchMut, Holder,

@@ -11,6 +11,7 @@ use Rattle.shred_stages.specs.declared.error.DispatchError.{DispatchError}
 use Rattle.shred_stages.specs.Staging.{Staging, Runs}
 use Rattle.shred_stages.specs.Views.{Leaves as LeavesIds}
 use Rattle.shred_stages.specs.Ends.{RunsApart}
+use Rattle.shred_stages.specs.Orders.{RunsInAnyOrder}
 use Rattle.shred_async.specs.declared.errand.Errand.{Errand}
 use Rattle.shred_async.specs.declared.errand.Unstarted.{Unstarted}
 use Rattle.shred_async.specs.declared.errand.Unstarted.TheVariants.{Memory, Thread}
@@ -52,6 +53,7 @@ errand_code {V} {S} values systems =
 pub record Leaves {V S A : Type 0} (meets : S → Holding V → Option Stop → S → Holding V → Type 0) (begun : Errand V S) (result : Result A DispatchError) (left : Errand V S) : Type 0 where
   pub runs : RunsApart meets begun.stages (holding_of begun.world) result left.stages (holding_of left.world)
   pub alone : begun.workers < 2 → Runs meets begun.stages (holding_of begun.world) result left.stages (holding_of left.world)
+  pub any_order : RunsInAnyOrder meets begun.stages (holding_of begun.world) result left.stages (holding_of left.world)
   pub plan : left.stages.planning ≡ begun.stages.planning
   pub workers : left.workers ≡ begun.workers
   pub ids : LeavesIds (holding_of begun.world) (holding_of left.world)

@@ -1,31 +1,17 @@
--- Facts on rows to which loads are dealt.
-use Rattle.std.proofs.Common.{◌≡◌, ◌≢◌, ℕ, ◌<◌, ◌≤◌, ◌+◌, ◌*◌, ◌%◌, ◌/◌, zero, suc, List, [], ◌∷◌, ◌++◌, length, get_or, refl, ap, sym, ◌∙◌, subst, arith, length-append, rules, ◌⊎◌, inl, inr}
+-- Facts on loads that are taken out of their slots and put back.
+use Rattle.std.proofs.Common.{◌≡◌, ℕ, ◌<◌, zero, suc, List, [], ◌∷◌, ◌++◌, length, map, get_or, set, take, drop, refl, ap, ap₂, sym, ◌∙◌, subst, arith, Bool, true, false, Option, Some, None, append_assoc, append-nil}
 use Rattle.std.specs.Global.{Vec}
-use Rattle.std.specs.List.{All}
-use Rattle.std.proofs.Math.ListN.{set}
-use Rattle.std.proofs.Math.Nat.{div-add-mod, mod-lt, lt_of_mul-lt-mul_left, mul-le-mul_left}
-use Rattle.shred_crew.specs.Deals.{lists, put_at, dealt}
-
--- how full the rows are, after a number of loads: one to which the next goes has room
-abbrev pub AreFilled : {A : Type 0} → List (List A) → ℕ → Type 0
-AreFilled rows number = (row : ℕ) → row < length rows → length rows * length (get_or rows row []) + row < number + length rows
+use Rattle.std.specs.List.{AllZip, Contains}
+use Rattle.std.proofs.lemmas.Grind.{flat_map-append}
+use Rattle.std.proofs.lemmas.List.{drop_all, take_all, length-map}
+use Rattle.shred_crew.specs.declared.numbered.Numbered.{Numbered}
+use Rattle.shred_crew.specs.Loads.{Works}
+use Rattle.shred_crew.specs.Deals.{lists, put_at, slot_at, numbered, vacated, standing, with_load, returned, loads_in, all_of}
 
 pub length-set : {A : Type 0} (xs : List A) (i : ℕ) (a : A) → length (set xs i a) ≡ length xs
 length-set [] i a = refl
 length-set (x ∷ xs) zero a = refl
 length-set (x ∷ xs) (suc i) a = ap suc (length-set xs i a)
-
-get-set-here : {A : Type 0} (xs : List A) (i : ℕ) (a d : A) → i < length xs → get_or (set xs i a) i d ≡ a
-get-set-here [] i a d h = absurd (omega arith)
-get-set-here (x ∷ xs) zero a d h = refl
-get-set-here (x ∷ xs) (suc i) a d h = get-set-here xs i a d (omega arith)
-
-get-set-other : {A : Type 0} (xs : List A) (i j : ℕ) (a d : A) → i ≢ j → get_or (set xs i a) j d ≡ get_or xs j d
-get-set-other [] i j a d e = refl
-get-set-other (x ∷ xs) zero zero a d e = absurd (e refl)
-get-set-other (x ∷ xs) zero (suc j) a d e = refl
-get-set-other (x ∷ xs) (suc i) zero a d e = refl
-get-set-other (x ∷ xs) (suc i) (suc j) a d e = get-set-other xs i j a d (λ same. e (ap suc same))
 
 -- one more in a row, by the rows' lists
 pub put-lists : {T : Type 0} (rows : List (Vec T)) (row : ℕ) (d new : Vec T) (a : T) → row < length rows → new.items ≡ (get_or rows row d).items ++ a ∷ [] → lists (set rows row new) ≡ put_at (lists rows) row a
@@ -37,95 +23,179 @@ pub lists-length : {T : Type 0} (rows : List (Vec T)) → length (lists rows) �
 lists-length [] = refl
 lists-length (x ∷ rows) = ap suc (lists-length rows)
 
--- empty rows
-none-there : {T : Type 0} (rows : List (Vec T)) (row : ℕ) → ((k : ℕ) (d : Vec T) → k < length rows → (get_or rows k d).items ≡ []) → length (get_or (lists rows) row []) ≡ 0
-none-there [] row none = refl
-none-there (x ∷ rows) zero none = ap length (none zero x (omega arith))
-none-there (x ∷ rows) (suc row) none = none-there rows row (λ k d h. none (suc k) d (omega arith))
+-- the shares that were dealt, one after the other
+pub vacated-append : {A : Type 0} (first later : List ℕ) (slots : List (Option A)) → vacated (first ++ later) slots ≡ vacated later (vacated first slots)
+vacated-append [] later slots = refl
+vacated-append (number ∷ first) later slots = vacated-append first later (set slots number None)
 
-pub filled-start : {T : Type 0} (rows : List (Vec T)) → All (λ row. row.items ≡ []) rows → AreFilled (lists rows) 0
-filled-start rows none row h =
-    let e = none-there rows row none in
-    let z : length (lists rows) * length (get_or (lists rows) row []) ≡ 0 = ap (λ n. length (lists rows) * n) e ∙ times-none (length (lists rows)) in
-    omega (arith, z)
+pub standing-append : {A : Type 0} (first later : List ℕ) (slots : List (Option A)) → standing (first ++ later) slots ≡ standing first slots ++ standing later (vacated first slots)
+standing-append [] later slots = refl
+standing-append (number ∷ first) later slots =
+    ap (λ list. numbered number (slot_at slots number) ++ list) (standing-append first later (set slots number None))
+    ∙ sym (append_assoc (numbered number (slot_at slots number)) (standing first (set slots number None)) (standing later (vacated first (set slots number None))))
+
+-- loads put back, the last first
+pub returned-append : {A : Type 0} (first later : List (Numbered A)) (slots : List (Option A)) → returned (first ++ later) slots ≡ returned first (returned later slots)
+returned-append [] later slots = refl
+returned-append (one ∷ first) later slots = ap (λ list. with_load one (slot_at list one.number) list) (returned-append first later slots)
+
+pub all-of-push : {T : Type 0} (rows : List (Vec T)) (row : Vec T) → all_of (rows ++ row ∷ []) ≡ all_of rows ++ row.items
+all-of-push rows row = flat_map-append (λ one. one.items) rows (row ∷ []) ∙ ap (λ list. all_of rows ++ list) (append-nil row.items)
+
+-- a slot that is written with what it has
+set-same : {A : Type 0} (slots : List (Option A)) (number : ℕ) → set slots number (slot_at slots number) ≡ slots
+set-same [] number = refl
+set-same (slot ∷ slots) zero = refl
+set-same (slot ∷ slots) (suc number) = ap (λ others. slot ∷ others) (set-same slots number)
+
+set-twice : {A : Type 0} (slots : List A) (number : ℕ) (a b : A) → set (set slots number a) number b ≡ set slots number b
+set-twice [] number a b = refl
+set-twice (slot ∷ slots) zero a b = refl
+set-twice (slot ∷ slots) (suc number) a b = ap (λ others. slot ∷ others) (set-twice slots number a b)
+
+emptied-slot : {A : Type 0} (slots : List (Option A)) (number : ℕ) → slot_at (set slots number None) number ≡ None
+emptied-slot [] number = refl
+emptied-slot (slot ∷ slots) zero = refl
+emptied-slot (slot ∷ slots) (suc number) = emptied-slot slots number
+
+-- a load that was taken out of its slot goes back there
+one-back : {A : Type 0} (slots : List (Option A)) (number : ℕ) (slot : Option A) (others : List (Numbered A)) (after : List (Option A)) → slot_at slots number ≡ slot → returned others after ≡ set slots number None
+    → returned (numbered number slot ++ others) after ≡ slots
+one-back slots number None others after e back = back ∙ ap (set slots number) (sym e) ∙ set-same slots number
+one-back {A} slots number (Some load) others after e back =
+    let one : Numbered A = record { number = number; load = load } in
+    ap (λ list. with_load one (slot_at list number) list) back ∙ ap (λ slot. with_load one slot (set slots number None)) (emptied-slot slots number)
+    ∙ set-twice slots number None (Some load) ∙ ap (set slots number) (sym e) ∙ set-same slots number
+
+-- what was taken out of the slots goes back there
+pub all-back : {A : Type 0} (numbers : List ℕ) (slots : List (Option A)) → returned (standing numbers slots) (vacated numbers slots) ≡ slots
+all-back [] slots = refl
+all-back (number ∷ numbers) slots = one-back slots number (slot_at slots number) (standing numbers (set slots number None)) (vacated numbers (set slots number None)) refl (all-back numbers (set slots number None))
+
+-- a slot that was emptied stays so
+still-empty : {A : Type 0} (slots : List (Option A)) (number other : ℕ) → slot_at slots other ≡ None → slot_at (set slots number None) other ≡ None
+still-empty [] number other e = e
+still-empty (slot ∷ slots) zero zero e = refl
+still-empty (slot ∷ slots) zero (suc other) e = e
+still-empty (slot ∷ slots) (suc number) zero e = e
+still-empty (slot ∷ slots) (suc number) (suc other) e = still-empty slots number other e
+
+vacated-empty : {A : Type 0} (numbers : List ℕ) (slots : List (Option A)) (other : ℕ) → slot_at slots other ≡ None → slot_at (vacated numbers slots) other ≡ None
+vacated-empty [] slots other e = e
+vacated-empty (number ∷ numbers) slots other e = vacated-empty numbers (set slots number None) other (still-empty slots number other e)
+
+-- the slot of a number that was named is empty
+pub named-empty : {A : Type 0} (numbers : List ℕ) (slots : List (Option A)) (other : ℕ) → Contains numbers other → slot_at (vacated numbers slots) other ≡ None
+named-empty [] slots other has = absurd (let h = has.1 in omega (arith, h))
+named-empty (number ∷ numbers) slots other (zero, h, e) =
+    vacated-empty numbers (set slots number None) other (subst (λ n. slot_at (set slots number None) n ≡ None) e (emptied-slot slots number))
+named-empty (number ∷ numbers) slots other (suc k, h, e) = named-empty numbers (set slots number None) other (k, omega (arith, h), e)
+
+vacated-length : {A : Type 0} (numbers : List ℕ) (slots : List (Option A)) → length (vacated numbers slots) ≡ length slots
+vacated-length [] slots = refl
+vacated-length (number ∷ numbers) slots = vacated-length numbers (set slots number None) ∙ length-set slots number None
+
+returned-length : {A : Type 0} (loads : List (Numbered A)) (slots : List (Option A)) → length (returned loads slots) ≡ length slots
+returned-length [] slots = refl
+returned-length (one ∷ others) slots = by (slot_at (returned others slots) one.number) (returned-length others slots)
   where
-    times-none : (n : ℕ) → n * 0 ≡ 0
-    times-none n = omega arith
+    by : (slot : Option _) → length (returned others slots) ≡ length slots → length (with_load one slot (returned others slots)) ≡ length slots
+    by None e = length-set (returned others slots) one.number (Some one.load) ∙ e
+    by (Some load) e = e
 
-nat-same : (a b : ℕ) → (a ≡ b) ⊎ (b ≢ a)
-nat-same zero zero = inl refl
-nat-same zero (suc b) = inr (λ e. absurd (omega (arith, e)))
-nat-same (suc a) zero = inr (λ e. absurd (omega (arith, e)))
-nat-same (suc a) (suc b) = by (nat-same a b)
-  where
-    by : (a ≡ b) ⊎ (b ≢ a) → (suc a ≡ suc b) ⊎ (suc b ≢ suc a)
-    by (inl e) = inl (ap suc e)
-    by (inr n) = inr (λ e. n (omega (arith, e)))
+-- there are as many slots as before once all loads are back
+pub slots-back : {A : Type 0} (loads : List A) (numbers : List ℕ) (others : List (Numbered A)) → length (returned others (vacated numbers (map Some loads))) ≡ length loads
+slots-back loads numbers others = returned-length others (vacated numbers (map Some loads)) ∙ vacated-length numbers (map Some loads) ∙ length-map loads Some
 
-module _ {A : Type 0} (rows : List (List A)) (number : ℕ) (filled : AreFilled rows number) (some : 0 < length rows) where
-  -- how full the next row is
-  next-few : length (get_or rows (number % length rows) []) < number / length rows + 1
-  next-few =
-      let n = length rows in let row = number % n in
-      let h = filled row (mod-lt number some) in
-      let whole : n * (number / n) + number % n ≡ number = div-add-mod number n in
-      let more : n * (number / n + 1) ≡ n * (number / n) + n = times-more n (number / n) in
-      lt_of_mul-lt-mul_left n (omega (arith, h, whole, more))
+-- two slots are alike: both are empty, or a relation holds of what they have
+abbrev Alike : {A : Type 0} → (A → A → Type 0) → Option A → Option A → Type 0
+Alike does None None = Unit {0}
+Alike does (Some load) (Some after) = does load after
+Alike does None (Some after) = ⊥
+Alike does (Some load) None = ⊥
+
+-- a load was worked on, and has its number still
+abbrev pub Worked : {A : Type 0} → (A → A → Type 0) → Numbered A → Numbered A → Type 0
+Worked does before after = (after.number ≡ before.number) × does before.load after.load
+
+module _ {A : Type 0} (does : A → A → Type 0) where
+  slot-alike : (slots after : List (Option A)) (number : ℕ) → AllZip (Alike does) slots after → Alike does (slot_at slots number) (slot_at after number)
+  slot-alike [] [] number all = _
+  slot-alike [] (y ∷ after) number all = absurd all
+  slot-alike (x ∷ slots) [] number all = absurd all
+  slot-alike (x ∷ slots) (y ∷ after) zero all = all.0
+  slot-alike (x ∷ slots) (y ∷ after) (suc number) all = slot-alike slots after number all.1
+
+  set-alike : (slots after : List (Option A)) (number : ℕ) (x y : Option A) → Alike does x y → AllZip (Alike does) slots after → AllZip (Alike does) (set slots number x) (set after number y)
+  set-alike [] [] number x y one all = all
+  set-alike [] (b ∷ after) number x y one all = absurd all
+  set-alike (a ∷ slots) [] number x y one all = absurd all
+  set-alike (a ∷ slots) (b ∷ after) zero x y one all = (one, all.1)
+  set-alike (a ∷ slots) (b ∷ after) (suc number) x y one all = (all.0, set-alike slots after number x y one all.1)
+
+  put-alike : (one other : Numbered A) (slot slot_after : Option A) (slots after : List (Option A)) → Worked does one other → Alike does slot slot_after → AllZip (Alike does) slots after → AllZip (Alike does) (with_load one slot slots) (with_load other slot_after after)
+  put-alike one other None None slots after worked alike all =
+      subst (λ n. AllZip (Alike does) (set slots one.number (Some one.load)) (set after n (Some other.load))) (sym worked.0) (set-alike slots after one.number (Some one.load) (Some other.load) worked.1 all)
+  put-alike one other None (Some y) slots after worked alike all = absurd alike
+  put-alike one other (Some x) None slots after worked alike all = absurd alike
+  put-alike one other (Some x) (Some y) slots after worked alike all = all
+
+  -- loads that were worked on, put back into slots that are alike
+  returned-alike : (loads others : List (Numbered A)) (slots after : List (Option A)) → AllZip (Worked does) loads others → AllZip (Alike does) slots after → AllZip (Alike does) (returned loads slots) (returned others after)
+  returned-alike [] [] slots after worked all = all
+  returned-alike [] (y ∷ others) slots after worked all = absurd worked
+  returned-alike (x ∷ loads) [] slots after worked all = absurd worked
+  returned-alike (x ∷ loads) (y ∷ others) slots after worked all =
+      let later = returned-alike loads others slots after worked.1 all in
+      put-alike x y (slot_at (returned loads slots) x.number) (slot_at (returned others after) y.number) (returned loads slots) (returned others after) worked.0
+      (subst (λ n. Alike does (slot_at (returned loads slots) x.number) (slot_at (returned others after) n)) (sym worked.0.0) (slot-alike (returned loads slots) (returned others after) x.number later)) later
+
+  empty-alike : (slots : List (Option A)) → ((number : ℕ) → number < length slots → slot_at slots number ≡ None) → AllZip (Alike does) slots slots
+  empty-alike [] none = _
+  empty-alike (x ∷ slots) none = (subst (λ slot. Alike does slot slot) (sym (none 0 (omega arith))) _, empty-alike slots (λ n h. none (suc n) (omega (arith, h))))
+
+  in-alike : (loads : List A) (after : List (Option A)) → AllZip (Alike does) (map Some loads) after → AllZip does loads (loads_in after)
+  in-alike [] [] all = _
+  in-alike [] (y ∷ after) all = absurd all
+  in-alike (x ∷ loads) [] all = absurd all
+  in-alike (x ∷ loads) (None ∷ after) all = absurd all.0
+  in-alike (x ∷ loads) (Some y ∷ after) all = (all.0, in-alike loads after all.1)
+
+  -- the rows' loads, one after the other
+  rows-worked : (rows after : List (Vec (Numbered A))) → AllZip (λ row others. AllZip (Worked does) row.items others.items) rows after → AllZip (Worked does) (all_of rows) (all_of after)
+  rows-worked [] [] all = _
+  rows-worked [] (y ∷ after) all = absurd all
+  rows-worked (x ∷ rows) [] all = absurd all
+  rows-worked (x ∷ rows) (y ∷ after) all = both x.items y.items (all_of rows) (all_of after) all.0 (rows-worked rows after all.1)
     where
-      times-more : (n q : ℕ) → n * (q + 1) ≡ n * q + n
-      times-more n q = search rules
+      both : (xs ys more others : List (Numbered A)) → AllZip (Worked does) xs ys → AllZip (Worked does) more others → AllZip (Worked does) (xs ++ more) (ys ++ others)
+      both [] [] more others a b = b
+      both [] (y ∷ ys) more others a b = absurd a
+      both (x ∷ xs) [] more others a b = absurd a
+      both (x ∷ xs) (y ∷ ys) more others a b = (a.0, both xs ys more others a.1 b)
 
-  pub next-room : (count room : ℕ) → number < count → count ≤ length rows * room → length (get_or rows (number % length rows) []) < room
-  next-room count room h few =
-      let n = length rows in
-      let whole : n * (number / n) + number % n ≡ number = div-add-mod number n in
-      let below : number / n < room = lt_of_mul-lt-mul_left n (omega (arith, whole, h, few)) in
-      omega (arith, next-few, below)
+in-all : {A : Type 0} (loads : List A) → loads_in (map Some loads) ≡ loads
+in-all [] = refl
+in-all (x ∷ loads) = ap (λ list. x ∷ list) (in-all loads)
 
-  -- the row to which a load goes is fuller
-  pub next-filled : (a : A) → AreFilled (put_at rows (number % length rows) a) (number + 1)
-  next-filled a row h =
-      let long : length (set rows (number % length rows) (get_or rows (number % length rows) [] ++ a ∷ [])) ≡ length rows = length-set rows (number % length rows) _ in
-      let P : ℕ → Type 0 = λ n. n * length (get_or (put_at rows (number % length rows) a) row []) + row < number + 1 + n in
-      let under : row < length rows = let e = long in omega (arith, h, e) in
-      subst P (sym long) (by row under (nat-same row (number % length rows)))
-    where
-      w : ℕ
-      w = number % length rows
+rows-same : {T : Type 0} (rows after : List (Vec T)) → AllZip (λ row others. others.items ≡ row.items) rows after → all_of after ≡ all_of rows
+rows-same [] [] all = refl
+rows-same [] (y ∷ after) all = absurd all
+rows-same (x ∷ rows) [] all = absurd all
+rows-same (x ∷ rows) (y ∷ after) all = ap₂ (λ one others. one ++ others) all.0 (rows-same rows after all.1)
 
-      by : (row : ℕ) → row < length rows → (row ≡ w) ⊎ (w ≢ row) → length rows * length (get_or (put_at rows w a) row []) + row < number + 1 + length rows
-      by row under (inl same) =
-          let here : get_or (put_at rows w a) w [] ≡ get_or rows w [] ++ a ∷ [] = get-set-here rows w _ [] (mod-lt number some) in
-          let Q : ℕ → Type 0 = λ r. length rows * length (get_or (put_at rows w a) r []) + r < number + 1 + length rows in
-          let long : length (get_or (put_at rows w a) w []) ≡ length (get_or rows w []) + 1 = ap length here ∙ length-append (get_or rows w []) (a ∷ []) in
-          let R : ℕ → Type 0 = λ k. length rows * k + w < number + 1 + length rows in
-          let whole : length rows * (number / length rows) + w ≡ number = div-add-mod number (length rows) in
-          let few : length rows * length (get_or rows w []) ≤ length rows * (number / length rows) = mul-le-mul_left (length rows) (let f = next-few in omega (arith, f)) in
-          let more : length rows * (length (get_or rows w []) + 1) ≡ length rows * length (get_or rows w []) + length rows = times-plus (length rows) (length (get_or rows w [])) in
-          subst Q (sym same) (subst R (sym long) (omega (arith, whole, few, more)))
-        where
-          times-plus : (n q : ℕ) → n * (q + 1) ≡ n * q + n
-          times-plus n q = search rules
-      by row under (inr other) =
-          let same : get_or (put_at rows w a) row [] ≡ get_or rows row [] = get-set-other rows w row _ [] other in
-          let Q : List A → Type 0 = λ list. length rows * length list + row < number + 1 + length rows in
-          subst Q (sym same) (let f = filled row under in omega (arith, f))
-
--- the last load that was dealt
-pub dealt-last : {A : Type 0} (rows : List (List A)) (number : ℕ) (loads : List A) (a : A) → dealt rows number (loads ++ a ∷ []) ≡ put_at (dealt rows number loads) ((number + length loads) % length rows) a
-dealt-last rows number [] a = let e : number ≡ number + 0 = omega arith in ap (λ n. put_at rows (n % length rows) a) e
-dealt-last rows number (b ∷ loads) a =
-    let first = put_at rows (number % length rows) b in
-    let long : length first ≡ length rows = length-set rows (number % length rows) _ in
-    let more : suc number + length loads ≡ number + suc (length loads) = omega arith in
-    dealt-last first (suc number) loads a ∙ ap (λ n. put_at (dealt first (suc number) loads) ((suc number + length loads) % n) a) long ∙ ap (λ n. put_at (dealt first (suc number) loads) (n % length rows) a) more
-
-pub dealt-length : {A : Type 0} (rows : List (List A)) (number : ℕ) (loads : List A) → length (dealt rows number loads) ≡ length rows
-dealt-length rows number [] = refl
-dealt-length rows number (a ∷ loads) = dealt-length (put_at rows (number % length rows) a) (suc number) loads ∙ length-set rows (number % length rows) _
-
--- a row without the load that was put there last
-pub put-taken : {A : Type 0} (rows : List (List A)) (row : ℕ) (a : A) → set (put_at rows row a) row (get_or rows row []) ≡ rows
-put-taken [] row a = refl
-put-taken (x ∷ rows) zero a = refl
-put-taken (x ∷ rows) (suc row) a = ap (λ others. x ∷ others) (put-taken rows row a)
+-- loads that were dealt to rows by their numbers, worked on there or not, and put back
+pub worked : {A : Type 0} (does : A → A → Type 0) (opens : Bool) (numbers : List ℕ) (loads : List A) (rows after : List (Vec (Numbered A))) → ((number : ℕ) → number < length loads → Contains numbers number)
+    → all_of rows ≡ standing numbers (map Some loads) → AllZip (λ row others. Works (Worked does) opens row.items others.items) rows after
+    → Works does opens loads (loads_in (returned (all_of after) (vacated numbers (map Some loads))))
+worked does true numbers loads rows after has dealt all =
+    let slots = map Some loads in
+    let left = vacated numbers slots in
+    let none = empty-alike does left (λ n h. named-empty numbers slots n (has n (let long = vacated-length numbers slots ∙ length-map loads Some in omega (arith, h, long)))) in
+    let alike = returned-alike does (all_of rows) (all_of after) left left (rows-worked does rows after all) none in
+    let back : returned (all_of rows) left ≡ slots = ap (λ list. returned list left) dealt ∙ all-back numbers slots in
+    in-alike does loads (returned (all_of after) left) (subst (λ list. AllZip (Alike does) list (returned (all_of after) left)) back alike)
+worked does false numbers loads rows after has dealt all =
+    let slots = map Some loads in
+    let left = vacated numbers slots in
+    ap loads_in (ap (λ list. returned list left) (rows-same rows after all ∙ dealt) ∙ all-back numbers slots) ∙ in-all loads

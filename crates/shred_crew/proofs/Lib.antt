@@ -1,4 +1,6 @@
+pub mod CutRows
+pub mod ShareLemmas
+pub mod CutLemmas
 pub mod ZipLemmas
 pub mod DealLemmas
-pub mod GatherLemmas
 pub mod CallerLemmas

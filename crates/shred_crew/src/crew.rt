@@ -47,7 +47,7 @@ fn serve<'g, C, T: Load<C>, R: AllocGlobal + Wait>(
     Done { row, seen }
 }
 
-/// Starts a thread for each row and opens the gate, or closes it where one can't be started; then joins them.
+/// Starts a thread for each row that isn't empty and opens the gate, or closes it where one can't be started; then joins.
 fn start_rows<
     's,
     'g: 's,
@@ -69,6 +69,9 @@ fn start_rows<
     let Some((row, others)) = rows.split_first_mut() else {
         return settle(rt, gate, true);
     };
+    if row.is_empty() {
+        return start_rows(scope, rt, shared, gate, others, alloc);
+    }
     let load = mem::replace(row, Vec::new(alloc));
     let pledge = Pledge {
         row: Snapshot::of(&load),

@@ -1,66 +1,93 @@
-//! Loads dealt to rows in turn, and gathered again.
-ghost use Rattle.std.specs.Prelude.{◌≡◌, ◌<◌, ◌≤◌, ◌*◌, ◌+◌, ◌-◌, ◌%◌, ℕ, List, [], length, map, reverse, IfOk, vec_len, vec_capacity, slice_get, slice_index_or, Some};
-ghost use Rattle.std.specs.List.{All};
-ghost use Rattle.shred_crew.specs.Deals.{lists, put_at, empties, dealt};
+//! Loads dealt from their slots to rows, by shares of their numbers.
+ghost use Rattle.std.specs.Prelude.{◌≡◌, ◌≤◌, ◌+◌, ◌++◌, [], Some, None, length, map, vec_capacity, slice_set, IfOk};
+ghost use Rattle.std.specs.List.{concat};
+ghost use Rattle.shred_crew.specs.Deals.{lists, slot_at, vacated, standing, all_of, AreRoomy};
 
+use crate::numbered::Numbered;
 use std::alloc::{AllocError, Global};
 
-/// As many empty rows, each with room.
+/// An empty row for each share, with room for it.
 ///
 /// Errors: want of memory.
 pub(crate) fn make_rows<T: Drop>(
     alloc: Global,
-    count: usize,
-    room: usize,
-) -> Result<Vec<Vec<T>>, AllocError>
-    ensures count { IfOk result (λ rows. length rows.items ≡ count) }
-    ensures empty { IfOk result (λ rows. All (λ row. row.items ≡ []) rows.items) }
-    ensures room { IfOk result (λ rows. All (λ row. room ≤ vec_capacity row) rows.items) }
+    shares: &[Vec<usize>],
+) -> Result<Vec<Vec<Numbered<T>>>, AllocError>
+    ensures { IfOk result (λ rows. AreRoomy shares.now rows.items) }
 {
-    let mut rows = Vec::new(alloc);
-    for _row in 0..count {
-        rows.push(Vec::with_capacity(alloc, room)?)?;
+    let mut rows = Vec::with_capacity(alloc, shares.len())?;
+    for share in shares {
+        rows.push_reserved(Vec::with_capacity(alloc, share.len())?);
     }
     Ok(rows)
 }
 
-/// Puts a load at the end of a row.
-fn put<T: Drop>(rows: &mut [Vec<T>], row: usize, load: T, room: usize)
-    requires there { row < length rows.old }
-    requires room { All (λ row. room ≤ vec_capacity row) rows.old }
-    requires fits { length (slice_index_or (lists rows.old) row []) < room }
-    ensures rows { lists rows.new ≡ put_at (lists rows.old) row load }
-    ensures room { All (λ row. room ≤ vec_capacity row) rows.new }
-    ensures count { length rows.new ≡ length rows.old }
+/// Puts each load into a slot of its own, in order.
+pub(crate) fn fill_slots<T: Drop>(loads: Vec<T>, slots: &mut Vec<Option<T>>)
+    requires none { slots.old.items ≡ [] }
+    requires room { length loads.items ≤ vec_capacity slots.old }
+    ensures { slots.new.items ≡ map Some loads.items }
 {
-    rows[row].push_reserved(load);
-}
-
-/// Deals loads to rows: the one of each number, counted from 0, goes to the row of its number modulo the number of rows.
-fn deal<T: Drop>(loads: Vec<T>, rows: &mut [Vec<T>], room: usize)
-    requires some { 0 < length rows.old }
-    requires empty { All (λ row. row.items ≡ []) rows.old }
-    requires room { All (λ row. room ≤ vec_capacity row) rows.old }
-    requires fits { length loads.items ≤ length rows.old * room }
-    ensures rows { lists rows.new ≡ dealt (lists rows.old) 0 loads.items }
-    ensures count { length rows.new ≡ length rows.old }
-{
-    let mut number = 0;
     let mut rest = loads.into_iter();
     while let Some(load) = rest.next() {
-        put(rows, number % rows.len(), load, room);
-        number += 1;
+        slots.push_reserved(Some(load));
     }
 }
 
-/// Deals loads to the rows of a list, as `deal` does.
-pub(crate) fn deal_list<T: Drop>(loads: Vec<T>, rows: &mut Vec<Vec<T>>, room: usize)
-    requires some { 0 < length rows.old.items }
-    requires empty { All (λ row. row.items ≡ []) rows.old.items }
-    requires room { All (λ row. room ≤ vec_capacity row) rows.old.items }
-    requires fits { length loads.items ≤ length rows.old.items * room }
-    ensures rows { lists rows.new.items ≡ dealt (empties (length rows.old.items)) 0 loads.items }
-    ensures count { length rows.new.items ≡ length rows.old.items }
+/// Takes what is in the slot of a number; past the last slot there is nothing.
+fn take_one<T>(slots: &mut Vec<Option<T>>, number: usize) -> Option<T>
+    ensures value { result ≡ slot_at slots.old.items number }
+    ensures slots { slots.new.items ≡ slice_set slots.old.items number None }
 {
-    deal(loads, rows.as_mut_slice(), room);
+    if number < slots.len() {
+        slots[number].take()
+    } else {
+        None
+    }
+}
+
+/// Takes the loads of a share out of their slots, and puts them at the end of a row, each with its number.
+fn deal_share<T: Drop>(slots: &mut Vec<Option<T>>, share: &[usize], row: &mut Vec<Numbered<T>>)
+    requires room { length row.old.items + length share.now ≤ vec_capacity row.old }
+    ensures slots { slots.new.items ≡ vacated share.now slots.old.items }
+    ensures row { row.new.items ≡ row.old.items ++ standing share.now slots.old.items }
+{
+    for number in share {
+        if let Some(load) = take_one(slots, *number) {
+            row.push_reserved(Numbered {
+                number: *number,
+                load,
+            });
+        }
+    }
+}
+
+/// Takes the loads of each share out of their slots, and puts them into the row of the share.
+fn deal<T: Drop>(slots: &mut Vec<Option<T>>, shares: &[Vec<usize>], rows: &mut [Vec<Numbered<T>>])
+    requires room { AreRoomy shares.now rows.old }
+    ensures slots { slots.new.items ≡ vacated (concat (lists shares.now)) slots.old.items }
+    ensures rows { all_of rows.new ≡ standing (concat (lists shares.now)) slots.old.items }
+    ensures count { length rows.new ≡ length rows.old }
+{
+    let Some((share, later)) = shares.split_first() else {
+        return;
+    };
+    let Some((row, others)) = rows.split_first_mut() else {
+        return;
+    };
+    deal_share(slots, share, row);
+    deal(slots, later, others);
+}
+
+/// Deals the loads of each share to the row of the share, as `deal` does.
+pub(crate) fn deal_list<T: Drop>(
+    slots: &mut Vec<Option<T>>,
+    shares: &[Vec<usize>],
+    rows: &mut Vec<Vec<Numbered<T>>>,
+)
+    requires room { AreRoomy shares.now rows.old.items }
+    ensures slots { slots.new.items ≡ vacated (concat (lists shares.now)) slots.old.items }
+    ensures rows { all_of rows.new.items ≡ standing (concat (lists shares.now)) slots.old.items }
+{
+    deal(slots, shares, rows.as_mut_slice());
 }

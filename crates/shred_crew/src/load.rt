@@ -5,8 +5,17 @@ ghost use Rattle.shred_crew.specs.Loads.{Works};
 
 /// Work that any thread may do.
 pub trait Load<C>: Sized {
+    ghost use Rattle.std.specs.Prelude.{ℕ};
+
     /// What doing it may make of it, over what all threads share.
     ghost does: { C → Self → Self → Type 0 };
+
+    /// How many units of time it is said to take.
+    ghost said_time: { Self → ℕ };
+
+    /// How many units of time it is said to take; a wrong answer costs time alone.
+    fn time(&self) -> u32
+        ensures { result ≡ said_time self.now };
 
     /// Does it.
     fn work<H: AllocGlobal>(&mut self, rt: &H, shared: &C)

@@ -1,8 +1,13 @@
 -- What writers of systems cite.
 pub use Rattle.shred_stages.proofs.DisposeLemmas.{dispose-end, dispose-next, empty-by-length, map-itself}
+pub use Rattle.shred_stages.proofs.FreeLemmas.{planned-fence, planned-free, planned-more, planned-start}
 pub use Rattle.shred_stages.proofs.LeaveLemmas.{leaves-itself, leaves-leaves, leaves-to, step-leaves}
 pub use Rattle.shred_stages.proofs.LendLemmas.{left-other}
+pub use Rattle.shred_stages.proofs.LiftLemmas.{TurnOf, lent-owned, lent-read, list-turns, plan-turn, stages-turns, step-lifted, turn-of, turns-in-any-order, turns-in-order}
+pub use Rattle.shred_stages.proofs.NeighbourLemmas.{same-again, same-itself, same-turned}
+pub use Rattle.shred_stages.proofs.PlanLemmas.{contains-in, in-contains}
 pub use Rattle.shred_stages.proofs.SetupLemmas.{set-up-first, set-up-none}
+pub use Rattle.shred_stages.proofs.TurnLemmas.{neighbours-commute, turns-commute}
 pub use Rattle.shred_stages.proofs.ViewLemmas.{turn-seat, turn-slots, turn-step}
 use Rattle.std.proofs.Common.{◌≡◌, Bool, true, false, refl, ap, sym, ◌∙◌, subst, Some}
 use Rattle.std.specs.Prelude.{if◌then◌else◌}

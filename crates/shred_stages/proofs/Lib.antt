@@ -19,3 +19,6 @@ pub mod StepLemmas
 pub mod OrderLemmas
 pub mod PlanLemmas
 pub mod NeighbourLemmas
+pub mod WholeLemmas
+pub mod TurnLemmas
+pub mod LiftLemmas

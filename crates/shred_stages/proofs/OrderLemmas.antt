@@ -128,8 +128,8 @@ module _ {V S : Type 0} (meets : S → Holding V → Option Stop → S → Holdi
       let moved = to-front early step late (taken_from meets first before) after (λ x there. free x (inr there)) run in
       let is = free first.one (inl refl) in
       let P : State V S → Type 0 = λ state. StepsRun meets (early ++ late) state after in (
-        second-first meets first step before is.0 is.1 can moved.0,
-        (first-second meets first step before is.0 is.1 can moved.0, subst P (one-end meets first step before is.0 is.1 can moved.0) moved.1),
+        second-first meets meets first step before is.0 is.1 can moved.0,
+        (first-second meets meets first step before is.0 is.1 can moved.0, subst P (one-end meets meets first step before is.0 is.1 can moved.0) moved.1),
       )
 
   -- the step of a system, between those before and after it

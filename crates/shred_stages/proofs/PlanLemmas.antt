@@ -26,12 +26,12 @@ use Rattle.shred_stages.proofs.ListLemmas.{stages-list}
 use Rattle.shred_stages.proofs.StepLemmas.{steps-of-list, list-of-steps}
 use Rattle.shred_stages.proofs.OrderLemmas.{Alike, steps-along}
 
-contains-in : (list : List (Placing ResourceId)) (x : Placing ResourceId) → IsIn x list → Contains list x
+pub contains-in : (list : List (Placing ResourceId)) (x : Placing ResourceId) → IsIn x list → Contains list x
 contains-in [] x there = absurd there
 contains-in (y ∷ list) x (inl is) = (0, omega arith, is)
 contains-in (y ∷ list) x (inr there) = let later = contains-in list x there in (suc later.0, omega (arith, later.1), later.2)
 
-in-contains : (list : List (Placing ResourceId)) (x : Placing ResourceId) → Contains list x → IsIn x list
+pub in-contains : (list : List (Placing ResourceId)) (x : Placing ResourceId) → Contains list x → IsIn x list
 in-contains [] x (k, within, is) = absurd (omega (arith, within))
 in-contains (y ∷ list) x (zero, within, is) = inl is
 in-contains (y ∷ list) x (suc k, within, is) = inr (in-contains list x (k, omega (arith, within), is))

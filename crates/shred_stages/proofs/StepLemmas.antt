@@ -52,7 +52,7 @@ same-state {V} {S} state systems held e f =
 
 module _ {V S : Type 0} (meets : S → Holding V → Option Stop → S → Holding V → Type 0) where
   -- a turn in which the system doesn't refuse is a step
-  step-of-turn : (one : Placing ResourceId) (before after : State V S) → Turn meets one before None after → (step : Taken V S) × (step.one ≡ one) × CanBeTaken meets step before × (after ≡ taken_from meets step before)
+  pub step-of-turn : (one : Placing ResourceId) (before after : State V S) → Turn meets one before None after → (step : Taken V S) × (step.one ≡ one) × CanBeTaken meets step before × (after ≡ taken_from meets step before)
   step-of-turn one before after (left, step, put) = by (slice_get before.systems one.number) refl step
     where
       by : (there : Option S) → slice_get before.systems one.number ≡ there → MatchOption there ⊥ (λ system. Step meets one.reads one.writes system before.held None left after.held)
@@ -65,7 +65,7 @@ module _ {V S : Type 0} (meets : S → Holding V → Option Stop → S → Holdi
         same-state after (slice_set before.systems one.number left) (λ id. merged (step.after id) (before.held id)) put (fun_ext step.comes_back),
       )
 
-  turn-of-step : (step : Taken V S) (before : State V S) → CanBeTaken meets step before → Turn meets step.one before None (taken_from meets step before)
+  pub turn-of-step : (step : Taken V S) (before : State V S) → CanBeTaken meets step before → Turn meets step.one before None (taken_from meets step before)
   turn-of-step step before can =
       let P : Option S → Type 0 = λ there. MatchOption there ⊥ (λ system. Step meets step.one.reads step.one.writes system before.held None step.system_after (taken_from meets step before).held) in
       (step.system_after, subst P (sym can.there) (record { after = step.left; runs = can.runs; leaves = can.leaves; comes_back = λ id. refl }), refl)
@@ -93,47 +93,48 @@ module _ {V S : Type 0} (meets : S → Holding V → Option Stop → S → Holdi
   list-of-steps [] before after same = (refl, same)
   list-of-steps (step ∷ steps) before after (can, run) = (taken_from meets step before, None, turn-of-step step before can, list-of-steps steps (taken_from meets step before) after run)
 
-  -- two steps of systems that don't conflict, one taken after the other
-  module _ (first second : Taken V S) (before : State V S) (differ : first.one.number ≢ second.one.number) (apart : conflict same_id first.one second.one ≡ false)
-      (can : CanBeTaken meets first before) (can2 : CanBeTaken meets second (taken_from meets first before)) where
-    abbrev one : Placing ResourceId
-    one = first.one
+-- two steps of systems that don't conflict, one taken after the other, each by a relation of its own
+module _ {V S : Type 0} (meets meets2 : S → Holding V → Option Stop → S → Holding V → Type 0) (first second : Taken V S) (before : State V S)
+    (differ : first.one.number ≢ second.one.number) (apart : conflict same_id first.one second.one ≡ false)
+    (can : CanBeTaken meets first before) (can2 : CanBeTaken meets2 second (taken_from meets first before)) where
+  abbrev one : Placing ResourceId
+  one = first.one
 
-    abbrev other : Placing ResourceId
-    other = second.one
+  abbrev other : Placing ResourceId
+  other = second.one
 
-    both : (touches same_id one other ≡ false) × (touches same_id other one ≡ false)
-    both = or-parts (touches same_id one other) (touches same_id other one) apart
+  both : (touches same_id one other ≡ false) × (touches same_id other one ≡ false)
+  both = or-parts (touches same_id one other) (touches same_id other one) apart
 
-    -- the second is lent the same before the first as after it
-    lent : cut other.reads other.writes (taken_from meets first before).held ≡ cut other.reads other.writes before.held
-    lent = fun_ext (λ id. sym (unseen (is_listed one.writes id) (is_listed one.reads id) (is_listed other.writes id) (is_listed other.reads id) (before.held id) (first.left id) (spares one other both.0 id) (can.leaves id)))
+  -- the second is lent the same before the first as after it
+  lent : cut other.reads other.writes (taken_from meets first before).held ≡ cut other.reads other.writes before.held
+  lent = fun_ext (λ id. sym (unseen (is_listed one.writes id) (is_listed one.reads id) (is_listed other.writes id) (is_listed other.reads id) (before.held id) (first.left id) (spares one other both.0 id) (can.leaves id)))
 
-    left2 : Leaves (cut other.reads other.writes before.held) second.left
-    left2 = let P : Holding V → Type 0 = λ seen. Leaves seen second.left in subst P lent can2.leaves
+  left2 : Leaves (cut other.reads other.writes before.held) second.left
+  left2 = let P : Holding V → Type 0 = λ seen. Leaves seen second.left in subst P lent can2.leaves
 
-    -- so the second can be taken first,
-    pub second-first : CanBeTaken meets second before
-    second-first = record {
-      there = sym (set-other before.systems one.number other.number first.system_after differ) ∙ can2.there;
-      runs = let P : Holding V → Type 0 = λ seen. meets second.system seen None second.system_after second.left in subst P lent can2.runs;
-      leaves = left2;
-    }
+  -- so the second can be taken first,
+  pub second-first : CanBeTaken meets2 second before
+  second-first = record {
+    there = sym (set-other before.systems one.number other.number first.system_after differ) ∙ can2.there;
+    runs = let P : Holding V → Type 0 = λ seen. meets2 second.system seen None second.system_after second.left in subst P lent can2.runs;
+    leaves = left2;
+  }
 
-    lent2 : cut one.reads one.writes before.held ≡ cut one.reads one.writes (taken_from meets second before).held
-    lent2 = fun_ext (λ id. unseen (is_listed other.writes id) (is_listed other.reads id) (is_listed one.writes id) (is_listed one.reads id) (before.held id) (second.left id) (spares other one both.1 id) (left2 id))
+  lent2 : cut one.reads one.writes before.held ≡ cut one.reads one.writes (taken_from meets2 second before).held
+  lent2 = fun_ext (λ id. unseen (is_listed other.writes id) (is_listed other.reads id) (is_listed one.writes id) (is_listed one.reads id) (before.held id) (second.left id) (spares other one both.1 id) (left2 id))
 
-    -- the first after it,
-    pub first-second : CanBeTaken meets first (taken_from meets second before)
-    first-second = record {
-      there = set-other before.systems other.number one.number second.system_after (λ same. differ (sym same)) ∙ can.there;
-      runs = let P : Holding V → Type 0 = λ seen. meets first.system seen None first.system_after first.left in subst P lent2 can.runs;
-      leaves = let P : Holding V → Type 0 = λ seen. Leaves seen first.left in subst P lent2 can.leaves;
-    }
+  -- the first after it,
+  pub first-second : CanBeTaken meets first (taken_from meets2 second before)
+  first-second = record {
+    there = set-other before.systems other.number one.number second.system_after (λ same. differ (sym same)) ∙ can.there;
+    runs = let P : Holding V → Type 0 = λ seen. meets first.system seen None first.system_after first.left in subst P lent2 can.runs;
+    leaves = let P : Holding V → Type 0 = λ seen. Leaves seen first.left in subst P lent2 can.leaves;
+  }
 
-    -- and they lead to one state
-    pub one-end : taken_from meets second (taken_from meets first before) ≡ taken_from meets first (taken_from meets second before)
-    one-end = same-state (taken_from meets second (taken_from meets first before)) (slice_set (slice_set before.systems other.number second.system_after) one.number first.system_after)
-        (λ id. merged (first.left id) (merged (second.left id) (before.held id)))
-        (set_comm before.systems one.number other.number first.system_after second.system_after differ)
-        (fun_ext (λ id. either-first (is_listed one.writes id) (is_listed one.reads id) (is_listed other.writes id) (is_listed other.reads id) (before.held id) (first.left id) (second.left id) (spares one other both.0 id) (can.leaves id) (left2 id)))
+  -- and they lead to one state
+  pub one-end : taken_from meets2 second (taken_from meets first before) ≡ taken_from meets first (taken_from meets2 second before)
+  one-end = same-state (taken_from meets2 second (taken_from meets first before)) (slice_set (slice_set before.systems other.number second.system_after) one.number first.system_after)
+      (λ id. merged (first.left id) (merged (second.left id) (before.held id)))
+      (set_comm before.systems one.number other.number first.system_after second.system_after differ)
+      (fun_ext (λ id. either-first (is_listed one.writes id) (is_listed one.reads id) (is_listed other.writes id) (is_listed other.reads id) (before.held id) (first.left id) (second.left id) (spares one other both.0 id) (can.leaves id) (left2 id)))

@@ -13,3 +13,4 @@ pub mod Away
 pub mod Loading
 pub mod Ends
 pub mod Orders
+pub mod Changes

@@ -8,7 +8,7 @@ use Rattle.shred_plan.specs.Plan.{Placing, conflict, plan_order}
 use Rattle.shred_plan.specs.Laws.{has}
 use Rattle.shred_stages.specs.declared.stop.Stop.{Stop}
 use Rattle.shred_stages.specs.Views.{cut, Leaves, merged}
-use Rattle.shred_stages.specs.Runs.{State, GroupRuns}
+use Rattle.shred_stages.specs.Runs.{State, Turn, GroupRuns}
 use Rattle.shred_stages.specs.Staging.{Staging}
 
 -- whether the order of two systems counts: they conflict, or one was added to come after the other
@@ -45,6 +45,11 @@ module _ {V S : Type 0} (meets : S → Holding V → Option Stop → S → Holdi
   -- the systems of a list run, one after the other, up to the first that refuses
   abbrev pub ListRuns : List (Placing ResourceId) → State V S → Option (ℕ × Stop) → State V S → Type 0
   ListRuns list before refused after = GroupRuns meets list before refused after
+
+  -- the systems of a list take their turns, one after the other, and none refuses
+  abbrev pub TakeTurns : List (Placing ResourceId) → State V S → State V S → Type 0
+  TakeTurns [] before after = after ≡ before
+  TakeTurns (one ∷ later) before after = (between : State V S) × Turn meets one before None between × TakeTurns later between after
 
   -- a step can be taken from a state: its system stands there, and may do this with what it is lent
   pub record CanBeTaken (step : Taken V S) (before : State V S) : Type 0 where

@@ -3,6 +3,7 @@
 
 mod access;
 mod accessor;
+mod alone;
 mod apart;
 mod error;
 pub mod laws;
@@ -23,6 +24,7 @@ mod turn;
 mod view;
 
 pub use accessor::BatchAccessor;
+pub use alone::run_alone;
 pub use error::DispatchError;
 pub use run::Refusal;
 pub use seating::{make_seat, move_values};

@@ -5,10 +5,12 @@ use shred_plan::Adding;
 use shred_world::{ResourceId, World};
 use std::marker::Model;
 
-/// The systems of a group at their places in it, the values that they write, and how their run ended.
+/// The systems of a group at their places in it, the values that they write, how long they are said to run, and how their
+/// run ended.
 #[derive(Drop)]
 pub(crate) struct Pack<'p, V, S> {
     pub(crate) group: &'p [Adding<ResourceId>],
+    pub(crate) time: u32,
     pub(crate) reads: Vec<ResourceId>,
     pub(crate) writes: Vec<ResourceId>,
     pub(crate) seat: World<V>,
@@ -17,10 +19,11 @@ pub(crate) struct Pack<'p, V, S> {
 }
 
 impl<'p, V, S> Model for Pack<'p, V, S> {
-    ghost use Rattle.std.specs.Prelude.{map as each};
+    ghost use Rattle.std.specs.Prelude.{◌≡◌, map as each};
     ghost use Rattle.std.specs.Coded.{codes, coded_option};
     ghost use Rattle.std.specs.FinMap as map;
     ghost use Rattle.shred_world.specs.ResourceIds.{id_cmp, coded_id};
+    ghost use Rattle.shred_plan.specs.Plan.{time_of};
     ghost use Rattle.shred_stages.specs.Seats.{refusal_of};
     ghost use Rattle.shred_stages.specs.Views.{FitsSeat};
     ghost use Rattle.shred_stages.specs.Packs.{Packed, ArePlaced};
@@ -31,5 +34,5 @@ impl<'p, V, S> Model for Pack<'p, V, S> {
 
     ghost view = { λ pack. record { group = pack.group.now; reads = pack.reads.items; writes = pack.writes.items; seat = pack.seat; systems = each (λ one. one.system) pack.staged.items; refused = refusal_of pack.outcome } };
 
-    ghost invariant = { λ pack. FitsSeat pack.writes.items pack.seat × ArePlaced pack.group.now pack.staged.items };
+    ghost invariant = { λ pack. FitsSeat pack.writes.items pack.seat × ArePlaced pack.group.now pack.staged.items × (pack.time ≡ time_of pack.group.now) };
 }

@@ -1,6 +1,7 @@
 //! What a thread does with what it is lent.
 ghost use Rattle.std.specs.Prelude.{map};
 ghost use Rattle.shred_world.specs.Bundles.{holding_of};
+ghost use Rattle.shred_plan.specs.Plan.{time_of};
 ghost use Rattle.shred_stages.specs.Views.{view_slots, FitsSeat};
 ghost use Rattle.shred_stages.specs.Seats.{refusal_of};
 ghost use Rattle.shred_stages.specs.Packs.{ArePlaced, PlacesInView, PackRuns};
@@ -36,6 +37,12 @@ fn run_list<V: Drop, S: System<V>, H: AllocGlobal>(
 
 impl<V: Drop, S: System<V>> Load<World<V>> for Pack<'_, V, S> {
     ghost does = { PackRuns S.meets };
+
+    ghost said_time = { λ pack. time_of pack.group };
+
+    fn time(&self) -> u32 {
+        self.time
+    }
 
     fn work<H: AllocGlobal>(&mut self, rt: &H, shared: &World<V>) {
         let seat = mem::replace(&mut self.seat, World::empty(rt.alloc()));

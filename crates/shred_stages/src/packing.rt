@@ -1,6 +1,7 @@
 //! Groups that are lent their systems and the values that they write, and give them back.
 ghost use Rattle.std.specs.Prelude.{◌≡◌, ◌≤◌, ℕ, [], length, take, vec_capacity, OnOk, OnErr, IfOk};
 ghost use Rattle.shred_world.specs.Bundles.{holding_of};
+ghost use Rattle.shred_plan.specs.Plan.{time_of};
 ghost use Rattle.shred_stages.specs.Moves.{HasSlots};
 ghost use Rattle.shred_stages.specs.Seats.{StageIsSeated, refusal_of};
 ghost use Rattle.shred_stages.specs.Packs.{ArePlaced};
@@ -21,7 +22,7 @@ use shred_plan::{Adding, Group};
 use shred_world::{ResourceId, World};
 use std::alloc::{AllocError, Global};
 
-/// Lends a group its systems, and the values that they write.
+/// Lends a group, which is said to run so long, its systems, and the values that they write.
 ///
 /// Errors: want of memory, which leaves the world and the slots as they were.
 fn lend<'p, V: Drop, S: System<V> + Drop>(
@@ -29,8 +30,10 @@ fn lend<'p, V: Drop, S: System<V> + Drop>(
     world: &mut World<V>,
     slots: &mut Vec<Option<Staged<V, S>>>,
     group: &'p [Adding<ResourceId>],
+    time: u32,
 ) -> Result<Pack<'p, V, S>, AllocError>
     requires placed { ArePlaced group.now (standing group.now slots.old.items) }
+    requires timed { time ≡ time_of group.now }
     ensures ok { IfOk result (λ pack. IsLoaded group.entry.now pack slots.old.items slots.new.items (holding_of world.old) (holding_of world.new)) }
     ensures world { OnErr result (world.new ≡ world.old) }
     ensures slots { OnErr result (slots.new.items ≡ slots.old.items) }
@@ -45,6 +48,7 @@ fn lend<'p, V: Drop, S: System<V> + Drop>(
     move_values(world, &mut seat, &writes);
     Ok(Pack {
         group,
+        time,
         reads,
         writes,
         seat,
@@ -72,7 +76,7 @@ pub(crate) fn lend_all<'p, V: Drop, S: System<V> + Drop>(
     ensures err { OnErr result ((done : ℕ) × AreLoaded (systems_in slots.old.items) (take done stage.entry.now) packs.new.items slots.new.items (holding_of world.old) (holding_of world.new)) }
 {
     for group in stage {
-        match lend(alloc, world, slots, group.systems()) {
+        match lend(alloc, world, slots, group.systems(), group.time()) {
             Ok(pack) => packs.push_reserved(pack),
             Err(error) => return Err(error),
         }
@@ -93,6 +97,7 @@ fn give_back<V: Drop, S: System<V> + Drop>(
 {
     let Pack {
         group,
+        time: _,
         reads: _,
         writes,
         mut seat,

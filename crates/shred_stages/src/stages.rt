@@ -214,6 +214,8 @@ impl<V: Drop, S: System<V> + Drop> StagesBuilder<V, S> {
 
     /// Runs the systems on threads: stage by stage, the groups of a stage on as many threads as there are workers, or groups.
     ///
+    /// A thread runs the groups of one list of `cut`, by the groups' times, in their order; none is started for an empty list.
+    ///
     /// With fewer than 2 workers all runs on the caller's thread, as `execute_seq` runs it.
     ///
     /// Errors: as `execute_seq`; `Memory` and `Threads`, where there was no memory for a stage or a thread of it couldn't be started:

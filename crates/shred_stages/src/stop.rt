@@ -1,14 +1,18 @@
 //! Why a system didn't do its work, and which one.
 use std::string::String;
+use thiserror::Error;
 
 /// Why a system refused.
-#[derive(Debug, PartialEq, Eq, Drop)]
+#[derive(Debug, PartialEq, Eq, Drop, Error)]
 pub enum Stop {
     /// By its own rules, told by a text.
+    #[error("refused: {0}")]
     Refused(String),
     /// It found no memory.
+    #[error("out of memory")]
     Memory,
     /// A list that it fills is full.
+    #[error("a list is full")]
     Full,
 }
 

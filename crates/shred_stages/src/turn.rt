@@ -19,7 +19,31 @@ pub(crate) struct Staged<V, S> {
     pub(crate) seat: World<V>,
 }
 
-/// Runs a system over what it declares of a world; what it wrote comes back into the world.
+/// Runs a system over what it declares of a world, with a seat for what it writes, which is handed back.
+///
+/// What it wrote comes back into the world.
+pub(crate) fn run_seated<V: Drop, S: System<V>, H: AllocGlobal, W: Holder<V>>(
+    rt: &H,
+    system: &mut S,
+    world: &mut W,
+    reads: &[ResourceId],
+    writes: &[ResourceId],
+    seat: World<V>,
+) -> (Result<(), Stop>, World<V>)
+    requires seat { IsSeat writes.now seat }
+    ensures step { Step S.meets reads.now writes.now system.old (W.slots world.old) (error_of result.0)
+        system.new (W.slots world.new) }
+    ensures seat { (id : Id) → map.get result.1 id ≡ map.get seat id }
+{
+    let mut lent = seat;
+    move_values(world, &mut lent, writes);
+    let (outcome, left) = run_in_view(rt, system, world, reads, writes, lent);
+    let mut back = left;
+    move_values(&mut back, world, writes);
+    (outcome, back)
+}
+
+/// Runs a staged system over what it declares of a world; what it wrote comes back into the world.
 pub(crate) fn run_system<V: Drop, S: System<V>, H: AllocGlobal, W: Holder<V>>(
     rt: &H,
     world: &mut W,
@@ -31,10 +55,8 @@ pub(crate) fn run_system<V: Drop, S: System<V>, H: AllocGlobal, W: Holder<V>>(
     ensures step { Step S.meets reads.now writes.now staged.old.system (W.slots world.old) (error_of result) staged.new.system (W.slots world.new) }
     ensures seat { (id : Id) → map.get staged.new.seat id ≡ map.get staged.old.seat id }
 {
-    move_values(world, &mut staged.seat, writes);
     let seat = mem::replace(&mut staged.seat, World::empty(rt.alloc()));
-    let (outcome, seat) = run_in_view(rt, &mut staged.system, world, reads, writes, seat);
+    let (outcome, seat) = run_seated(rt, &mut staged.system, world, reads, writes, seat);
     staged.seat = seat;
-    move_values(&mut staged.seat, world, writes);
     outcome
 }

@@ -1,12 +1,20 @@
-//! Loads that any number of threads work on.
+//! Loads that any number of threads work on, and the lists that they are dealt by.
 use crate::values::Number;
-use shred_crew::{Load, work_dealt};
+use shred_crew::{Load, cut, work_dealt};
 use std::alloc::{AllocError, Global};
 use std::sync::Wait;
 use std::thread::Threads;
 
 impl Load<u64> for Number {
+    ghost use Rattle.std.specs.Prelude.{◌%◌};
+
     ghost does = { λ _ _ _. Unit {0} };
+
+    ghost said_time = { λ number. number.0 % 4 };
+
+    fn time(&self) -> u32 {
+        (self.0 % 4) as u32
+    }
 
     fn work<H: AllocGlobal>(&mut self, _rt: &H, shared: &u64) {
         self.0 = self.0.wrapping_add(*shared);
@@ -48,6 +56,74 @@ fn each_load_is_worked_on_in_its_place(rt: HostRuntime) {
     for workers in [0, 1, 2, 3, 5, 8] {
         if raised(&rt, workers) != Ok(Some(1_112_131_415)) {
             wrong = Some(workers);
+        }
+    }
+    assert_eq!(rt; wrong, None);
+}
+
+/// Times of groups, how many workers there are, and the list of each.
+struct Row {
+    times: &'static [u32],
+    workers: usize,
+    lists: &'static [&'static [usize]],
+}
+
+static ROWS: [Row; 5] = [
+    Row {
+        times: &[5, 1, 4, 2],
+        workers: 2,
+        lists: &[&[0, 1], &[2, 3]],
+    },
+    Row {
+        times: &[3],
+        workers: 4,
+        lists: &[&[0], &[], &[], &[]],
+    },
+    Row {
+        times: &[3, 3, 3],
+        workers: 2,
+        lists: &[&[0, 2], &[1]],
+    },
+    Row {
+        times: &[0, 0],
+        workers: 2,
+        lists: &[&[0, 1], &[]],
+    },
+    Row {
+        times: &[1, 4_294_967_295, 4_294_967_295, 7],
+        workers: 1,
+        lists: &[&[0, 1, 2, 3]],
+    },
+];
+
+/// Whether the lists have these numbers.
+fn are_lists(made: &[Vec<usize>], lists: &[&[usize]]) -> bool {
+    if made.len() != lists.len() {
+        return false;
+    }
+    for (own, list) in made.iter().zip(lists) {
+        if own.as_slice() != *list {
+            return false;
+        }
+    }
+    true
+}
+
+/// Whether the groups of a row are cut into its lists.
+fn is_cut(alloc: Global, row: &Row) -> Result<bool, AllocError> {
+    if row.workers == 0 {
+        return Ok(false);
+    }
+    let made = cut(alloc, row.times, row.workers)?;
+    Ok(are_lists(&made, row.lists))
+}
+
+#[test]
+fn groups_are_cut_by_their_times(rt: HostRuntime) {
+    let mut wrong = None;
+    for (at, row) in ROWS.iter().enumerate() {
+        if is_cut(rt.alloc(), row) != Ok(true) {
+            wrong = Some(at);
         }
     }
     assert_eq!(rt; wrong, None);

@@ -5,9 +5,10 @@ use crate::builders::{
 use crate::trees::{end_of_run, end_of_setup, leaf};
 use crate::values::Value;
 use crate::workers::{
-    Does, End, FIRST, FOURTH, Gate, Plain, SECOND, THIRD, average, gates, numbers_of, world_of,
+    Does, End, FIRST, FOURTH, Gate, Plain, SECOND, THIRD, average, gates, numbers_of,
+    two_gates_of_four, world_of,
 };
-use RunningTime::{Average, VeryLong, VeryShort};
+use RunningTime::{Average, Long, Short, VeryLong, VeryShort};
 use shred::{
     BatchController, DispatchError, Dispatcher, DispatcherBuilder, MultiDispatcher, ParSeq, RunNow,
     RunningTime, StagesBuilder, Stop, System, World,
@@ -538,6 +539,34 @@ fn systems_meet<R: AllocGlobal + Threads + Wait + Sync>(
 #[test]
 fn gate_stage(rt: HostRuntime) {
     assert_eq!(rt; systems_meet(&rt, 2), Ok(true));
+}
+
+/// Stages of four systems, and whether all were taken.
+fn stages_of_four<S: System<Value> + Drop>(
+    alloc: Global,
+    systems: [S; 4],
+) -> (StagesBuilder<Value, S>, bool) {
+    let [first, second, third, fourth] = systems;
+    let (mut stages, has_three) = stages_of_three(alloc, [first, second, third]);
+    let has_fourth = insert(alloc, &mut stages, fourth);
+    (stages, has_three && has_fourth)
+}
+
+/// Whether the second and the fourth system of one stage meet, of which the first and the third are the long ones.
+fn short_ones_meet<R: AllocGlobal + Threads + Wait + Sync>(
+    rt: &R,
+    workers: usize,
+) -> Result<bool, AllocError> {
+    let systems = two_gates_of_four(rt.alloc(), [VeryLong, VeryShort, Long, Short])?;
+    let (stages, is_whole) = stages_of_four(rt.alloc(), systems);
+    Ok(is_whole && end_of_stages(rt, workers, stages) == End::Fine)
+}
+
+// Two workers have six units of time each: 0 and 1, and 2 and 3. A body that deals the groups in turn, whatever their times, is
+// caught here: 1 and 3 then run on one thread, so that 1 looks for a flag that nobody raises while it looks.
+#[test]
+fn gate_cut(rt: HostRuntime) {
+    assert_eq!(rt; short_ones_meet(&rt, 2), Ok(true));
 }
 
 /// Calls on a dispatcher of three gates: which of them are open, how many workers there are, and the calls.

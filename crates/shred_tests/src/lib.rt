@@ -9,6 +9,7 @@ mod builders;
 mod bundles;
 #[cfg(test)]
 mod cells;
+pub mod chores;
 #[cfg(test)]
 mod crews;
 #[cfg(test)]
@@ -20,11 +21,15 @@ mod shared;
 #[cfg(test)]
 mod tables;
 #[cfg(test)]
+mod texts;
+#[cfg(test)]
 mod threads;
+pub mod threes;
 #[cfg(test)]
 mod trees;
 #[cfg(test)]
-mod values;
+mod turns;
+pub mod values;
 #[cfg(test)]
 mod workers;
 #[cfg(test)]

@@ -8,19 +8,19 @@ use std::alloc::{AllocError, Global};
 
 /// A number.
 #[derive(Clone, Copy, Default)]
-pub(crate) struct Number(pub(crate) u64);
+pub struct Number(pub u64);
 
 /// Steps a turn.
 #[derive(Clone, Copy, Default)]
-pub(crate) struct Speed(pub(crate) u64);
+pub struct Speed(pub u64);
 
 /// Points won.
 #[derive(Clone, Copy, Default)]
-pub(crate) struct Score(pub(crate) u64);
+pub struct Score(pub u64);
 
 /// What the worlds of the tests hold.
 #[derive(Clone, Copy)]
-pub(crate) enum Value {
+pub enum Value {
     NumberValue(Number),
     SpeedValue(Speed),
     ScoreValue(Score),

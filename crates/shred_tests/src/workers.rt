@@ -215,12 +215,13 @@ pub(crate) enum End {
 /// The flags of three gates.
 type Flags = (AtomicU64, AtomicU64, AtomicU64);
 
-/// Which of three gates it is.
+/// Which of three gates it is, or one that waits for nobody.
 #[derive(Clone, Copy)]
 enum Place {
     First,
     Second,
     Third,
+    Aside,
 }
 
 /// A system that raises its own flag of three, and refuses where it never sees both others.
@@ -228,6 +229,7 @@ enum Place {
 pub(crate) struct Gate {
     flags: Arc<Flags>,
     place: Place,
+    time: RunningTime,
 }
 
 /// Three gates over flags of these numbers: one of 1 is raised from the beginning, so that nobody waits for that gate.
@@ -241,10 +243,33 @@ pub(crate) fn gates(alloc: Global, raised: [u64; 3]) -> Result<[Gate; 3], AllocE
     gates_of(Arc::new(alloc, flags)?)
 }
 
-/// A gate over flags that others have too.
-fn gate_over(flags: &Arc<Flags>, place: Place) -> Result<Gate, AllocError> {
+/// Four systems that are said to run so long: the second and the fourth wait for one another, the others for nobody.
+pub(crate) fn two_gates_of_four(
+    alloc: Global,
+    times: [RunningTime; 4],
+) -> Result<[Gate; 4], AllocError> {
+    let flags = (AtomicU64::new(0), AtomicU64::new(0), AtomicU64::new(1));
+    four_over(&Arc::new(alloc, flags)?, times)
+}
+
+/// Those four over some flags.
+fn four_over(flags: &Arc<Flags>, times: [RunningTime; 4]) -> Result<[Gate; 4], AllocError> {
+    let [first, second, third, fourth] = times;
+    match (
+        gate_over(flags, Place::Aside, first),
+        gate_over(flags, Place::First, second),
+        gate_over(flags, Place::Aside, third),
+        gate_over(flags, Place::Second, fourth),
+    ) {
+        (Ok(first), Ok(second), Ok(third), Ok(fourth)) => Ok([first, second, third, fourth]),
+        _ => Err(AllocError),
+    }
+}
+
+/// A gate over flags that others have too, which is said to run so long.
+fn gate_over(flags: &Arc<Flags>, place: Place, time: RunningTime) -> Result<Gate, AllocError> {
     match Arc::try_clone(flags) {
-        Ok(flags) => Ok(Gate { flags, place }),
+        Ok(flags) => Ok(Gate { flags, place, time }),
         Err(error) => Err(error),
     }
 }
@@ -252,8 +277,8 @@ fn gate_over(flags: &Arc<Flags>, place: Place) -> Result<Gate, AllocError> {
 /// The three gates over some flags.
 fn gates_of(flags: Arc<Flags>) -> Result<[Gate; 3], AllocError> {
     match (
-        gate_over(&flags, Place::First),
-        gate_over(&flags, Place::Second),
+        gate_over(&flags, Place::First, RunningTime::Average),
+        gate_over(&flags, Place::Second, RunningTime::Average),
     ) {
         (Ok(first), Ok(second)) => Ok([
             first,
@@ -261,6 +286,7 @@ fn gates_of(flags: Arc<Flags>) -> Result<[Gate; 3], AllocError> {
             Gate {
                 flags,
                 place: Place::Third,
+                time: RunningTime::Average,
             },
         ]),
         _ => Err(AllocError),
@@ -290,6 +316,7 @@ pub(crate) fn passes(gate: &Gate) -> bool {
         Place::First => sees(&flags.0, &flags.1, &flags.2),
         Place::Second => sees(&flags.1, &flags.0, &flags.2),
         Place::Third => sees(&flags.2, &flags.0, &flags.1),
+        Place::Aside => true,
     }
 }
 
@@ -300,7 +327,7 @@ impl System<Value> for Gate {
 
     ghost write_list = { λ _. [] };
 
-    ghost said_time = { λ _. 3 };
+    ghost said_time = { λ gate. units_of gate.time };
 
     ghost sets_up = { λ _ _ _ _ _. Unit {0} };
 
@@ -319,7 +346,7 @@ impl System<Value> for Gate {
     }
 
     fn running_time(&self) -> RunningTime {
-        RunningTime::Average
+        self.time
     }
 
     fn accessor(&self, alloc: Global) -> Result<BatchAccessor, AllocError> {

@@ -13,20 +13,24 @@ pub(crate) mod write;
 
 use crate::{Holder, ResourceId, World};
 use std::alloc::{AllocError, Global};
+use thiserror::Error;
 
 /// A bundle's resource isn't there.
-#[derive(Clone, Copy, Debug, PartialEq, Eq, Drop)]
+#[derive(Clone, Copy, Debug, PartialEq, Eq, Drop, Error)]
+#[error("no resource of kind {kind} under number {dynamic}", kind = .id.kind, dynamic = .id.dynamic)]
 pub struct Missing {
     /// The id under which it was asked for.
     pub id: ResourceId,
 }
 
 /// Why a bundle wasn't handed to a closure.
-#[derive(Clone, Copy, Debug, PartialEq, Eq)]
+#[derive(Clone, Copy, Debug, PartialEq, Eq, Error)]
 pub enum ExecError {
     /// The setup found no memory.
+    #[error("out of memory")]
     Memory,
     /// A resource is wanting.
+    #[error(transparent)]
     Missing(Missing),
 }
 

@@ -1,6 +1,10 @@
-use Rattle.std.proofs.Common.{◌≡◌, ◌≤◌, [], length, vec_capacity}
-use Rattle.std.specs.List.{All}
+use Rattle.std.proofs.Common.{◌≡◌, ◌≤◌, length, take, vec_capacity}
+use Rattle.shred_crew.specs.Deals.{AreRoomy}
 use Rattle.shred_crew.proofs.deal.make_rows.Given as goal
 
-abbrev pub invariant-loop-row : goal.invariant-loop-row
-invariant-loop-row g l = (length l.rows.items ≡ l._row) × All (λ row. row.items ≡ []) l.rows.items × All (λ row. l.room ≤ vec_capacity row) l.rows.items
+abbrev pub invariant-loop-share : goal.invariant-loop-share
+invariant-loop-share g l = record {
+  roomy : AreRoomy (take l.share-index l.shares) l.rows.items;
+  room : length l.shares ≤ vec_capacity l.rows;
+  few : length l.rows.items ≡ l.share-index;
+}

@@ -19,6 +19,7 @@ invariant_of-result g c =
     let ids : c.deref-2.result.now ≡ c.list_group-2.new.list.items = c.deref-2.ensures.value in (
       seat-fits c.deref-2.result.now c.list_group-2.new.list.items ids (holding_of c.args.world.now) (holding_of c.move_values.new.from) c.in_ok-seat.seat c.move_values.new.to seated c.move_values.ensures.to,
       subst P (sym taken) c.requires.placed,
+      c.requires.timed,
     )
 
 pub returns-clause-ok : goal.returns-clause-ok

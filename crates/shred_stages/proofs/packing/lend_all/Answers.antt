@@ -1,4 +1,4 @@
-use Rattle.std.proofs.Common.{◌+◌, length, ap, sym, ◌∙◌, subst, arith, refl, ◌∷◌, [], length-append}
+use Rattle.std.proofs.Common.{◌+◌, length, ap, sym, ◌∙◌, subst, arith, rules, refl, ◌∷◌, [], length-append}
 use Rattle.shred_world.specs.declared.resource_id.ResourceId.{ResourceId}
 use Rattle.shred_world.specs.Bundles.{holding_of}
 use Rattle.shred_plan.specs.Plan.{Group}
@@ -21,6 +21,7 @@ lend-requires g c =
       placed = subst P (sym c.systems.ensures)
           (loading-stand (systems_in c.args.slots.now.items) c.args.stage.now c.loop-group.group-index c.loop-group.packs.items c.loop-group.slots.items (holding_of c.args.world.now) (holding_of c.loop-group.world)
           c.group-item.result c.loop-group-test.true c.group-item.is c.loop-group.invariant.loading c.requires.seated).0;
+      timed = search rules;
     }
 
 pub loop-group-preserved : goal.loop-group-preserved

@@ -1,10 +1,10 @@
 use Rattle.std.proofs.Common.{rules, List, length, ap, sym, subst, ◌∙◌}
 use Rattle.std.specs.Prelude.{map}
-use Rattle.shred_crew.proofs.GatherLemmas.{take-whole}
 use Rattle.shred_stages.specs.declared.turn.Staged.{Staged}
 use Rattle.shred_stages.specs.Orders.{RunsInAnyOrder}
 use Rattle.shred_stages.specs.Staging.{Staging}
 use Rattle.shred_stages.proofs.LeaveLemmas.{stages-leave}
+use Rattle.shred_stages.proofs.WholeLemmas.{take-whole}
 use Rattle.shred_stages.proofs.PlanLemmas.{run-in-any-order}
 use Rattle.shred_stages.proofs.stages.StagesBuilder.run.Goals as goal
 

@@ -1,0 +1,2 @@
+pub mod Chores
+pub mod Threes
