@@ -11,7 +11,7 @@ use Rattle.scene_rules.specs.declared.refusals.FrameRefusal.TheVariants.{System,
 use Rattle.scene_rules.specs.Parts.{Json, Name, Part, place_of}
 use Rattle.scene_rules.specs.Rulebook.{Book, Command}
 use Rattle.scene_rules.specs.Scenes.{PlainScene, PlainSystem, PlainFrame, Steps, PartsAdmitted, RefsLive}
-use Rattle.scene_rules.specs.Laws.{IsLawful}
+use Rattle.scene_rules.specs.Lawful.{IsLawful}
 use Rattle.scene_rules.specs.Queues.{plain_commands, waiting}
 use Rattle.scene_rules.specs.declared.turn.Saved.{Saved}
 use Rattle.scene_rules.specs.declared.view.Columns.{Columns}

@@ -6,7 +6,7 @@ use Rattle.scene_rules.specs.declared.refusals.FrameRefusal.TheVariants.{System,
 use Rattle.scene_rules.specs.Parts.{Part}
 use Rattle.scene_rules.specs.Rulebook.{Book, Command}
 use Rattle.scene_rules.specs.Scenes.{PlainScene, PlainSystem, Steps}
-use Rattle.scene_rules.specs.Laws.{IsLawful}
+use Rattle.scene_rules.specs.Lawful.{IsLawful}
 use Rattle.scene_rules.specs.Queues.{plain_commands, waiting}
 use Rattle.scene.specs.Frames.{Queues, SystemsRun, SystemsRefuse, SystemsFill, entered, by_place}
 

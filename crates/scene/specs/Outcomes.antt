@@ -11,7 +11,7 @@ use Rattle.scene_document.specs.declared.loaded.Limits.{Limits}
 use Rattle.scene.specs.declared.runner.RunError.{RunError}
 use Rattle.scene.specs.declared.runner.RunError.TheVariants as run
 use Rattle.scene_rules.specs.Rulebook.{Book}
-use Rattle.scene_rules.specs.Scenes.{PlainScene}
+use Rattle.scene_rules.specs.Scenes.{PlainScene, IsProper}
 use Rattle.scene_draft.specs.Drafts.{Draft}
 use Rattle.scene_document.specs.Documents.{document_of}
 use Rattle.scene_draft.specs.Texts.{scene_json, text_of, ReadsBack}
@@ -29,13 +29,14 @@ bounds_of limits = record { indices = limits.indices; commands = limits.commands
 abbrev pub full_bounds : Bounds
 full_bounds = record { indices = 16777216; commands = 1048576 }
 
--- a text is that of a scene which the frames of the document in these bytes reach, with this report; it reads as the JSON of that
--- scene, and as no other
+-- a text is that of a scene which the frames of the document in these bytes reach, with this report; the scene is proper, and the
+-- text reads as its JSON, and as no other
 pub record IsRunOf (book : Book) (bounds : Bounds) (input : List ℕ) (report : Report) (text : List ℕ) : Type 0 where
   pub draft : Draft
   pub scene : PlainScene
   pub document : document_of book bounds.indices input ≡ Ok draft
   pub ran : Ran book bounds.commands draft report scene
+  pub proper : IsProper book scene
   pub written : text ≡ text_of book scene
   pub reads : ReadsBack text (scene_json book scene)
 

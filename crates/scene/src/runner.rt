@@ -59,6 +59,7 @@ fn run_to_end<R: Rules + Drop, H: AllocGlobal>(rt: &H, scene: &mut Scene<R>)
     requires ready { IsReady R.part_of R.global_of R.kind_of R.config_of R.book scene.old }
     requires start { (shown_of R.part_of R.global_of R.kind_of R.config_of R.book scene.old).report ≡ nothing_yet }
     ensures rules { rules_of scene.new ≡ rules_of scene.old }
+    ensures ready { IsReady R.part_of R.global_of R.kind_of R.config_of R.book scene.new }
     ensures end { RunsOut (R.book (rules_of scene.old))
         (shown_of R.part_of R.global_of R.kind_of R.config_of R.book scene.old)
         (shown_of R.part_of R.global_of R.kind_of R.config_of R.book scene.new) }

@@ -1,5 +1,5 @@
 -- Lemmas on what a gain leaves.
-use Rattle.std.proofs.Common.{◌≡◌, ◌<◌, ◌≤◌, ℕ, ℤ, pos, negsuc, int_le, cond, length, ◌∷◌, below_none, arith, Result, Ok, Err, MatchResult, OnOk, Bool, true, false, List, [], Option, Some, None, refl, sym, ◌∙◌, ap, subst, FitsSigned, All}
+use Rattle.std.proofs.Common.{◌≡◌, ◌<◌, ◌≤◌, ℕ, ℤ, pos, negsuc, int_le, cond, is_some, length, ◌∷◌, below_none, arith, Result, Ok, Err, MatchResult, OnOk, Bool, true, false, List, [], Option, Some, None, refl, sym, ◌∙◌, ap, subst, FitsSigned, All}
 use Rattle.std.specs.Int.{w64}
 use Rattle.std.specs.Str.{bytes_eq}
 use Rattle.std.proofs.lemmas.Option.{same_Some, none-some}
@@ -9,12 +9,12 @@ use Rattle.std.proofs.lemmas.List.Kept.{AllPairs-cons}
 use Rattle.std.specs.List.{filter_map, cons_option}
 use Rattle.scene_rules.specs.Parts.{Name, Part, is_among}
 use Rattle.scene_rules.specs.Rulebook.{Fragment, leaves, refuses, fills, queue_room, Command, kill}
-use Rattle.scene_rules.specs.Scenes.{lives, RefLives, RefsLive, PartsAdmitted}
+use Rattle.scene_rules.specs.Scenes.{lives, RefLives, RefsLive, PartsAdmitted, KeepsValues}
 use Rattle.scene_basics.specs.declared.data.BasicSystem.{BasicSystem}
 use Rattle.scene_basics.specs.declared.data.BasicSystem.TheVariants.{Drift, Pull, Decay, Reap, Bud}
 use Rattle.scene_basics.specs.declared.data.Ask.TheVariants.{Deaths, Births}
 use Rattle.scene_basics.specs.Asks.{asked_for, asked_of, death_by, newborn, birth_at, birth_by}
-use Rattle.scene_rules.specs.Laws.{IsKnownPart, IsLawful}
+use Rattle.scene_rules.specs.Lawful.{IsKnownPart, IsLawful}
 use Rattle.scene_basics.specs.Names.{number_kinds, pos_kind, vel_kind, hp_kind, g_name}
 use Rattle.scene_basics.specs.Numbers.{counting, admits}
 use Rattle.scene_basics.specs.Gains.{Gains, sum_at, number_at, global_number, Overflows}
@@ -61,6 +61,13 @@ Makes-living Pull old new commands made living = Gains-living vel_kind (λ id. g
 Makes-living Decay old new commands made living = Gains-living hp_kind (λ id. Some (negsuc 0)) old new made.0 living
 Makes-living Reap old new commands made living = subst (λ left. RefsLive left.ids left.part) (sym made.0) living
 Makes-living Bud old new commands made living = subst (λ left. RefsLive left.ids left.part) (sym made.0) living
+
+pub Makes-valued : (system : BasicSystem) (old new : Fragment) (commands : List Command) → Makes (Some system) old (leaves new commands) → KeepsValues old new
+Makes-valued Drift old new commands made name there = ap is_some (made.0.globals name) ∙ there
+Makes-valued Pull old new commands made name there = ap is_some (made.0.globals name) ∙ there
+Makes-valued Decay old new commands made name there = ap is_some (made.0.globals name) ∙ there
+Makes-valued Reap old new commands made name there = ap (λ left. is_some (left.global name)) made.0 ∙ there
+Makes-valued Bud old new commands made name there = ap (λ left. is_some (left.global name)) made.0 ∙ there
 
 -- what each of a list gives that gives something has a property that all of them have
 filter_map-all : {X : Type 0} (P : X → Type 0) (f : ℕ → Option X) → ((id : ℕ) (x : X) → f id ≡ Some x → P x) → (ids : List ℕ) → All P (filter_map f ids)

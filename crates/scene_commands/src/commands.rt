@@ -5,7 +5,7 @@ ghost use Rattle.scene_rules.specs.Parts.{Part, is_among};
 ghost use Rattle.scene_rules.specs.Rulebook as plain;
 ghost use Rattle.scene_rules.specs.Scenes.{PlainScene, lives};
 ghost use Rattle.scene_rules.specs.Commands.{apply, refs_live, last_next};
-ghost use Rattle.scene_rules.specs.Laws.{IsKnownPart, IsLawful};
+ghost use Rattle.scene_rules.specs.Lawful.{IsKnownPart, IsLawful};
 ghost use Rattle.scene_rules.specs.Queues.{plain_entry, plain_command};
 ghost use Rattle.scene_commands.specs.Over.{given, left, scene_over, IsOver, IsGood, set_part, with_spawned, IsDone};
 

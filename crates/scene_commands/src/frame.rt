@@ -2,7 +2,7 @@
 ghost use Rattle.std.specs.Prelude.{◌≡◌, nat_le, ◌+◌, ◌≤◌, ℕ, List, [], ◌∷◌, ◌++◌, length, map, All, IfOk, OnOk, MatchResult};
 ghost use Rattle.std.specs.List.{flat_map};
 ghost use Rattle.scene_rules.specs.Commands.{skips_of, CommandsAccepted, CommandsRefused};
-ghost use Rattle.scene_rules.specs.Laws.{IsLawful};
+ghost use Rattle.scene_rules.specs.Lawful.{IsLawful};
 ghost use Rattle.scene_rules.specs.Queues.{plain_command, plain_commands, waiting};
 ghost use Rattle.std.specs.BTreeMap.{values};
 ghost use Rattle.scene_rules.specs.Lending.{IsSound, scene_in};

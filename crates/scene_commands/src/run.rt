@@ -1,6 +1,6 @@
 //! The commands of a frame, run over the columns of a scene.
 ghost use Rattle.std.specs.Prelude.{◌≡◌, ℕ, List, ◌++◌, All, OnErr, MatchResult, OnOk, vec_len};
-ghost use Rattle.scene_rules.specs.Laws.{IsLawful};
+ghost use Rattle.scene_rules.specs.Lawful.{IsLawful};
 ghost use Rattle.scene_rules.specs.Commands.{CommandsAccepted, CommandsRefused, skips_of};
 ghost use Rattle.scene_rules.specs.Lending.{IsSound, scene_in};
 ghost use Rattle.scene_commands.specs.Together.{all_of};

@@ -36,7 +36,8 @@ use Rattle.scene_rules.specs.Lent.{access_of}
 use Rattle.scene_rules.specs.Queues.{plain_commands}
 use Rattle.scene_rules.specs.Scenes.{PlainScene, PlainSystem, lives, RefLives, RefsLive, PartsAdmitted}
 use Rattle.scene_rules.specs.Commands.{ref_lives}
-use Rattle.scene_rules.specs.Laws.{Ascend, IsKnownPart, IsLawful}
+use Rattle.scene_rules.specs.Laws.{Ascend}
+use Rattle.scene_rules.specs.Lawful.{IsKnownPart, IsLawful}
 use Rattle.scene_draft.specs.Drafts.{Draft, DraftPart, DraftEntity, DraftEntry, DraftCommand, spawn, kill, put, take}
 use Rattle.scene_document.specs.Documents.{listed_ids, systems_of, has_unknown_kind, has_double, has_id_past_next, dangles, part_dangles, has_unknown_system, has_taken_name, has_unknown_dependency, lacks_global, writes_reserved, refusal_of}
 use Rattle.scene_draft.specs.DraftViews.{name_at, named, plain_entity, plain_system, plain_entry, plain_asked, plain_list, facts_of, seen, config_seen, IsPlaced, IsAdmitted, IsDraft, IsMadeOf, IsMadeAs, IsOfBook, IsKnownDraft, Differ, AreApart, IsLawfulDraft}

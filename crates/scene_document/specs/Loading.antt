@@ -10,7 +10,7 @@ use Rattle.scene_rules.specs.Parts.{Json, Name, Part}
 use Rattle.scene_rules.specs.Rulebook.{Book}
 use Rattle.scene_rules.specs.Rulebook as plain
 use Rattle.scene_rules.specs.Scenes.{PlainScene, PlainSystem, PlainFrame}
-use Rattle.scene_rules.specs.Laws.{IsLawful}
+use Rattle.scene_rules.specs.Lawful.{IsLawful}
 use Rattle.scene_rules.specs.Queues.{plain_commands}
 use Rattle.scene_rules.specs.Lending.{scene_in, system_in, IsOfRules, IsSound}
 use Rattle.scene_draft.specs.Drafts.{Draft}

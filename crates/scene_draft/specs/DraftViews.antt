@@ -17,7 +17,7 @@ use Rattle.scene_draft.specs.declared.draft.CommandDraft.TheVariants as asked
 use Rattle.scene_draft.specs.declared.draft.DocumentDraft.{DocumentDraft}
 use Rattle.scene_rules.specs.Parts.{Json, Name, Part, is_among}
 use Rattle.scene_rules.specs.Rulebook.{Book, Facts}
-use Rattle.scene_rules.specs.Laws.{IsKnownPart}
+use Rattle.scene_rules.specs.Lawful.{IsKnownPart}
 use Rattle.scene_rules.specs.Queues.{plain_entry as plain_pair}
 use Rattle.scene_rules.specs.Lent.{texts, access_of}
 use Rattle.shred_plan.specs.Plan.{units_of}

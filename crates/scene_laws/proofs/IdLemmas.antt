@@ -165,7 +165,7 @@ play-keeps R same then Good step place (command ∷ commands) scene after places
 -- systems leave the next id and the ids
 pub systems-same : (book : Book) (order : List PlainSystem) (scene after : PlainScene) (queues : Queues) → SystemsRun book order scene after queues → (after.next ≡ scene.next) × (after.ids ≡ scene.ids)
 systems-same book [] scene after queues ran = (ap (λ s. s.next) ran.0, ap (λ s. s.ids) ran.0)
-systems-same book (first ∷ order) scene after queues ran = let rest = systems-same book order ran.0 after ran.2 ran.4 in (rest.0 ∙ ap (λ s. s.next) ran.3.2, rest.1 ∙ ap (λ s. s.ids) ran.3.2)
+systems-same book (first ∷ order) scene after queues ran = let rest = systems-same book order ran.0 after ran.2 ran.4 in (rest.0 ∙ ap (λ s. s.next) ran.3.3, rest.1 ∙ ap (λ s. s.ids) ran.3.3)
 
 -- ids go on over a frame
 pub accepts-goes-on : (book : Book) (limit : ℕ) (frame : PlainFrame) (scene after : PlainScene) (places : List ℕ) → IdsFit scene.next scene.ids → Accepts book limit frame scene after places → IdsGoOn scene after

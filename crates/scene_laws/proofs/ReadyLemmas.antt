@@ -5,7 +5,7 @@ use Rattle.std.specs.Str.{bytes_eq}
 use Rattle.std.proofs.lemmas.Bool.{false≢true}
 use Rattle.std.proofs.lemmas.Option.{none-some, same_Some, option_and_then_some}
 use Rattle.std.proofs.lemmas.Slice.Eq.{bytes_eq-Decides}
-use Rattle.std.specs.Prelude.{Result, Ok, Err, MatchResult, IfOk}
+use Rattle.std.specs.Prelude.{Result, Ok, Err, MatchResult, IfOk, IfErr}
 use Rattle.serde_json.specs.View.{items_of}
 use Rattle.serde_json.specs.Written.{has_float}
 use Rattle.scene_rules.specs.declared.view.Columns.{Columns}
@@ -23,13 +23,30 @@ use Rattle.scene_draft.specs.Texts.{json_of, members_with, entity_json, scene_js
 use Rattle.scene_draft.proofs.CallerLemmas.{is_some-place_of}
 use Rattle.scene_document.specs.Documents.{document_from, document_of, of_reading, of_shape, unless_refused, refusal_of}
 use Rattle.scene_document.specs.Openings.{first_scene}
-use Rattle.scene_laws.specs.Printed.{CanBeRead, GlobalsAreRead}
+use Rattle.scene_document.specs.declared.loaded.LoadError.{LoadError}
+use Rattle.scene_document.specs.declared.loaded.LoadError.TheVariants.{Document, Memory}
+use Rattle.scene.specs.Outcomes.{Bounds, IsNoDocument}
+use Rattle.scene_laws.specs.Printed.{ReadsAlike, CanBeRead, GlobalsAreRead}
 use Rattle.scene_laws.proofs.PrintLemmas.{pairs_of, members-pairs, ordered-pairs, draft_read, draft-back, scene-back}
 
 -- what follows of what was opened
 pub if_opened : {V E : Type 0} (r : Result V E) (Opened Then : V → Type 0) (Not : E → Type 0) → ((v : V) → Opened v → Then v) → MatchResult r Opened Not → IfOk r Then
 if_opened (Ok v) Opened Then Not follows opened = follows v opened
 if_opened (Err e) Opened Then Not follows opened = tt
+
+-- and of what was refused
+pub if_refused : {V E : Type 0} (r : Result V E) (Opened : V → Type 0) (Not Then : E → Type 0) → ((e : E) → Not e → Then e) → MatchResult r Opened Not → IfErr r Then
+if_refused (Ok v) Opened Not Then follows opened = tt
+if_refused (Err e) Opened Not Then follows opened = follows e opened
+
+-- what one of two sets of rules refuses, the other does, where they read alike
+pub refused-alike : (one other : Book) → ReadsAlike one other → (bounds : Bounds) (input : List ℕ) (error : LoadError) → IsNoDocument one bounds input error → IsNoDocument other bounds input error
+refused-alike one other alike bounds input Memory not = tt
+refused-alike one other alike bounds input (Document refusal) not = from (json_of input) not
+  where
+    from : (json : Option Json) → of_reading one bounds.indices json ≡ Err refusal → of_reading other bounds.indices json ≡ Err refusal
+    from None is = is
+    from (Some json) is = sym (alike bounds.indices json) ∙ is
 
 -- what an option was that a function made something of
 from_map : {A B P : Type 0} (f : A → B) (o : Option A) (b : B) → option_map f o ≡ Some b → ((a : A) → o ≡ Some a → f a ≡ b → P) → P

@@ -14,7 +14,7 @@ use Rattle.scene_rules.specs.Rulebook.{Book, declares, Command, spawn, kill, put
 use Rattle.scene_rules.specs.Scenes.{PlainScene, PlainSystem, PlainFrame, RefLives, fragment, with_left, lives}
 use Rattle.scene_rules.specs.Commands.{apply, changed, ref_lives, refs_live, without_ref, part_without, is_gone, holds_gone, first_gone}
 use Rattle.scene.specs.Frames.{Queues, SystemsRun, all_commands, Accepts, Reaches}
-use Rattle.scene_laws.specs.References.{RefsLiveUnder, KeepsReferences}
+use Rattle.scene_laws.specs.References.{RefsLiveUnder}
 use Rattle.scene_laws.proofs.IdLemmas.{spawn-makes, tested-makes, lives-filter, play-keeps}
 
 -- a reference names a living id, or is gone
@@ -176,32 +176,25 @@ all-live book scene none good id kind held known alive found =
     none-gone scene.ids held.refs (sym (ap holds_gone found) ∙ no_ref) (good id kind held known alive found)
 
 -- references live after the turns of systems
-pub systems-live : (book : Book) (order : List PlainSystem) (scene after : PlainScene) (queues : Queues) → KeepsReferences book → RefsLiveUnder book.part_names scene.ids scene.part → SystemsRun book order scene after queues → RefsLiveUnder book.part_names after.ids after.part
-systems-live book [] scene after queues keeps good ran = subst (λ s. RefsLiveUnder book.part_names s.ids s.part) (sym ran.0) good
-systems-live book (first ∷ order) scene after queues keeps good ran = systems-live book order ran.0 after ran.2 keeps (subst (λ s. RefsLiveUnder book.part_names s.ids s.part) (sym ran.3.2) turn) ran.4
+pub systems-live : (book : Book) (order : List PlainSystem) (scene after : PlainScene) (queues : Queues) → RefsLiveUnder book.part_names scene.ids scene.part → SystemsRun book order scene after queues → RefsLiveUnder book.part_names after.ids after.part
+systems-live book [] scene after queues good ran = subst (λ s. RefsLiveUnder book.part_names s.ids s.part) (sym ran.0) good
+systems-live book (first ∷ order) scene after queues good ran = systems-live book order ran.0 after ran.2 (subst (λ s. RefsLiveUnder book.part_names s.ids s.part) (sym ran.3.3) turn) ran.4
   where
-    lent : RefsLiveUnder book.part_names scene.ids (fragment first.access scene).part
-    lent id kind held known alive found = here (declares first.access kind) found
-      where
-        here : (b : Bool) → cond b (scene.part id kind) None ≡ Some held → All (RefLives scene.ids) held.refs
-        here true e = good id kind held known alive e
-        here false e = absurd (none-some held e)
-
     turn : RefsLiveUnder book.part_names scene.ids (with_left first.access ran.3.0 scene).part
     turn id kind held known alive found = here (is_among kind first.access.writes) found
       where
         here : (b : Bool) → cond b (ran.3.0.part id kind) (scene.part id kind) ≡ Some held → All (RefLives scene.ids) held.refs
-        here true e = keeps first.kind first.config (fragment first.access scene) ran.3.0 ran.1 ran.3.1 lent id kind held known alive e
+        here true e = subst (λ ids. All (RefLives ids) held.refs) ran.3.2.ids (ran.3.2.living id kind held (ap (lives id) ran.3.2.ids ∙ alive) e)
         here false e = good id kind held known alive e
 
 -- references live after a frame
-pub accepts-live : (book : Book) (limit : ℕ) (frame : PlainFrame) (scene after : PlainScene) (places : List ℕ) → KeepsReferences book → RefsLiveUnder book.part_names scene.ids scene.part → Accepts book limit frame scene after places → RefsLiveUnder book.part_names after.ids after.part
-accepts-live book limit frame scene after places keeps good accepts =
-    let lived : RefsLiveUnder book.part_names accepts.0.ids accepts.0.part = systems-live book frame.order scene accepts.0 accepts.1 keeps good accepts.2 in
+pub accepts-live : (book : Book) (limit : ℕ) (frame : PlainFrame) (scene after : PlainScene) (places : List ℕ) → RefsLiveUnder book.part_names scene.ids scene.part → Accepts book limit frame scene after places → RefsLiveUnder book.part_names after.ids after.part
+accepts-live book limit frame scene after places good accepts =
+    let lived : RefsLiveUnder book.part_names accepts.0.ids accepts.0.part = systems-live book frame.order scene accepts.0 accepts.1 good accepts.2 in
     let either : LiveOrGoneUnder book.part_names accepts.0.ids accepts.0.part = λ id kind held known alive found. All-more (RefLives accepts.0.ids) (LivesOrGone accepts.0.ids) held.refs (lives-either accepts.0.ids) (lived id kind held known alive found) in
     all-live book after accepts.3.none_gone (play-keeps (λ one other. Unit {0}) (λ s. tt) (λ one two three first second. tt) (λ s. LiveOrGoneUnder book.part_names s.ids s.part) (λ command s t g made. (tt, apply-live book.part_names command s t g made)) 1 (all_commands frame accepts.1) accepts.0 after places either accepts.3.played_on).1
 
 -- references live after frames
-pub reaches-live : (book : Book) (limit : ℕ) (frames : ℕ → PlainFrame) (count : ℕ) (scene after : PlainScene) (skips : List Skip) → KeepsReferences book → RefsLiveUnder book.part_names scene.ids scene.part → Reaches book limit frames count scene after skips → RefsLiveUnder book.part_names after.ids after.part
-reaches-live book limit frames zero scene after skips keeps good reached = subst (λ s. RefsLiveUnder book.part_names s.ids s.part) (sym reached.0) good
-reaches-live book limit frames (suc count) scene after skips keeps good reached = accepts-live book limit (frames (suc count)) reached.0 after reached.2 keeps (reaches-live book limit frames count scene reached.0 reached.1 keeps good reached.3) reached.4
+pub reaches-live : (book : Book) (limit : ℕ) (frames : ℕ → PlainFrame) (count : ℕ) (scene after : PlainScene) (skips : List Skip) → RefsLiveUnder book.part_names scene.ids scene.part → Reaches book limit frames count scene after skips → RefsLiveUnder book.part_names after.ids after.part
+reaches-live book limit frames zero scene after skips good reached = subst (λ s. RefsLiveUnder book.part_names s.ids s.part) (sym reached.0) good
+reaches-live book limit frames (suc count) scene after skips good reached = accepts-live book limit (frames (suc count)) reached.0 after reached.2 (reaches-live book limit frames count scene reached.0 reached.1 good reached.3) reached.4

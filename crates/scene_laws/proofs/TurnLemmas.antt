@@ -84,7 +84,7 @@ module _ (book : Book) (lone : OneOutcome book) where
   steps-one : (system : PlainSystem) (scene one other : PlainScene) (commands more : List Command) → Steps book system scene one commands → Steps book system scene other more → (one ≡ other) × (commands ≡ more)
   steps-one system scene one other commands more first second =
       let same = lone system.kind system.config (fragment system.access scene) (leaves first.0 commands) (leaves second.0 more) first.1 second.1 in
-      (first.2 ∙ (ap (λ left. with_left system.access left scene) (same-fragment first.0 second.0 same.0) ∙ sym second.2), same.1)
+      (first.3 ∙ (ap (λ left. with_left system.access left scene) (same-fragment first.0 second.0 same.0) ∙ sym second.3), same.1)
 
   -- so do systems one after another
   systems-one : (order : List PlainSystem) (scene one other : PlainScene) (queues more : Queues) → SystemsRun book order scene one queues → SystemsRun book order scene other more → (one ≡ other) × (queues ≡ more)

@@ -7,7 +7,12 @@ use Rattle.scene_rules.specs.Rulebook.{Book}
 use Rattle.scene_rules.specs.Scenes.{PlainScene, IdsFit, RefsLive, PartsOwned}
 use Rattle.scene_draft.specs.Drafts.{Draft, DraftEntry, DraftCommand}
 use Rattle.scene_draft.specs.Texts.{scene_json}
+use Rattle.scene_document.specs.Documents.{document_from}
 use Rattle.scene_laws.specs.References.{StandUnder}
+
+-- two sets of rules read the same documents, and refuse the others alike
+abbrev pub ReadsAlike : Book → Book → Type 0
+ReadsAlike one other = (indices : ℕ) (json : Json) → document_from one indices json ≡ document_from other indices json
 
 -- ids fit; parts stand at living ids, under the rules' kinds, and are read back from what is written for them; so are the values
 -- of globals, which stand under the rules' names

@@ -9,7 +9,7 @@ ghost use Rattle.scene_draft.specs.Texts.{scene_json, text_of, ReadsBack};
 ghost use Rattle.scene.specs.Limits.{AreLimits};
 ghost use Rattle.scene.specs.Outcomes.{IsNoDocument, bounds_of};
 ghost use Rattle.scene.specs.Turns.{shown_of, rules_of, IsReady};
-ghost use Rattle.scene_laws.specs.Printed.{CanBeRead, CanBeLoaded, GlobalsAreRead, document_json, HasCourse};
+ghost use Rattle.scene_laws.specs.Printed.{ReadsAlike, CanBeRead, CanBeLoaded, GlobalsAreRead, document_json, HasCourse};
 
 use scene::{Limits, LoadError, Rules, Scene};
 use std::alloc::Global;
@@ -45,7 +45,8 @@ pub fn a_ready_scene_can_be_read<R: Rules + Drop>(scene: &Scene<R>)
         (shown_of R.part_of R.global_of R.kind_of R.config_of R.book scene.now).scene }
 {}
 
-/// Prints a scene, reads the text and loads it under the same rules: what is loaded is the scene, before any frame.
+/// Prints a scene, reads the text and loads it under rules that read documents as the scene's do: what is loaded is the scene,
+/// before any frame.
 ///
 /// The limits are at most the greatest ones, and `generation` is at least 1.
 ///
@@ -58,12 +59,12 @@ pub fn print_and_load<R: Rules + Drop>(
     limits: Limits,
 ) -> Result<Scene<R>, LoadError>
     requires ready { IsReady R.part_of R.global_of R.kind_of R.config_of R.book scene.now }
-    requires rules { rules ≡ rules_of scene.now }
+    requires book { ReadsAlike (R.book rules) (R.book (rules_of scene.now)) }
     requires limits { AreLimits limits }
     ensures same { IfOk result (λ again. (shown_of R.part_of R.global_of R.kind_of R.config_of R.book again).scene
         ≡ (shown_of R.part_of R.global_of R.kind_of R.config_of R.book scene.now).scene) }
     ensures ready { IfOk result (λ again. IsReady R.part_of R.global_of R.kind_of R.config_of R.book again) }
-    ensures rules { IfOk result (λ again. rules_of again ≡ rules_of scene.now) }
+    ensures rules { IfOk result (λ again. rules_of again ≡ rules) }
     ensures err { IfErr result (IsNoDocument (R.book (rules_of scene.now)) (bounds_of limits)
         (text_of (R.book (rules_of scene.now))
         (shown_of R.part_of R.global_of R.kind_of R.config_of R.book scene.now).scene)) }

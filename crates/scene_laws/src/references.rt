@@ -3,20 +3,19 @@ ghost use Rattle.std.specs.Prelude.{ℕ, List};
 ghost use Rattle.scene_rules.specs.Scenes.{PlainScene, PlainFrame, RefsLive};
 ghost use Rattle.scene_rules.specs.declared.refusals.Skip.{Skip};
 ghost use Rattle.scene.specs.Frames.{Accepts, Reaches};
-ghost use Rattle.scene_laws.specs.References.{RefsLiveUnder, StandUnder, KeepsReferences};
+ghost use Rattle.scene_laws.specs.References.{RefsLiveUnder, StandUnder};
 
 use scene_rules::Rules;
 
-/// No accepted frame leaves a reference to an entity that is gone, under any kind of the rules, where systems leave
-/// references that live; where parts stand under the rules' kinds alone, that is each reference.
+/// No accepted frame leaves a reference to an entity that is gone, under any kind of the rules; where parts stand under the
+/// rules' kinds alone, that is each reference.
 pub fn references_live<R: Rules>(rules: &R)
     ensures frame { (limit : ℕ) (frame : PlainFrame) (scene after : PlainScene) (places : List ℕ)
-        → KeepsReferences (R.book rules.now)
         → RefsLiveUnder (R.book rules.now).part_names scene.ids scene.part
         → Accepts (R.book rules.now) limit frame scene after places
         → RefsLiveUnder (R.book rules.now).part_names after.ids after.part }
     ensures frames { (limit : ℕ) (frames : ℕ → PlainFrame) (count : ℕ) (scene after : PlainScene)
-        (skips : List Skip) → KeepsReferences (R.book rules.now)
+        (skips : List Skip)
         → RefsLiveUnder (R.book rules.now).part_names scene.ids scene.part
         → Reaches (R.book rules.now) limit frames count scene after skips
         → RefsLiveUnder (R.book rules.now).part_names after.ids after.part }

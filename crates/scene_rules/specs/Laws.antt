@@ -1,5 +1,5 @@
 -- What the trait `Rules` asks of an implementation, beside the contracts of its calls.
-use Rattle.std.specs.Prelude.{◌≡◌, ℕ, true, false, List, length, All, map, Option, Some, None, Result, MatchResult, AllPairs}
+use Rattle.std.specs.Prelude.{◌≡◌, ℕ, true, List, length, All, map, Option, Some, None, Result, MatchResult, AllPairs}
 use Rattle.std.specs.Cmp.Lexicographic.{slice_cmp}
 use Rattle.std.specs.Ordering.{nat_cmp}
 use Rattle.std.specs.declared.cmp.Ordering.TheVariants.{Less}
@@ -8,9 +8,8 @@ use Rattle.scene_rules.specs.declared.rules.ReadError.{ReadError}
 use Rattle.scene_rules.specs.declared.rules.ReadError.TheVariants.{Shape}
 use Rattle.scene_rules.specs.declared.rules.Stop.{Stop}
 use Rattle.scene_rules.specs.declared.rules.Stop.TheVariants as stop
-use Rattle.std.specs.Str.{bytes_eq}
 use Rattle.scene_rules.specs.Parts.{Json, Name, Ref, living, Part, is_among}
-use Rattle.scene_rules.specs.Rulebook.{Book, Facts, Access, Outcome, refuses, fills, queue_room, Command, spawn, kill, put, take}
+use Rattle.scene_rules.specs.Rulebook.{Book, Facts, Access, Outcome, refuses, fills, queue_room, Command}
 
 -- names ascend by their bytes, and so stand once each
 abbrev pub Ascend : List Name → Type 0
@@ -35,17 +34,6 @@ abbrev pub IsStopOf : (Outcome → Type 0) → List Command → Stop → Type 0
 IsStopOf meets commands (stop.Refused text) = meets (refuses (string_bytes text))
 IsStopOf meets commands stop.Memory = Unit {0}
 IsStopOf meets commands stop.Full = meets (fills commands) × (length commands ≡ queue_room)
-
--- a kind is the rules', and a part is of that kind
-abbrev pub IsKnownPart : Book → Name × Part → Type 0
-IsKnownPart book entry = (is_among entry.0 book.part_names ≡ true) × (book.admits entry.0 entry.1 ≡ true)
-
--- a command is one that the rules know: its kinds are theirs, those of a spawn differ, and its parts are of their kinds
-abbrev pub IsLawful : Book → Command → Type 0
-IsLawful book (spawn parts) = All (IsKnownPart book) parts × AllPairs (λ one other. bytes_eq one.0 other.0 ≡ false) parts
-IsLawful book (kill id) = Unit {0}
-IsLawful book (put id kind part) = IsKnownPart book (kind, part)
-IsLawful book (take id kind) = is_among kind book.part_names ≡ true
 
 -- the names that a system declares are the rules'
 pub record DeclaresKnown (book : Book) (access : Access) : Type 0 where

@@ -1,6 +1,7 @@
 -- The definitions that the contracts of this crate cite, in the order in which a reader needs them.
 pub mod Parts
 pub mod Rulebook
+pub mod Lawful
 pub mod Scenes
 pub mod Commands
 pub mod Slots

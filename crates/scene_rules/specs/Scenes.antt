@@ -1,8 +1,9 @@
 -- A scene, the fragment of it that a system is lent, and the scene after a system's turn.
-use Rattle.std.specs.Prelude.{◌≡◌, ◌<◌, ℕ, Bool, true, ◌==◌, List, length, Option, Some, None, All, AllPairs, if◌then◌else◌}
+use Rattle.std.specs.Prelude.{◌≡◌, ◌<◌, ℕ, Bool, true, ◌==◌, List, length, Option, Some, None, IsSome, All, AllPairs, if◌then◌else◌}
 use Rattle.std.specs.List.{list_any}
 use Rattle.scene_rules.specs.Parts.{Json, Name, Ref, living, gone, Part, is_among}
 use Rattle.scene_rules.specs.Rulebook.{Access, declares, declares_global, Fragment, Book, leaves, refuses, fills, Command, queue_room}
+use Rattle.scene_rules.specs.Lawful.{IsLawful}
 
 -- a scene: the next id, the ids ascending, the part of each id under each kind, the value of each global
 pub record PlainScene : Type 0 where
@@ -32,10 +33,22 @@ PartsAdmitted book part = (id : ℕ) (kind : Name) (held : Part) → part id kin
 abbrev pub PartsOwned : List ℕ → (ℕ → Name → Option Part) → Type 0
 PartsOwned ids part = (id : ℕ) (kind : Name) (held : Part) → part id kind ≡ Some held → lives id ids ≡ true
 
--- ids ascend and are below the next one
+-- ids ascend
+abbrev pub IdsAscend : List ℕ → Type 0
+IdsAscend ids = AllPairs (λ one other. one < other) ids
+
+-- and are below the next one
 pub record IdsFit (next : ℕ) (ids : List ℕ) : Type 0 where
-  pub ascend : AllPairs (λ one other. one < other) ids
+  pub ascend : IdsAscend ids
   pub below : All (λ id. id < next) ids
+
+-- a scene is proper: its ids ascend below the next one, each part stands at a living id and is one that the rules admit under its
+-- kind, and each reference names a living id
+pub record IsProper (book : Book) (scene : PlainScene) : Type 0 where
+  pub ids : IdsFit scene.next scene.ids
+  pub owned : PartsOwned scene.ids scene.part
+  pub admitted : PartsAdmitted book scene.part
+  pub living : RefsLive scene.ids scene.part
 
 -- what a scene holds of the declared kinds and globals
 abbrev pub fragment : Access → PlainScene → Fragment
@@ -61,9 +74,22 @@ pub record PlainSystem : Type 0 where
   pub config : Json
   pub access : Access
 
+-- each global that had a value has one
+abbrev pub KeepsValues : Fragment → Fragment → Type 0
+KeepsValues old left = (name : Name) → IsSome (old.global name) → IsSome (left.global name)
+
+-- what a system leaves of what it was lent, and its commands, are lawful: the ids stay, references name them, parts are of their
+-- kinds, globals keep a value, and the commands are ones that the rules know
+pub record IsLawfullyLeft (book : Book) (old left : Fragment) (commands : List Command) : Type 0 where
+  pub ids : left.ids ≡ old.ids
+  pub living : RefsLive left.ids left.part
+  pub admitted : PartsAdmitted book left.part
+  pub valued : KeepsValues old left
+  pub known : All (IsLawful book) commands
+
 -- a system's turn takes a scene to the one after, with these commands
 abbrev pub Steps : Book → PlainSystem → PlainScene → PlainScene → List Command → Type 0
-Steps book system scene after commands = (left : Fragment) × book.meets system.kind system.config (fragment system.access scene) (leaves left commands) × (after ≡ with_left system.access left scene)
+Steps book system scene after commands = (left : Fragment) × book.meets system.kind system.config (fragment system.access scene) (leaves left commands) × IsLawfullyLeft book (fragment system.access scene) left commands × (after ≡ with_left system.access left scene)
 
 -- a system refuses a scene with a text
 abbrev pub StepRefuses : Book → PlainSystem → PlainScene → List ℕ → Type 0

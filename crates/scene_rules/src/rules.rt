@@ -2,7 +2,7 @@
 ghost use Rattle.std.specs.Prelude.{◌≡◌, ◌<◌, ℕ, true, false, List, [], map, Some, None, Option, IsTrue, IfOk, OnOk, MatchResult, All};
 ghost use Rattle.scene_rules.specs.Parts.{Json, Name, Part, is_among};
 ghost use Rattle.scene_rules.specs.Rulebook.{Book, Facts, leaves};
-ghost use Rattle.scene_rules.specs.Scenes.{RefsLive, PartsAdmitted};
+ghost use Rattle.scene_rules.specs.Scenes.{RefsLive, PartsAdmitted, KeepsValues, IdsAscend};
 ghost use Rattle.serde_json.specs.View.{view};
 ghost use Rattle.serde_json.specs.Written.{has_float};
 
@@ -70,7 +70,8 @@ impl From<AllocError> for Stop {
 /// may make of what it is lent. `part_of` and `global_of` say what a datum and a global's value are in a document.
 pub trait Rules {
     ghost use Rattle.scene_rules.specs.Lent.{texts, shown, kinds, globals, declared_by, access_of, lent, SameLoan};
-    ghost use Rattle.scene_rules.specs.Laws.{Ascend, IsReadingOf, refs_to, IsMaking, IsStopOf, IsLawful, DeclaresKnown};
+    ghost use Rattle.scene_rules.specs.Laws.{Ascend, IsReadingOf, refs_to, IsMaking, IsStopOf, DeclaresKnown};
+    ghost use Rattle.scene_rules.specs.Lawful.{IsLawful};
     ghost use Rattle.shred_plan.specs.Plan.{units_of};
     ghost use Rattle.scene_rules.specs.Queues.{waiting, plain_commands};
 
@@ -167,13 +168,13 @@ pub trait Rules {
 
     /// Runs a system on what it is lent, with a queue for its commands.
     ///
-    /// The view is of the rules' names and of what the system declares, its parts are of their kinds, and its
+    /// The view is of the rules' names and of what the system declares, its ids ascend, its parts are of their kinds, and its
     /// references name its ids. The queue is empty.
     ///
     /// An accepted run leaves what the rules allow the system to make of what it was lent, with the commands in its queue, and
-    /// so is a refusal's text one that they allow; what it leaves refers to ids of the view alone, and is of its kinds; its
-    /// commands are of the rules' kinds, those of a spawn differ, and their data are of their kinds. The system's kind and
-    /// configuration stay, and the view shows and declares what it did.
+    /// so is a refusal's text one that they allow; what it leaves refers to ids of the view alone, and is of its kinds; a global
+    /// that had a value has one; its commands are of the rules' kinds, those of a spawn differ, and their data are of their
+    /// kinds. The system's kind and configuration stay, and the view shows and declares what it did.
     ///
     /// Errors: `Refused`; `Memory`; `Full`, only where the queue holds 1,048,576 commands.
     fn run<H: AllocGlobal>(
@@ -187,6 +188,7 @@ pub trait Rules {
         requires globals { globals view.old ≡ (book self.now).global_names }
         requires access { (facts : Facts) × ((book self.now).system (kind_of system.old) (config_of system.old)
             ≡ Some (Some facts)) × (declared_by view.old ≡ facts.access) }
+        requires ascend { IdsAscend (shown view.old) }
         requires admitted { PartsAdmitted (book self.now) (lent part_of global_of view.old).part }
         requires living { RefsLive (shown view.old) (lent part_of global_of view.old).part }
         requires empty { waiting queue.old ≡ [] }
@@ -200,6 +202,7 @@ pub trait Rules {
         ensures loan { SameLoan view.old view.new }
         ensures admitted { OnOk result (PartsAdmitted (book self.now) (lent part_of global_of view.new).part) }
         ensures living { OnOk result (RefsLive (shown view.new) (lent part_of global_of view.new).part) }
+        ensures valued { OnOk result (KeepsValues (lent part_of global_of view.old) (lent part_of global_of view.new)) }
         ensures kind { kind_of system.new ≡ kind_of system.old }
         ensures config { config_of system.new ≡ config_of system.old };
 

@@ -1,7 +1,7 @@
 //! A turn of one system: what it is lent, its run, and what it left put back.
 ghost use Rattle.std.specs.Prelude.{◌≡◌, ◌<◌, ◌^◌, ℕ, [], None, OnOk, OnErr, IfOk, IfErr, MatchResult, Some, vec_len, length, All, slice_get, slice_set};
-ghost use Rattle.scene_rules.specs.Scenes.{RefsLive, PartsAdmitted, Steps};
-ghost use Rattle.scene_rules.specs.Laws.{IsLawful};
+ghost use Rattle.scene_rules.specs.Scenes.{RefsLive, PartsAdmitted, IdsAscend, Steps};
+ghost use Rattle.scene_rules.specs.Lawful.{IsLawful};
 ghost use Rattle.scene_rules.specs.Queues.{waiting, plain_commands};
 ghost use Rattle.scene_rules.specs.Lending.{scene_in, Fits, IsLentColumn, IsLentGlobal, LendsColumns, LendsGlobals, PutsBack, IsOfRules, system_in, told_as, StepIsRefused, before, SameBefore, NothingSaved, SavesBefore, FitsSaved};
 ghost use Rattle.std.specs.List.{list_any};
@@ -280,6 +280,7 @@ pub fn run_system<R: Rules, H: AllocGlobal>(
     requires room { FitsSaved (R.book rules.now) saved.old }
     requires own { HoldsOnly ids.now columns.old.parts.items }
     requires made { IsOfRules R.kind_of R.config_of (R.book rules.now) placed.old }
+    requires ascend { IdsAscend ids.now }
     requires admitted { PartsAdmitted (R.book rules.now)
         (scene_in R.part_of R.global_of (R.book rules.now) 0 ids.now columns.old).part }
     requires living { RefsLive ids.now

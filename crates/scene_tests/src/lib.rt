@@ -18,6 +18,8 @@ mod frames;
 #[cfg(test)]
 mod laws;
 #[cfg(test)]
+mod leavers;
+#[cfg(test)]
 mod limits;
 #[cfg(test)]
 mod memory;

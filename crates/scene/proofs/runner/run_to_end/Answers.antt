@@ -25,6 +25,7 @@ returns-in-Err g c =
     let left : 0 < frames_left (shown_of g.R.Rules.part_of g.R.Rules.global_of g.R.Rules.kind_of g.R.Rules.config_of g.R.Rules.book c.loop-scene.scene) = omega (arith, c.left.ensures, c.loop-scene-test.true) in
     record {
       rules = c.in-Err.ensures.rules ∙ c.loop-scene.invariant.rules;
+      ready = c.in-Err.ensures.ready;
       end = ended_refused (g.R.Rules.book (rules_of c.args.scene.now)) (shown_of g.R.Rules.part_of g.R.Rules.global_of g.R.Rules.kind_of g.R.Rules.config_of g.R.Rules.book c.args.scene.now) (shown_of g.R.Rules.part_of g.R.Rules.global_of g.R.Rules.kind_of g.R.Rules.config_of g.R.Rules.book c.loop-scene.scene) (shown_of g.R.Rules.part_of g.R.Rules.global_of g.R.Rules.kind_of g.R.Rules.config_of g.R.Rules.book c.run_frame.new.self) c.loop-scene.invariant.going left
           (subst (λ one. Stays (g.R.Rules.book one) (shown_of g.R.Rules.part_of g.R.Rules.global_of g.R.Rules.kind_of g.R.Rules.config_of g.R.Rules.book c.loop-scene.scene) (shown_of g.R.Rules.part_of g.R.Rules.global_of g.R.Rules.kind_of g.R.Rules.config_of g.R.Rules.book c.run_frame.new.self)) c.loop-scene.invariant.rules c.in-Err.ensures.err);
     }
@@ -34,5 +35,6 @@ returns g c =
     let none : frames_left (shown_of g.R.Rules.part_of g.R.Rules.global_of g.R.Rules.kind_of g.R.Rules.config_of g.R.Rules.book c.loop-scene.scene) ≡ 0 = omega (arith, c.left.ensures, c.loop-scene-test.false) in
     record {
       rules = c.loop-scene.invariant.rules;
+      ready = c.loop-scene.invariant.ready;
       end = ended_all (g.R.Rules.book (rules_of c.args.scene.now)) (shown_of g.R.Rules.part_of g.R.Rules.global_of g.R.Rules.kind_of g.R.Rules.config_of g.R.Rules.book c.args.scene.now) (shown_of g.R.Rules.part_of g.R.Rules.global_of g.R.Rules.kind_of g.R.Rules.config_of g.R.Rules.book c.loop-scene.scene) c.loop-scene.invariant.going none;
     }

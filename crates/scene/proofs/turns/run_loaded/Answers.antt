@@ -1,6 +1,6 @@
 use Rattle.std.proofs.Common.{rules, refl, ◌≡◌, ◌∙◌, sym, ap, subst}
 use Rattle.std.specs.List.{All}
-use Rattle.scene_rules.specs.Laws.{IsLawful}
+use Rattle.scene_rules.specs.Lawful.{IsLawful}
 use Rattle.scene_rules.specs.Slots.{HoldsOnly}
 use Rattle.scene_rules.specs.Lending.{scene_in, IsSound}
 use Rattle.scene_document.specs.Loading.{order_in, commands_at, frames_in}

@@ -1,7 +1,7 @@
 use Rattle.std.proofs.Common.{arith, ◌≡◌, ◌<◌, ◌+◌, ◌-◌, ◌∷◌, Some, true, sym, ◌∙◌, ap, subst, length, map, drop}
 use Rattle.std.proofs.lemmas.Option.{same_Some}
 use Rattle.scene_rules.specs.Commands.{refs_live}
-use Rattle.scene_rules.specs.Laws.{IsKnownPart}
+use Rattle.scene_rules.specs.Lawful.{IsKnownPart}
 use Rattle.scene_rules.specs.Queues.{plain_entry}
 use Rattle.scene_commands.specs.Over.{left, set_part, with_spawned}
 use Rattle.scene_commands.proofs.ChangeLemmas.{spawned-more}

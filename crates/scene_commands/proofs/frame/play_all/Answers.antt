@@ -3,7 +3,7 @@ use Rattle.std.proofs.lemmas.Bool.Decides.{nat_tests}
 use Rattle.std.proofs.lemmas.List.{length-map}
 use Rattle.std.specs.List.{flat_map}
 use Rattle.std.specs.BTreeMap.{values}
-use Rattle.scene_rules.specs.Laws.{IsLawful}
+use Rattle.scene_rules.specs.Lawful.{IsLawful}
 use Rattle.scene_rules.specs.Queues.{plain_command, plain_commands, waiting}
 use Rattle.scene_rules.specs.Commands.{play, played, skips_of}
 use Rattle.scene_rules.specs.Lending.{scene_in}

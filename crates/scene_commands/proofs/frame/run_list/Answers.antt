@@ -1,7 +1,7 @@
 use Rattle.std.proofs.Common.{◌≡◌, ◌+◌, ◌∷◌, [], sym, ◌∙◌, subst, length, take, drop, map, arith}
 use Rattle.std.proofs.lemmas.List.{length-map, take_all}
 use Rattle.std.proofs.lemmas.Grind.{common_steps}
-use Rattle.scene_rules.specs.Laws.{IsLawful}
+use Rattle.scene_rules.specs.Lawful.{IsLawful}
 use Rattle.scene_rules.specs.Queues.{plain_command, plain_commands}
 use Rattle.scene_commands.specs.Over.{scene_over}
 use Rattle.scene_commands.specs.Ran.{RunsTo, RunRefused}

@@ -3,7 +3,7 @@ use Rattle.std.proofs.lemmas.List.{length-map, append-nil}
 use Rattle.std.proofs.lemmas.Grind.{flat_map-append}
 use Rattle.std.specs.List.{flat_map}
 use Rattle.scene_rules.specs.Rulebook as plain
-use Rattle.scene_rules.specs.Laws.{IsLawful}
+use Rattle.scene_rules.specs.Lawful.{IsLawful}
 use Rattle.scene_rules.specs.Queues.{plain_command, plain_commands, waiting}
 use Rattle.scene_commands.specs.Over.{scene_over}
 use Rattle.scene_commands.specs.Together.{of_queue}

@@ -1,8 +1,9 @@
-use Rattle.std.proofs.Common.{◌≡◌, Some, Ok, sym, ap, ◌∙◌, subst}
+use Rattle.std.proofs.Common.{◌≡◌, ℕ, List, Some, Ok, sym, ap, ◌∙◌, subst}
+use Rattle.scene.specs.Outcomes.{IsNoDocument, bounds_of}
 use Rattle.scene_draft.specs.Texts.{json_of, scene_json}
 use Rattle.scene_document.specs.Documents.{document_from}
 use Rattle.scene_document.specs.Loading.{loaded_scene}
-use Rattle.scene_laws.proofs.ReadyLemmas.{if_opened, read-again}
+use Rattle.scene_laws.proofs.ReadyLemmas.{if_opened, if_refused, refused-alike, read-again}
 use Rattle.scene_laws.proofs.printed.print_and_load.Goals as goal
 
 pub returns-clause-same : goal.returns-clause-same
@@ -17,7 +18,18 @@ returns-clause-same g c =
     let json : opened.0 ≡ scene_json book scene = c.in-Ok.ensures.reads.only opened.0 text in
     let document = opened.2.document in
     let made : document_from book indices (scene_json book scene) ≡ Ok document.0 =
-    subst (λ one. document_from (g.R.Rules.book one) indices (scene_json book scene) ≡ Ok document.0) c.requires.rules (ap (document_from (g.R.Rules.book c.args.rules) indices) (sym json) ∙ document.1) in
+    sym (c.requires.book indices (scene_json book scene)) ∙ (ap (document_from (g.R.Rules.book c.args.rules) indices) (sym json) ∙ document.1) in
     ap (λ shown. shown.scene) document.2
     ∙ read-again g.R.Rules.part_of g.R.Rules.global_of book loaded.next loaded.ids.items loaded.columns c.requires.ready.sound (g.met.R.Rules.reads_back rules) (g.met.R.Rules.global_reads_back rules) (g.met.R.Rules.kinds_ascend rules) (g.met.R.Rules.globals_ascend rules) indices document.0 made)
+    c.open.ensures
+
+pub returns-clause-err : goal.returns-clause-err
+returns-clause-err g c =
+    let bounds = bounds_of c.args.limits in
+    let scene = c.args.scene.now in
+    let text = c.in-Ok.text.items in
+    let same = c.as_slice.ensures.value ∙ c.in-Ok.ensures.text in
+    if_refused c.open.result _ (IsNoDocument (g.R.Rules.book c.args.rules) bounds c.as_slice.result.now) _
+    (λ error not. subst (λ (bytes : List ℕ). IsNoDocument (g.R.Rules.book scene.rules) bounds bytes error) same
+    (refused-alike (g.R.Rules.book c.args.rules) (g.R.Rules.book scene.rules) c.requires.book bounds c.as_slice.result.now error not))
     c.open.ensures

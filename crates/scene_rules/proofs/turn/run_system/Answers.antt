@@ -1,7 +1,7 @@
 use Rattle.std.proofs.Common.{◌≡◌, ℕ, ap, subst, sym, ◌∙◌, option_map}
 use Rattle.scene_rules.specs.Rulebook.{leaves}
 use Rattle.scene_rules.specs.Queues.{waiting, plain_commands}
-use Rattle.scene_rules.specs.Scenes.{RefsLive, PartsAdmitted, with_left}
+use Rattle.scene_rules.specs.Scenes.{RefsLive, PartsAdmitted, IsLawfullyLeft, with_left}
 use Rattle.scene_rules.specs.Lending.{scene_in, system_in, PutsBack}
 use Rattle.scene_rules.specs.Lent.{kinds, globals, shown, lent, access_of, texts, datum, value}
 use Rattle.scene_rules.proofs.FragmentLemmas.{admitted-lent, living-lent, stop_refused, put_scene, admitted-left, living-left}
@@ -37,6 +37,13 @@ pub returns-clause-turn : goal.returns-clause-turn
 returns-clause-turn g c = λ next. (
   lent g.R.Rules.part_of g.R.Rules.global_of c.run.new.view,
   subst (λ f. (g.R.Rules.book c.args.rules.now).meets (g.R.Rules.kind_of c.args.placed.now.system) (g.R.Rules.config_of c.args.placed.now.system) f (leaves (lent g.R.Rules.part_of g.R.Rules.global_of c.run.new.view) (plain_commands g.R.Rules.part_of (waiting c.run.new.queue)))) (c.in-Ok.ensures.lent next) c.in-Ok-run.ensures.meets,
+  subst (λ f. IsLawfullyLeft (g.R.Rules.book c.args.rules.now) f (lent g.R.Rules.part_of g.R.Rules.global_of c.run.new.view) (plain_commands g.R.Rules.part_of (waiting c.run.new.queue))) (c.in-Ok.ensures.lent next) (record {
+    ids = c.in-Ok-run.ensures.loan.same_ids;
+    living = c.in-Ok-run.ensures.living;
+    admitted = c.in-Ok-run.ensures.admitted;
+    valued = c.in-Ok-run.ensures.valued;
+    known = c.in-Ok-run.ensures.lawful;
+  }),
   put g c next,
 )
 

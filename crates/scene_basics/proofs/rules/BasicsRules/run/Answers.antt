@@ -1,13 +1,14 @@
 use Rattle.std.proofs.Common.{Some}
 use Rattle.std.specs.List.{All}
-use Rattle.scene_rules.specs.Laws.{IsStopOf, IsLawful}
+use Rattle.scene_rules.specs.Laws.{IsStopOf}
+use Rattle.scene_rules.specs.Lawful.{IsLawful}
 use Rattle.scene_rules.specs.Queues.{waiting, plain_commands}
 use Rattle.scene_rules.specs.Rulebook.{leaves}
-use Rattle.scene_rules.specs.Scenes.{RefsLive, PartsAdmitted}
+use Rattle.scene_rules.specs.Scenes.{RefsLive, PartsAdmitted, KeepsValues}
 use Rattle.scene_basics.specs.Numbers.{part_of}
 use Rattle.scene_basics.specs.Gains.{fragment_of}
 use Rattle.scene_basics.specs.Systems.{basics, Makes}
-use Rattle.scene_basics.proofs.GainLemmas.{Makes-admitted, Makes-living, Makes-lawful, of_turn}
+use Rattle.scene_basics.proofs.GainLemmas.{Makes-admitted, Makes-living, Makes-valued, Makes-lawful, of_turn}
 use Rattle.scene_basics.proofs.rules.BasicsRules.run.Goals as goal
 
 pub returns-clause-admitted : goal.returns-clause-admitted
@@ -25,6 +26,14 @@ returns-clause-living g c =
     let new = fragment_of c.turn.new.view in
     let commands = plain_commands part_of (waiting c.turn.new.queue) in
     of_turn c.turn.result (Makes (Some system) old (leaves new commands)) (IsStopOf (Makes (Some system) old) commands) (RefsLive new.ids new.part) (λ made. Makes-living system old new commands made c.requires.living) c.turn.ensures.turn
+
+pub returns-clause-valued : goal.returns-clause-valued
+returns-clause-valued g c =
+    let system = c.args.system.now in
+    let old = fragment_of c.args.view.now in
+    let new = fragment_of c.turn.new.view in
+    let commands = plain_commands part_of (waiting c.turn.new.queue) in
+    of_turn c.turn.result (Makes (Some system) old (leaves new commands)) (IsStopOf (Makes (Some system) old) commands) (KeepsValues old new) (λ made. Makes-valued system old new commands made) c.turn.ensures.turn
 
 pub returns-clause-lawful : goal.returns-clause-lawful
 returns-clause-lawful g c =
