@@ -18,8 +18,14 @@ const DISPATCHES: u32 = 100;
 /// How many rounds a system of small work has.
 const SMALL: u32 = 1;
 
+/// How many rounds a system of middling work has.
+const MIDDLE: u32 = 10_000;
+
 /// How many rounds a system of large work has.
 const LARGE: u32 = 1_000_000;
+
+/// How many stages a chain of them has.
+const LAYERS: u32 = 16;
 
 /// The time that is said of a system.
 fn time_of(number: u32) -> RunningTime {
@@ -56,6 +62,32 @@ fn stages_of(
                 rounds,
             };
             let _ = stages.insert(mixer, Vec::new(alloc))?;
+        }
+    }
+    Ok(stages)
+}
+
+/// So many stages of so many groups: each system writes the id of its group, and comes after the one of that group in the stage before.
+fn chain_of(
+    alloc: Global,
+    layers: u32,
+    groups: u32,
+    rounds: u32,
+) -> Result<StagesBuilder<Value, Mixer>, AllocError> {
+    let mut stages = StagesBuilder::new(alloc);
+    for number in 0..layers.saturating_mul(groups) {
+        if stages.len() < 65_536 {
+            let mixer = Mixer {
+                id: id_of(number, groups),
+                amount: u64::from(number) + 1,
+                time: RunningTime::Average,
+                rounds,
+            };
+            let mut after = Vec::new(alloc);
+            if number >= groups {
+                after.push(number - groups)?;
+            }
+            let _ = stages.insert(mixer, after)?;
         }
     }
     Ok(stages)
@@ -130,6 +162,27 @@ fn print_stage<R: Print + AllocGlobal + Threads + Wait + Sync>(
     Ok(())
 }
 
+/// Prints what dispatches of a chain of stages leave, with so many workers.
+fn print_chain<R: Print + AllocGlobal + Threads + Wait + Sync>(
+    rt: &R,
+    groups: u32,
+    workers: usize,
+) -> io::Result<()> {
+    let mut stages = chain_of(rt.alloc(), LAYERS, groups, 1)?;
+    let mut world = world_of(rt.alloc(), groups)?;
+    let mut accepted = 0u32;
+    for _ in 0..3 {
+        if stages.execute(rt, workers, &mut world).is_ok() {
+            accepted = accepted.saturating_add(1);
+        }
+    }
+    let checksum = checksum_of(&world, groups);
+    println!(rt;
+        "chain of {LAYERS} stages of {groups} groups, {workers} workers: {accepted} of 3, sum {checksum}"
+    )?;
+    Ok(())
+}
+
 /// The checksums.
 pub(crate) fn checksums<R: Print + AllocGlobal + Threads + Wait + Sync>(rt: &R) -> io::Result<()> {
     for systems in [1, 10, 100, 1000] {
@@ -149,6 +202,11 @@ pub(crate) fn checksums<R: Print + AllocGlobal + Threads + Wait + Sync>(rt: &R) 
             print_stage(rt, groups, workers, 1000)?;
         }
     }
+    for groups in [2, 4] {
+        for workers in [0, 1, 2, 4] {
+            print_chain(rt, groups, workers)?;
+        }
+    }
     Ok(())
 }
 
@@ -166,14 +224,15 @@ fn print_time<R: Print + AllocGlobal + Clock>(rt: &R, systems: u32, ids: u32) ->
     Ok(())
 }
 
-/// How many nanoseconds a dispatch of a stage takes, of so many groups, with so many workers.
-fn time_of_stage<R: AllocGlobal + Threads + Wait + Sync + Clock>(
+/// How many nanoseconds a dispatch of a chain of stages takes, of so many groups each, with so many workers.
+fn time_of_chain<R: AllocGlobal + Threads + Wait + Sync + Clock>(
     rt: &R,
+    layers: u32,
     groups: u32,
     workers: usize,
     rounds: u32,
 ) -> io::Result<u128> {
-    let mut stages = stages_of(rt.alloc(), groups, groups, rounds)?;
+    let mut stages = chain_of(rt.alloc(), layers, groups, rounds)?;
     let mut world = world_of(rt.alloc(), groups)?;
     let start = Instant::now(rt)?;
     for _ in 0..DISPATCHES {
@@ -182,18 +241,19 @@ fn time_of_stage<R: AllocGlobal + Threads + Wait + Sync + Clock>(
     Ok(start.elapsed(rt)?.as_nanos() / u128::from(DISPATCHES))
 }
 
-/// Prints the times of a dispatch of a stage with each number of workers, in hundredths of that on the caller's thread.
-fn print_stage_times<R: Print + AllocGlobal + Threads + Wait + Sync + Clock>(
+/// Prints the times of a dispatch of a chain of stages with each number of workers, in hundredths of that on the caller's thread.
+fn print_chain_times<R: Print + AllocGlobal + Threads + Wait + Sync + Clock>(
     rt: &R,
+    layers: u32,
     groups: u32,
     rounds: u32,
 ) -> io::Result<()> {
-    let alone = time_of_stage(rt, groups, 0, rounds)?;
+    let alone = time_of_chain(rt, layers, groups, 0, rounds)?;
     for workers in [0, 1, 2, 4] {
-        let taken = time_of_stage(rt, groups, workers, rounds)?;
+        let taken = time_of_chain(rt, layers, groups, workers, rounds)?;
         let ratio = taken.saturating_mul(100) / alone.max(1);
         println!(rt;
-            "stage of {groups} groups of {rounds} rounds, {workers} workers: {taken} ns, {ratio} % of the caller's thread"
+            "{layers} stages of {groups} groups of {rounds} rounds, {workers} workers: {taken} ns, {ratio} % of the caller's thread"
         )?;
     }
     Ok(())
@@ -204,8 +264,13 @@ pub(crate) fn times<R: Print + AllocGlobal + Threads + Wait + Sync + Clock>(
     rt: &R,
 ) -> io::Result<()> {
     for groups in [2, 4, 8] {
-        print_stage_times(rt, groups, SMALL)?;
-        print_stage_times(rt, groups, LARGE)?;
+        print_chain_times(rt, 1, groups, SMALL)?;
+        print_chain_times(rt, 1, groups, LARGE)?;
+    }
+    for groups in [2, 4] {
+        for rounds in [SMALL, MIDDLE, LARGE / 10] {
+            print_chain_times(rt, LAYERS, groups, rounds)?;
+        }
     }
     for systems in [1, 10, 100, 1000] {
         print_time(rt, systems, 1)?;

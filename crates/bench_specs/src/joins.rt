@@ -1,17 +1,18 @@
 //! Joins of two and of four storages.
-use crate::parts::{Heat, Mass, Numbered, Rank, Speed, empty, fill};
+use crate::parts::{Fuel, Heat, Mass, Numbered, Rank, Speed, empty, fill};
 use specs_join::Join;
 use specs_layouts::MaskedStorage;
 use std::alloc::{AllocError, Global};
 use std::io;
 use std::time::{Clock, Instant};
 
-/// Four storages: the first with a part at each index below an end, the others at every so manieth.
+/// Five storages: the first with a part at each index below an end, the others at every so manieth.
 #[derive(Drop)]
 struct Scene {
     masses: MaskedStorage<Mass>,
     speeds: MaskedStorage<Speed>,
     heats: MaskedStorage<Heat>,
+    fuels: MaskedStorage<Fuel>,
     ranks: MaskedStorage<Rank>,
 }
 
@@ -52,11 +53,13 @@ fn make_scene(alloc: Global, end: u32, step: u32) -> Result<Scene, AllocError> {
     let masses = filled(alloc, end, 1)?;
     let speeds = filled(alloc, end, step)?;
     let heats = filled(alloc, end, step)?;
+    let fuels = filled(alloc, end, step)?;
     let ranks = filled(alloc, end, step)?;
     Ok(Scene {
         masses,
         speeds,
         heats,
+        fuels,
         ranks,
     })
 }
@@ -70,7 +73,24 @@ fn join_two(scene: &Scene) -> Joined {
     joined
 }
 
-/// The join of all four storages.
+/// The join of four storages, of which none is a tree.
+fn join_four_flat(scene: &Scene) -> Joined {
+    let mut joined = Joined { count: 0, sum: 0 };
+    for (mass, speed, heat, fuel) in (
+        &scene.masses,
+        &scene.speeds,
+        &scene.heats,
+        &scene.fuels,
+    ).join()
+    {
+        let first = u64::from(mass.number()) + u64::from(speed.number());
+        let second = u64::from(heat.number()) + u64::from(fuel.number());
+        joined.add(first + second);
+    }
+    joined
+}
+
+/// The join of four storages, of which the last is a tree.
 fn join_four(scene: &Scene) -> Joined {
     let mut joined = Joined { count: 0, sum: 0 };
     for (mass, speed, heat, rank) in (
@@ -92,7 +112,9 @@ fn check<R: Print>(rt: &R, scene: &Scene, step: u32) -> io::Result<()> {
     let Joined { count, sum } = join_two(scene);
     println!(rt; "join of two, every {step} of 1000: {count} items, sum {sum}")?;
     let Joined { count, sum } = join_four(scene);
-    println!(rt; "join of four, every {step} of 1000: {count} items, sum {sum}")
+    println!(rt; "join of four, every {step} of 1000: {count} items, sum {sum}")?;
+    let Joined { count, sum } = join_four_flat(scene);
+    println!(rt; "join of four without a tree, every {step} of 1000: {count} items, sum {sum}")
 }
 
 /// Lines of checksums, with all, a tenth and a hundredth of 1000 entities in both or in all four.
@@ -120,8 +142,11 @@ fn time<R: Clock + Print>(rt: &R, scene: &Scene, end: u32, step: u32) -> io::Res
     let start = Instant::now(rt)?;
     let items = join_four(scene).count;
     let four = each(rt, start, items)?;
+    let start = Instant::now(rt)?;
+    let items = join_four_flat(scene).count;
+    let flat = each(rt, start, items)?;
     println!(rt;
-        "joins, every {step} of {end}: {items} items, of two {two} ns each, of four {four} ns each"
+        "joins, every {step} of {end}: {items} items, of two {two} ns each, of four {four} ns each, without a tree {flat} ns each"
     )
 }
 

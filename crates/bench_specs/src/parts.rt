@@ -52,6 +52,24 @@ impl Numbered for Speed {
     }
 }
 
+/// A second kind of part in a `DenseVecStorage`.
+#[derive(Drop)]
+pub struct Fuel(u32);
+
+impl Component for Fuel {
+    type Storage = DenseVecStorage<Fuel>;
+}
+
+impl Numbered for Fuel {
+    fn made(number: u32) -> Fuel {
+        Fuel(number)
+    }
+
+    fn number(&self) -> u32 {
+        self.0
+    }
+}
+
 /// A part in a `DefaultVecStorage`.
 #[derive(Default, Drop)]
 pub struct Heat(u32);

@@ -1,12 +1,12 @@
 -- Facts on loads that are taken out of their slots and put back.
-use Rattle.std.proofs.Common.{◌≡◌, ℕ, ◌<◌, zero, suc, List, [], ◌∷◌, ◌++◌, length, map, get_or, set, take, drop, refl, ap, ap₂, sym, ◌∙◌, subst, arith, Bool, true, false, Option, Some, None, append_assoc, append-nil}
+use Rattle.std.proofs.Common.{◌≡◌, ℕ, ◌<◌, ◌≤◌, zero, suc, List, [], ◌∷◌, ◌++◌, length, map, get_or, set, refl, ap, sym, ◌∙◌, subst, arith, Option, Some, None, append_assoc, append-nil, vec_capacity}
 use Rattle.std.specs.Global.{Vec}
 use Rattle.std.specs.List.{AllZip, Contains}
 use Rattle.std.proofs.lemmas.Grind.{flat_map-append}
-use Rattle.std.proofs.lemmas.List.{drop_all, take_all, length-map}
+use Rattle.std.proofs.lemmas.List.{length-map}
 use Rattle.shred_crew.specs.declared.numbered.Numbered.{Numbered}
-use Rattle.shred_crew.specs.Loads.{Works}
-use Rattle.shred_crew.specs.Deals.{lists, put_at, slot_at, numbered, vacated, standing, with_load, returned, loads_in, all_of}
+use Rattle.shred_crew.specs.Deals.{lists, put_at, slot_at, numbered, vacated, standing, with_load, returned, loads_in, all_of, AreRoomy, AreEmpty, KeepTheirRoom, IsWorkedOn}
+use Rattle.shred_crew.specs.Lines.{AreWorkedOn}
 
 pub length-set : {A : Type 0} (xs : List A) (i : ℕ) (a : A) → length (set xs i a) ≡ length xs
 length-set [] i a = refl
@@ -114,10 +114,6 @@ Alike does (Some load) (Some after) = does load after
 Alike does None (Some after) = ⊥
 Alike does (Some load) None = ⊥
 
--- a load was worked on, and has its number still
-abbrev pub Worked : {A : Type 0} → (A → A → Type 0) → Numbered A → Numbered A → Type 0
-Worked does before after = (after.number ≡ before.number) × does before.load after.load
-
 module _ {A : Type 0} (does : A → A → Type 0) where
   slot-alike : (slots after : List (Option A)) (number : ℕ) → AllZip (Alike does) slots after → Alike does (slot_at slots number) (slot_at after number)
   slot-alike [] [] number all = _
@@ -133,7 +129,7 @@ module _ {A : Type 0} (does : A → A → Type 0) where
   set-alike (a ∷ slots) (b ∷ after) zero x y one all = (one, all.1)
   set-alike (a ∷ slots) (b ∷ after) (suc number) x y one all = (all.0, set-alike slots after number x y one all.1)
 
-  put-alike : (one other : Numbered A) (slot slot_after : Option A) (slots after : List (Option A)) → Worked does one other → Alike does slot slot_after → AllZip (Alike does) slots after → AllZip (Alike does) (with_load one slot slots) (with_load other slot_after after)
+  put-alike : (one other : Numbered A) (slot slot_after : Option A) (slots after : List (Option A)) → IsWorkedOn does one other → Alike does slot slot_after → AllZip (Alike does) slots after → AllZip (Alike does) (with_load one slot slots) (with_load other slot_after after)
   put-alike one other None None slots after worked alike all =
       subst (λ n. AllZip (Alike does) (set slots one.number (Some one.load)) (set after n (Some other.load))) (sym worked.0) (set-alike slots after one.number (Some one.load) (Some other.load) worked.1 all)
   put-alike one other None (Some y) slots after worked alike all = absurd alike
@@ -141,7 +137,7 @@ module _ {A : Type 0} (does : A → A → Type 0) where
   put-alike one other (Some x) (Some y) slots after worked alike all = all
 
   -- loads that were worked on, put back into slots that are alike
-  returned-alike : (loads others : List (Numbered A)) (slots after : List (Option A)) → AllZip (Worked does) loads others → AllZip (Alike does) slots after → AllZip (Alike does) (returned loads slots) (returned others after)
+  returned-alike : (loads others : List (Numbered A)) (slots after : List (Option A)) → AllZip (IsWorkedOn does) loads others → AllZip (Alike does) slots after → AllZip (Alike does) (returned loads slots) (returned others after)
   returned-alike [] [] slots after worked all = all
   returned-alike [] (y ∷ others) slots after worked all = absurd worked
   returned-alike (x ∷ loads) [] slots after worked all = absurd worked
@@ -162,40 +158,54 @@ module _ {A : Type 0} (does : A → A → Type 0) where
   in-alike (x ∷ loads) (Some y ∷ after) all = (all.0, in-alike loads after all.1)
 
   -- the rows' loads, one after the other
-  rows-worked : (rows after : List (Vec (Numbered A))) → AllZip (λ row others. AllZip (Worked does) row.items others.items) rows after → AllZip (Worked does) (all_of rows) (all_of after)
+  rows-worked : (rows after : List (Vec (Numbered A))) → AllZip (λ row others. AllZip (IsWorkedOn does) row.items others.items) rows after → AllZip (IsWorkedOn does) (all_of rows) (all_of after)
   rows-worked [] [] all = _
   rows-worked [] (y ∷ after) all = absurd all
   rows-worked (x ∷ rows) [] all = absurd all
   rows-worked (x ∷ rows) (y ∷ after) all = both x.items y.items (all_of rows) (all_of after) all.0 (rows-worked rows after all.1)
     where
-      both : (xs ys more others : List (Numbered A)) → AllZip (Worked does) xs ys → AllZip (Worked does) more others → AllZip (Worked does) (xs ++ more) (ys ++ others)
+      both : (xs ys more others : List (Numbered A)) → AllZip (IsWorkedOn does) xs ys → AllZip (IsWorkedOn does) more others → AllZip (IsWorkedOn does) (xs ++ more) (ys ++ others)
       both [] [] more others a b = b
       both [] (y ∷ ys) more others a b = absurd a
       both (x ∷ xs) [] more others a b = absurd a
       both (x ∷ xs) (y ∷ ys) more others a b = (a.0, both xs ys more others a.1 b)
 
-in-all : {A : Type 0} (loads : List A) → loads_in (map Some loads) ≡ loads
-in-all [] = refl
-in-all (x ∷ loads) = ap (λ list. x ∷ list) (in-all loads)
-
-rows-same : {T : Type 0} (rows after : List (Vec T)) → AllZip (λ row others. others.items ≡ row.items) rows after → all_of after ≡ all_of rows
-rows-same [] [] all = refl
-rows-same [] (y ∷ after) all = absurd all
-rows-same (x ∷ rows) [] all = absurd all
-rows-same (x ∷ rows) (y ∷ after) all = ap₂ (λ one others. one ++ others) all.0 (rows-same rows after all.1)
-
--- loads that were dealt to rows by their numbers, worked on there or not, and put back
-pub worked : {A : Type 0} (does : A → A → Type 0) (opens : Bool) (numbers : List ℕ) (loads : List A) (rows after : List (Vec (Numbered A))) → ((number : ℕ) → number < length loads → Contains numbers number)
-    → all_of rows ≡ standing numbers (map Some loads) → AllZip (λ row others. Works (Worked does) opens row.items others.items) rows after
-    → Works does opens loads (loads_in (returned (all_of after) (vacated numbers (map Some loads))))
-worked does true numbers loads rows after has dealt all =
+-- loads that were dealt to rows by their numbers, worked on there, and put back
+pub worked : {A : Type 0} (does : A → A → Type 0) (numbers : List ℕ) (loads : List A) (rows after : List (Vec (Numbered A))) → ((number : ℕ) → number < length loads → Contains numbers number)
+    → all_of rows ≡ standing numbers (map Some loads) → AllZip (λ row others. AllZip (IsWorkedOn does) row.items others.items) rows after
+    → AllZip does loads (loads_in (returned (all_of after) (vacated numbers (map Some loads))))
+worked does numbers loads rows after has dealt all =
     let slots = map Some loads in
     let left = vacated numbers slots in
     let none = empty-alike does left (λ n h. named-empty numbers slots n (has n (let long = vacated-length numbers slots ∙ length-map loads Some in omega (arith, h, long)))) in
     let alike = returned-alike does (all_of rows) (all_of after) left left (rows-worked does rows after all) none in
     let back : returned (all_of rows) left ≡ slots = ap (λ list. returned list left) dealt ∙ all-back numbers slots in
     in-alike does loads (returned (all_of after) left) (subst (λ list. AllZip (Alike does) list (returned (all_of after) left)) back alike)
-worked does false numbers loads rows after has dealt all =
-    let slots = map Some loads in
-    let left = vacated numbers slots in
-    ap loads_in (ap (λ list. returned list left) (rows-same rows after all ∙ dealt) ∙ all-back numbers slots) ∙ in-all loads
+
+-- rows whose loads were worked on
+pub only-worked : {T : Type 0} (does : T → T → Type 0) (rows after : List (Vec T)) → AreWorkedOn does rows after → AllZip (λ row one. AllZip does row.items one.items) rows after
+only-worked does [] [] all = _
+only-worked does [] (y ∷ after) all = absurd all
+only-worked does (x ∷ rows) [] all = absurd all
+only-worked does (x ∷ rows) (y ∷ after) all = (all.0.0, only-worked does rows after all.1)
+
+pub keep-room : {T : Type 0} (does : T → T → Type 0) (rows after : List (Vec T)) → AreWorkedOn does rows after → KeepTheirRoom rows after
+keep-room does [] [] all = _
+keep-room does [] (y ∷ after) all = absurd all
+keep-room does (x ∷ rows) [] all = absurd all
+keep-room does (x ∷ rows) (y ∷ after) all = (all.0.1, keep-room does rows after all.1)
+
+-- rows that were dealt to, worked on and emptied have room still
+pub still-roomy : {T : Type 0} (shares : List (Vec ℕ)) (rows dealt done after : List (Vec T)) → AreRoomy shares rows → KeepTheirRoom rows dealt → KeepTheirRoom dealt done → KeepTheirRoom done after → AreEmpty after → AreRoomy shares after
+still-roomy [] [] [] [] [] roomy a b c empty = _
+still-roomy [] [] [] [] (y ∷ after) roomy a b c empty = absurd c
+still-roomy [] [] [] (y ∷ done) after roomy a b c empty = absurd b
+still-roomy [] [] (y ∷ dealt) done after roomy a b c empty = absurd a
+still-roomy [] (x ∷ rows) dealt done after roomy a b c empty = absurd roomy
+still-roomy (share ∷ shares) [] dealt done after roomy a b c empty = absurd roomy
+still-roomy (share ∷ shares) (x ∷ rows) [] done after roomy a b c empty = absurd a
+still-roomy (share ∷ shares) (x ∷ rows) (d ∷ dealt) [] after roomy a b c empty = absurd b
+still-roomy (share ∷ shares) (x ∷ rows) (d ∷ dealt) (e ∷ done) [] roomy a b c empty = absurd c
+still-roomy (share ∷ shares) (x ∷ rows) (d ∷ dealt) (e ∷ done) (y ∷ after) roomy a b c empty =
+    let same : vec_capacity y ≡ vec_capacity x = c.0 ∙ b.0 ∙ a.0 in
+    ((empty.0, subst (λ n. length share.items ≤ n) (sym same) roomy.0.1), still-roomy shares rows dealt done after roomy.1 a.1 b.1 c.1 empty.1)

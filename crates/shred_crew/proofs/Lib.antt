@@ -1,6 +1,7 @@
-pub mod CutRows
-pub mod ShareLemmas
-pub mod CutLemmas
-pub mod ZipLemmas
-pub mod DealLemmas
 pub mod CallerLemmas
+pub mod CutLemmas
+pub mod CutRows
+pub mod DealLemmas
+pub mod LineLemmas
+pub mod ShareLemmas
+pub mod ZipLemmas

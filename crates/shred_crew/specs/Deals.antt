@@ -54,3 +54,21 @@ all_of rows = flat_map (λ row. row.items) rows
 -- an empty row for each share, with room for it
 abbrev pub AreRoomy : {T : Type 0} → List (Vec ℕ) → List (Vec T) → Type 0
 AreRoomy shares rows = AllZip (λ share row. (row.items ≡ []) × (length share.items ≤ vec_capacity row)) shares rows
+
+-- rows without a load
+abbrev pub AreEmpty : {T : Type 0} → List (Vec T) → Type 0
+AreEmpty [] = Unit {0}
+AreEmpty (row ∷ rows) = (row.items ≡ []) × AreEmpty rows
+
+-- each row has the room that it had
+abbrev pub KeepTheirRoom : {T : Type 0} → List (Vec T) → List (Vec T) → Type 0
+KeepTheirRoom rows after = AllZip (λ row one. vec_capacity one ≡ vec_capacity row) rows after
+
+-- so many loads, and the numbers of those of each worker
+pub record Sharing : Type 0 where
+  pub count : ℕ
+  pub shares : List (List ℕ)
+
+-- a load was worked on, and has its number still
+abbrev pub IsWorkedOn : {A : Type 0} → (A → A → Type 0) → Numbered A → Numbered A → Type 0
+IsWorkedOn does before after = (after.number ≡ before.number) × does before.load after.load

@@ -1,3 +1,3 @@
-pub mod Loads
 pub mod Deals
 pub mod Cuts
+pub mod Lines

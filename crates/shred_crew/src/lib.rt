@@ -1,15 +1,20 @@
-//! Loads that threads work on: each of them, or none.
+//! Loads cut into shares, and threads that stand by to work on them.
 #![tactic(auto)]
 
 mod crew;
 mod cutting;
 mod deal;
-mod dealt;
-mod gate;
 mod gather;
+mod line;
 mod load;
 mod numbered;
+mod room;
+mod seat;
+mod shift;
+mod worker;
 
+pub use crew::Crew;
 pub use cutting::cut;
-pub use dealt::{Refused, Want, work_dealt};
 pub use load::Load;
+pub use room::Room;
+pub use shift::{Shift, Unmanned, Want, with_crew};

@@ -13,12 +13,6 @@ impl<C, T: Load<C>> Load<C> for Numbered<T> {
 
     ghost does = { λ shared before after. (after.number ≡ before.number) × T.does shared before.load after.load };
 
-    ghost said_time = { λ one. T.said_time one.load };
-
-    fn time(&self) -> u32 {
-        self.load.time()
-    }
-
     fn work<H: AllocGlobal>(&mut self, rt: &H, shared: &C) {
         self.load.work(rt, shared);
     }

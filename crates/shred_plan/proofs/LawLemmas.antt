@@ -104,7 +104,7 @@ or-parts false b e = (refl, e)
 or-none : (a b : Bool) → a ≡ false → b ≡ false → (a || b) ≡ false
 or-none a b e f = rw (e, f) refl
 
-count-none : {A : Type 0} (p : A → Bool) (xs : List A) → count_by p xs ≡ 0 → list_any p xs ≡ false
+pub count-none : {A : Type 0} (p : A → Bool) (xs : List A) → count_by p xs ≡ 0 → list_any p xs ≡ false
 count-none p [] e = refl
 count-none p (x ∷ xs) e = by (p x) (sym (sum_by-cons (λ y. cond (p y) 1 0) x xs) ∙ e) (count-none p xs)
   where

@@ -7,3 +7,10 @@ pub mod LawLemmas
 pub mod StayLemmas
 pub mod WaitLemmas
 pub mod CallerLemmas
+pub mod StageSetLemmas
+pub mod TableLemmas
+pub mod IndexLemmas
+pub mod WayLemmas
+pub mod FirstLemmas
+pub mod LongestLemmas
+pub mod KeepLemmas

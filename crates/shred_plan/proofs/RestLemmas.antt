@@ -1,7 +1,8 @@
 -- Facts on lists of numbers from which one is taken out.
-use Rattle.std.proofs.Common.{◌+◌, ◌≤◌, false, Bool, true, ◌≢◌, eq-eqb, ne_eqb, ◌≡◌, ℕ, ◌<◌, zero, suc, List, [], ◌∷◌, length, get_or, refl, ap, arith}
-use Rattle.std.specs.List.{remove}
-use Rattle.std.specs.Prelude.{if◌then◌else◌, ◌==◌}
+use Rattle.std.proofs.Common.{◌+◌, ◌≤◌, false, Bool, true, ◌≢◌, eq-eqb, ne_eqb, ◌≡◌, ℕ, ◌<◌, zero, suc, List, [], ◌∷◌, length, get_or, refl, ap, sym, ◌∙◌, arith}
+use Rattle.std.specs.List.{remove, list_any}
+use Rattle.std.proofs.lemmas.Bool.{or_parts, eqb-false, and_right, le-ltb}
+use Rattle.std.specs.Prelude.{if◌then◌else◌, ◌==◌, ◌&&◌, nat_lt}
 use Rattle.shred_plan.specs.Plan.{Placing, without, rest_after, completes}
 
 -- where a number stands, and not before, is the place that is taken out
@@ -32,3 +33,24 @@ length-rest (one ∷ systems) rest = omega (arith, length-without rest one.numbe
 -- a group doesn't complete a longer list
 pub completes-longer : {Id : Type 0} (group : List (Placing Id)) (rest : List ℕ) → length group < length rest → completes rest group ≡ false
 completes-longer group rest h = rw (ne_eqb (length (rest_after rest group)) 0 (λ e. omega (arith, length-rest group rest))) refl
+
+-- a number that no system of a group has stays
+rest-stays : {Id : Type 0} (group : List (Placing Id)) (number : ℕ) (rest : List ℕ) → list_any (λ system. system.number == number) group ≡ false → rest_after (number ∷ rest) group ≡ number ∷ rest_after rest group
+rest-stays [] number rest e = refl
+rest-stays (one ∷ group) number rest e =
+    let both = or_parts (one.number == number) (list_any (λ system. system.number == number) group) e in
+    ap (λ b. rest_after (if b then rest else number ∷ without rest one.number) group) (ne_eqb number one.number (λ q. eqb-false one.number number both.0 (sym q)))
+    ∙ rest-stays group number (without rest one.number) both.1
+
+-- a group that doesn't have the first doesn't complete the list, and none completes an empty one
+pub completes-missing : {Id : Type 0} (group : List (Placing Id)) (rest : List ℕ) (first : ℕ) → 0 < length rest → first ≡ get_or rest 0 first → list_any (λ system. system.number == first) group ≡ false → completes rest group ≡ false
+completes-missing group [] first h read e = absurd (omega arith)
+completes-missing group (number ∷ rest) first h read e =
+    let gone : list_any (λ system. system.number == number) group ≡ false = ap (λ n. list_any (λ system. system.number == n) group) (sym read) ∙ e in
+    ap (λ list. (length list == 0) && nat_lt (length list) (suc (length rest))) (rest-stays group number rest gone)
+    ∙ ap (λ b. b && nat_lt (suc (length (rest_after rest group))) (suc (length rest))) (ne_eqb (suc (length (rest_after rest group))) 0 (λ q. omega arith))
+
+pub completes-nothing : {Id : Type 0} (group : List (Placing Id)) (rest : List ℕ) → length rest ≡ 0 → completes rest group ≡ false
+completes-nothing group rest e =
+    ap (λ n. (length (rest_after rest group) == 0) && nat_lt (length (rest_after rest group)) n) e
+    ∙ and_right (length (rest_after rest group) == 0) (nat_lt (length (rest_after rest group)) 0) (le-ltb (length (rest_after rest group)) 0 (omega arith))

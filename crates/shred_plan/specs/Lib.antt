@@ -2,3 +2,5 @@ pub mod Plan
 pub mod PlanText
 pub mod Places
 pub mod Laws
+pub mod Index
+pub mod Kept

@@ -1,9 +1,10 @@
 //! What the planner is told of a system.
-ghost use Rattle.std.specs.Prelude.{◌≡◌, ◌≤◌, ℕ};
+ghost use Rattle.std.specs.Prelude.{◌≡◌, ◌≤◌, ℕ, IfOk};
 ghost use Rattle.std.specs.List.{list_any};
 ghost use Rattle.shred_plan.specs.Plan.{units_of, share, touches, conflict};
 
 use crate::RunningTime;
+use std::alloc::{AllocError, Global};
 use std::marker::Model;
 
 /// A system as the planner sees it: its number, the ids that it reads and writes, the numbers of those that it comes after,
@@ -45,6 +46,23 @@ impl<K: PartialEq + Drop> Adding<K> {
             after,
             time,
         }
+    }
+
+    /// The same system once more.
+    ///
+    /// Errors: want of memory.
+    pub fn copied(&self, alloc: Global) -> Result<Adding<K>, AllocError>
+    where
+        K: Copy,
+        ensures { IfOk result (λ copy. copy ≡ self.now) }
+    {
+        Ok(Adding {
+            number: self.number,
+            reads: Vec::from_slice(alloc, self.reads())?,
+            writes: Vec::from_slice(alloc, self.writes())?,
+            after: Vec::from_slice(alloc, self.after())?,
+            time: self.time,
+        })
     }
 
     /// The number that it was given.

@@ -1,6 +1,6 @@
 //! Systems that run one after another.
-ghost use Rattle.std.specs.Prelude.{◌≡◌, ◌≤◌, ◌<◌, ℕ, [], ◌∷◌, ◌++◌, length, map, OnOk, OnErr, IfOk, IfErr};
-ghost use Rattle.std.specs.List.{remove};
+ghost use Rattle.std.specs.Prelude.{◌≡◌, ◌==◌, false, ◌≤◌, ◌<◌, ℕ, [], ◌∷◌, ◌++◌, length, map, OnOk, OnErr, IfOk, IfErr};
+ghost use Rattle.std.specs.List.{remove, list_any};
 ghost use Rattle.std.specs.Option.{MatchOption};
 ghost use Rattle.shred_plan.specs.Plan.{hits, time_of, rest_after, without, completes};
 
@@ -109,11 +109,31 @@ impl<K: PartialEq + Drop> Group<K> {
         }
     }
 
+    /// Whether it has the first number of a list.
+    fn has_first(&self, rest: &[u32]) -> bool
+        ensures { result ≡ false → completes rest.now self.now ≡ false }
+    {
+        match rest.first() {
+            Some(first) => self.has_number(*first),
+            None => false,
+        }
+    }
+
+    /// Whether one of its systems has a number.
+    fn has_number(&self, number: u32) -> bool
+        ensures { result ≡ list_any (λ system. system.number == number) self.now }
+    {
+        self.systems.iter().any(|system| system.number() == number)
+    }
+
     /// Whether the list isn't empty and is so without one occurrence of each system's number.
     pub(crate) fn completes(&self, alloc: Global, rest: &[u32]) -> Result<bool, AllocError>
         ensures { IfOk result (λ answer. answer ≡ completes rest.now self.now) }
     {
         if rest.len() > self.len() {
+            return Ok(false);
+        }
+        if !self.has_first(rest) {
             return Ok(false);
         }
         let mut left = Vec::from_slice(alloc, rest)?;

@@ -6,11 +6,14 @@
 #![tactic(auto)]
 
 mod adding;
+mod firsts;
 mod group;
+mod index;
 pub mod laws;
 mod planner;
 mod running_time;
 mod stage;
+mod stage_set;
 mod text;
 
 pub use adding::Adding;

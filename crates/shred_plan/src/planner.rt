@@ -1,8 +1,13 @@
 //! The plan of the systems that were added.
-ghost use Rattle.std.specs.Prelude.{◌≡◌, ◌==◌, ◌-◌, ◌≤◌, ◌<◌, ℕ, [], ◌∷◌, ◌++◌, length, map, OnOk, OnErr, IfOk, IfErr, if◌then◌else◌, Some, None};
+ghost use Rattle.std.specs.Prelude.{◌≡◌, ◌==◌, ◌-◌, ◌≤◌, ◌<◌, ℕ, true, false, min, [], ◌∷◌, ◌++◌, length, map, nat_eq, OnOk, OnErr, IfOk, IfErr, if◌then◌else◌, Some, None};
+ghost use Rattle.std.specs.List.{IsDistinct};
+ghost use Rattle.std.specs.Option.{IfSome};
 ghost use Rattle.shred_plan.specs.Plan.{Planning, added, fence, placing, placed, admitted, plan_order, most_groups};
 ghost use Rattle.shred_plan.specs.Places.{IsPlace, placed_at};
+ghost use Rattle.shred_plan.specs.Index.{stage_at, rest_at, is_loose, is_blocked};
 
+use crate::index::Index;
+use crate::stage_set::StageSet;
 use crate::{Adding, Stage, Way};
 use std::alloc::{AllocError, AllocFailed, Global};
 use std::marker::Model;
@@ -15,22 +20,32 @@ struct Place {
 }
 
 /// Puts systems into stages of groups, each as it is added.
+///
+/// An index of the stages finds the place of a system without a look at each. Where memory was refused to it, it is given up,
+/// and each stage is looked at from then on; where an `after` has a number twice, so it is for that system.
 #[derive(Drop)]
-pub struct Planner<K> {
+pub struct Planner<K: Ord> {
     alloc: Global,
     first: usize,
     stages: Vec<Stage<K>>,
+    index: Option<Index<K>>,
 }
 
-impl<K> Model for Planner<K> {
+impl<K: Ord> Model for Planner<K> {
+    ghost use Rattle.std.specs.Option.{IfSome};
     ghost use Rattle.shred_plan.specs.Plan.{Planning};
+    ghost use Rattle.shred_plan.specs.Kept.{Keeps};
 
     ghost Value = { Planning K };
 
     ghost view = { λ planner. record { first = planner.first; stages = planner.stages.items } };
+
+    ghost invariant = { λ planner. IfSome planner.index (λ index. Keeps K.cmp K.eq index planner.stages.items) };
 }
 
-impl<K: PartialEq + Drop> Planner<K> {
+impl<K: Ord + Clone + Drop> Planner<K> {
+    ghost use Rattle.shred_plan.specs.Kept.{Keeps, Readies, Blocks, IsFirst, stage_of};
+
     /// A plan without systems, which takes its memory from `alloc`.
     pub fn new(alloc: Global) -> Planner<K>
         ensures { result ≡ record { first = 0; stages = [] } }
@@ -39,6 +54,7 @@ impl<K: PartialEq + Drop> Planner<K> {
             alloc,
             first: 0,
             stages: Vec::new(alloc),
+            index: Some(Index::new(alloc)),
         }
     }
 
@@ -50,10 +66,54 @@ impl<K: PartialEq + Drop> Planner<K> {
         ensures err { OnErr result (self.new ≡ self.old) }
         ensures handed_back { IfErr result (λ refused. refused.value ≡ adding) }
     {
-        match self.place(&adding) {
+        let place = self.place(&adding);
+        let index = match place {
+            Ok(place) => self.noted(&adding, place),
+            Err(AllocError) => None,
+        };
+        let added = match place {
             Ok(Some(place)) => self.take(place, adding),
             Ok(None) => self.open(adding),
             Err(AllocError) => Err(AllocFailed { value: adding }),
+        };
+        if added.is_ok() {
+            self.index = index;
+            if let Ok(Some(place)) = place {
+                self.settle(place);
+            }
+        }
+        added
+    }
+
+    /// Keeps in the index what a place has made of its stage.
+    fn settle(&mut self, place: Place)
+        ensures { self.new ≡ self.old }
+    {
+        if let Way::Behind(_) = place.way {
+            self.tighten(place.stage);
+        }
+    }
+
+    /// Keeps in the index that a stage lets no system join a group, if it is so.
+    fn tighten(&mut self, stage: usize)
+        ensures { self.new ≡ self.old }
+    {
+        if self.may_be_joined(stage) {
+            return;
+        }
+        if let Some(mut index) = self.index.take() {
+            index.note_tight(stage);
+            self.index = Some(index);
+        }
+    }
+
+    /// Whether a stage may let a system join a group.
+    fn may_be_joined(&self, stage: usize) -> bool
+        ensures { result ≡ is_loose (stage_at self.now.stages stage) }
+    {
+        match self.stages.get(stage) {
+            Some(stage) => stage.is_loose(),
+            None => false,
         }
     }
 
@@ -107,6 +167,20 @@ impl<K: PartialEq + Drop> Planner<K> {
         ensures value { IfOk result (λ place. placed K.eq self.now.first adding.now adding.now.after self.now.stages ≡ placed_at adding.now self.now.stages place) }
         ensures fits { IfOk result (λ place. IsPlace self.now.stages place) }
     {
+        if let Some(index) = &self.index {
+            if are_distinct(self.alloc, adding.after())? {
+                let place = self.indexed_place(index, adding)?;
+                return Ok(place);
+            }
+        }
+        self.walked_place(adding)
+    }
+
+    /// The place of a system, found by a look at each stage.
+    fn walked_place(&self, adding: &Adding<K>) -> Result<Option<Place>, AllocError>
+        ensures value { IfOk result (λ place. placed K.eq self.now.first adding.now adding.now.after self.now.stages ≡ placed_at adding.now self.now.stages place) }
+        ensures fits { IfOk result (λ place. IsPlace self.now.stages place) }
+    {
         let mut rest = Vec::from_slice(self.alloc, adding.after())?;
         for (index, stage) in self.stages().iter().enumerate() {
             if let Some(way) = self.way(index, stage, adding, &rest)? {
@@ -115,6 +189,175 @@ impl<K: PartialEq + Drop> Planner<K> {
             stage.strike(&mut rest);
         }
         Ok(None)
+    }
+
+    /// The place of a system that names each that it comes after once, found by the index.
+    fn indexed_place(
+        &self,
+        index: &Index<K>,
+        adding: &Adding<K>,
+    ) -> Result<Option<Place>, AllocError>
+        requires keeps { Keeps K.cmp K.eq index.now self.now.stages }
+        requires distinct { IsDistinct nat_eq adding.now.after }
+        ensures { IfOk result (λ place. IsFirst K.eq self.now.first adding.now self.now.stages 0 (length self.now.stages) place) }
+    {
+        let count = self.stages.len();
+        let Some(ready) = index.firsts().ready(adding.after()) else {
+            return Ok(None);
+        };
+        let blocked = index.blocked(adding)?;
+        if let Some(place) = self.place_behind(index, &blocked, ready, adding)? {
+            return Ok(Some(place));
+        }
+        let start = ready.max(self.first);
+        if start >= count {
+            return Ok(None);
+        }
+        Ok(self.place_from(index, &blocked, start, adding))
+    }
+
+    /// The place of a system in the stage in which the last of those stand that it comes after, the one before a number of stages.
+    fn place_behind(
+        &self,
+        index: &Index<K>,
+        blocked: &StageSet,
+        ready: usize,
+        adding: &Adding<K>,
+    ) -> Result<Option<Place>, AllocError>
+        requires keeps { Keeps K.cmp K.eq index.now self.now.stages }
+        requires blocks { Blocks K.eq adding.now self.now.stages blocked.now }
+        requires readies { Readies adding.now self.now.stages (Some ready) }
+        requires distinct { IsDistinct nat_eq adding.now.after }
+        ensures { IfOk result (λ place. IsFirst K.eq self.now.first adding.now self.now.stages 0 (min ready (length self.now.stages)) place) }
+    {
+        if ready <= self.first || ready > self.stages.len() {
+            return Ok(None);
+        }
+        let last = ready - 1;
+        if blocked.contains(last) || !index.is_loose(last) {
+            return Ok(None);
+        }
+        let rest = index.firsts().rest_of(adding.after(), last)?;
+        let stage = &self.stages[last];
+        match stage.place_of_wanted(self.alloc, adding, &rest)? {
+            Some(group) => Ok(Some(Place {
+                stage: last,
+                way: Way::Behind(group),
+            })),
+            None => Ok(None),
+        }
+    }
+
+    /// The place of a system from a stage on, where those that it comes after stand before that.
+    fn place_from(
+        &self,
+        index: &Index<K>,
+        blocked: &StageSet,
+        start: usize,
+        adding: &Adding<K>,
+    ) -> Option<Place>
+        requires keeps { Keeps K.cmp K.eq index.now self.now.stages }
+        requires blocks { Blocks K.eq adding.now self.now.stages blocked.now }
+        requires reached { self.now.first ≤ start }
+        requires within { start ≤ length self.now.stages }
+        requires ready { (place : ℕ) → start ≤ place → place < length self.now.stages → (length (rest_at adding.now self.now.stages place) == 0) ≡ true }
+        ensures { IsFirst K.eq self.now.first adding.now self.now.stages start (length self.now.stages) result }
+    {
+        let end = self.stages.len();
+        let free = blocked.first_outside(start, end);
+        if let Some(place) = self.place_joined(index, start, free, adding) {
+            return Some(place);
+        }
+        if free >= end {
+            return None;
+        }
+        Some(Place {
+            stage: free,
+            way: Way::Alone,
+        })
+    }
+
+    /// The place of a system in a group of one of some stages with each of which it conflicts, where those that it comes after
+    /// stand before them.
+    fn place_joined(
+        &self,
+        index: &Index<K>,
+        start: usize,
+        end: usize,
+        adding: &Adding<K>,
+    ) -> Option<Place>
+        requires keeps { Keeps K.cmp K.eq index.now self.now.stages }
+        requires reached { self.now.first ≤ start }
+        requires order { start ≤ end }
+        requires within { end ≤ length self.now.stages }
+        requires blocked { (place : ℕ) → start ≤ place → place < end → is_blocked K.eq adding.now (stage_at self.now.stages place) ≡ true }
+        requires ready { (place : ℕ) → start ≤ place → place < end → (length (rest_at adding.now self.now.stages place) == 0) ≡ true }
+        ensures { IsFirst K.eq self.now.first adding.now self.now.stages start end result }
+    {
+        let mut place = index.next_loose(start, end);
+        while place < end {
+            let stage = &self.stages[place];
+            if let Some(way) = stage.joined_way(adding) {
+                return Some(Place { stage: place, way });
+            }
+            place = index.next_loose(place + 1, end);
+        }
+        None
+    }
+
+    /// Takes the index out, and keeps in it that a system goes to a place; none where memory was refused to it.
+    fn noted(&mut self, adding: &Adding<K>, place: Option<Place>) -> Option<Index<K>>
+        requires { IsPlace self.old.stages place }
+        ensures same { self.new ≡ self.old }
+        ensures keeps { IfSome result (λ index. Keeps K.cmp K.eq index (placed_at adding.now self.old.stages place)) }
+    {
+        let mut index = self.index.take()?;
+        let stage = self.stage_of(place);
+        if let Err(AllocError) = index.note(adding, stage) {
+            return None;
+        }
+        if !self.loosens(adding, place) {
+            return Some(index);
+        }
+        if let Err(AllocError) = index.note_loose(stage) {
+            return None;
+        }
+        Some(index)
+    }
+
+    /// The stage of a place.
+    fn stage_of(&self, place: Option<Place>) -> usize
+        ensures { result ≡ stage_of self.now.stages place }
+    {
+        match place {
+            Some(place) => place.stage,
+            None => self.stages.len(),
+        }
+    }
+
+    /// Whether the stage of a place may let a system join a group once it has taken one in there.
+    fn loosens(&self, adding: &Adding<K>, place: Option<Place>) -> bool
+        requires { IsPlace self.now.stages place }
+        ensures { result ≡ false → (at : ℕ) → is_loose (stage_at self.now.stages at) ≡ false → is_loose (stage_at (placed_at adding.now self.now.stages place) at) ≡ false }
+    {
+        match place {
+            None => false,
+            Some(
+                Place {
+                    stage,
+                    way: Way::Alone,
+                },
+            ) => {
+                let stage = &self.stages[stage];
+                stage.longest() != adding.units()
+            }
+            Some(
+                Place {
+                    way: Way::Behind(_),
+                    ..
+                },
+            ) => true,
+        }
     }
 
     /// The way in which a stage admits a system, if it isn't closed by a barrier.
@@ -134,7 +377,7 @@ impl<K: PartialEq + Drop> Planner<K> {
         }
     }
 
-    /// Lets a stage take a system in.
+    /// Lets a stage take a system in. The index is given up.
     fn take(&mut self, place: Place, adding: Adding<K>) -> Result<(), AllocFailed<Adding<K>>>
         requires { IsPlace self.old.stages (Some place) }
         ensures ok { OnOk result (self.new ≡ record { first = self.old.first; stages = placed_at adding self.old.stages (Some place) }) }
@@ -142,16 +385,18 @@ impl<K: PartialEq + Drop> Planner<K> {
         ensures handed_back { IfErr result (λ refused. refused.value ≡ adding) }
     {
         let Place { stage, way } = place;
+        self.index = None;
         let stage = &mut self.stages[stage];
         stage.take(self.alloc, adding, way)
     }
 
-    /// Puts a system into a new stage.
+    /// Puts a system into a new stage. The index is given up.
     fn open(&mut self, adding: Adding<K>) -> Result<(), AllocFailed<Adding<K>>>
         ensures ok { OnOk result (self.new ≡ record { first = self.old.first; stages = self.old.stages ++ ((adding ∷ []) ∷ []) ∷ [] }) }
         ensures err { OnErr result (self.new ≡ self.old) }
         ensures handed_back { IfErr result (λ refused. refused.value ≡ adding) }
     {
+        self.index = None;
         if self.stages.reserve(1).is_err() {
             return Err(AllocFailed { value: adding });
         }
@@ -162,4 +407,20 @@ impl<K: PartialEq + Drop> Planner<K> {
         self.stages.push_reserved(stage);
         Ok(())
     }
+}
+
+/// Whether no number of a list stands in it twice.
+///
+/// Errors: want of memory.
+fn are_distinct(alloc: Global, numbers: &[u32]) -> Result<bool, AllocError>
+    ensures { IfOk result (λ answer. answer ≡ true → IsDistinct nat_eq numbers.now) }
+{
+    let mut sorted = Vec::from_slice(alloc, numbers)?;
+    sorted.sort_unstable();
+    for place in 1..sorted.len() {
+        if sorted[place - 1] >= sorted[place] {
+            return Ok(false);
+        }
+    }
+    Ok(true)
 }

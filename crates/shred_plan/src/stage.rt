@@ -1,9 +1,10 @@
 //! Groups that may run at the same time, and the ways in which a stage takes a system in.
-ghost use Rattle.std.specs.Prelude.{◌≡◌, ◌==◌, ◌≤◌, ◌<◌, ◌&&◌, ℕ, [], ◌∷◌, ◌++◌, length, map, count_by, OnOk, OnErr, IfOk, IfErr, IfSome, OnSome, if◌then◌else◌, None};
+ghost use Rattle.std.specs.Prelude.{◌≡◌, true, ◌==◌, ◌≤◌, ◌<◌, ◌&&◌, ℕ, [], ◌∷◌, ◌++◌, length, map, count_by, OnOk, OnErr, IfOk, IfErr, IfSome, OnSome, if◌then◌else◌, None};
 ghost use Rattle.std.specs.List.{position};
 ghost use Rattle.std.specs.Option.{option_map};
 ghost use Rattle.shred_plan.specs.Plan.{hits, joins, completes, longest, rest_after, systems_of, admitted, taken};
 ghost use Rattle.shred_plan.specs.Places.{HasRoom};
+ghost use Rattle.shred_plan.specs.Index.{is_blocked, is_loose};
 
 use crate::{Adding, Group};
 use std::alloc::{AllocError, AllocFailed, Global};
@@ -25,15 +26,18 @@ pub enum Way {
 #[derive(Drop)]
 pub struct Stage<K> {
     groups: Vec<Group<K>>,
+    longest_time: u32,
 }
 
 impl<K> Model for Stage<K> {
-    ghost use Rattle.std.specs.Prelude.{List};
-    ghost use Rattle.shred_plan.specs.Plan.{Placing};
+    ghost use Rattle.std.specs.Prelude.{◌≡◌, ◌≤◌, List};
+    ghost use Rattle.shred_plan.specs.Plan.{Placing, longest};
 
     ghost Value = { List (List (Placing K)) };
 
     ghost view = { λ stage. stage.groups.items };
+
+    ghost invariant = { λ stage. (stage.longest_time ≡ longest stage.groups.items) × (stage.longest_time ≤ 20) };
 }
 
 impl<K: PartialEq + Drop> Stage<K> {
@@ -44,6 +48,7 @@ impl<K: PartialEq + Drop> Stage<K> {
     {
         let mut stage = Stage {
             groups: Vec::new(alloc),
+            longest_time: 0,
         };
         match stage.take(alloc, adding, Way::Alone) {
             Ok(()) => Ok(stage),
@@ -70,11 +75,14 @@ impl<K: PartialEq + Drop> Stage<K> {
         ensures value { result ≡ longest self.now }
         ensures range { result ≤ 20 }
     {
-        let mut most = 0;
-        for group in self.groups() {
-            most = most.max(group.time());
-        }
-        most
+        self.longest_time
+    }
+
+    /// Whether one of its groups has room, and is shorter than the longest.
+    pub(crate) fn is_loose(&self) -> bool
+        ensures { result ≡ is_loose self.now }
+    {
+        self.groups.iter().any(|group| group.len() < GROUP_SYSTEMS && group.time() < self.longest())
     }
 
     /// Puts the numbers of its systems at the end of a list, group by group.
@@ -123,6 +131,21 @@ impl<K: PartialEq + Drop> Stage<K> {
         }
     }
 
+    /// The way in which it admits a system that conflicts with one of its systems, and comes after nothing that is left.
+    ///
+    /// The groups are counted only where one of them may be joined.
+    pub(crate) fn joined_way(&self, adding: &Adding<K>) -> Option<Way>
+        requires { is_blocked K.eq adding.now self.now ≡ true }
+        ensures { result ≡ admitted K.eq adding.now [] self.now }
+    {
+        let place = self.place_of_hit(adding)?;
+        if self.count_hit(adding) == 1 {
+            Some(Way::Behind(place))
+        } else {
+            None
+        }
+    }
+
     /// With how many groups a system conflicts.
     fn count_hit(&self, adding: &Adding<K>) -> usize
         ensures { result ≡ count_by (hits K.eq adding.now) self.now }
@@ -137,11 +160,11 @@ impl<K: PartialEq + Drop> Stage<K> {
     fn place_of_hit(&self, adding: &Adding<K>) -> Option<usize>
         ensures { result ≡ position (λ group. hits K.eq adding.now group && joins adding.now self.now group) self.now }
     {
-        self.groups.iter().position(|group| group.is_hit_by(adding) && self.may_join(adding, group))
+        self.groups.iter().position(|group| self.may_join(adding, group) && group.is_hit_by(adding))
     }
 
     /// The place of the first group that has all that is left of those that a system comes after, and that it may join.
-    fn place_of_wanted(
+    pub(crate) fn place_of_wanted(
         &self,
         alloc: Global,
         adding: &Adding<K>,
@@ -167,7 +190,10 @@ impl<K: PartialEq + Drop> Stage<K> {
     ) -> Result<bool, AllocError>
         ensures { IfOk result (λ answer. answer ≡ (completes rest.now group.now && joins adding.now self.now group.now)) }
     {
-        Ok(group.completes(alloc, rest)? && self.may_join(adding, group))
+        if !self.may_join(adding, group) {
+            return Ok(false);
+        }
+        group.completes(alloc, rest)
     }
 
     /// Whether a system may go to the end of a group, by the number of the group's systems and by its time.
@@ -196,7 +222,12 @@ impl<K: PartialEq + Drop> Stage<K> {
             Way::Alone => self.open(alloc, adding),
             Way::Behind(place) => {
                 let group = &mut self.groups[place];
-                group.push(adding)
+                if let Err(refused) = group.push(adding) {
+                    return Err(refused);
+                }
+                let time = group.time();
+                self.longest_time = self.longest_time.max(time);
+                Ok(())
             }
         }
     }
@@ -210,11 +241,13 @@ impl<K: PartialEq + Drop> Stage<K> {
         if self.groups.reserve(1).is_err() {
             return Err(AllocFailed { value: adding });
         }
+        let units = adding.units();
         let group = match Group::of(alloc, adding) {
             Ok(group) => group,
             Err(refused) => return Err(refused),
         };
         self.groups.push_reserved(group);
+        self.longest_time = self.longest_time.max(units);
         Ok(())
     }
 }

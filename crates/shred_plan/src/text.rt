@@ -7,7 +7,7 @@ use itoa::Buffer;
 use std::alloc::{AllocError, Global};
 use std::string::String;
 
-impl<K: PartialEq + Drop> Planner<K> {
+impl<K: Ord + Clone + Drop> Planner<K> {
     /// The plan as a text: one line a stage, ended by a line feed, its groups joined by ` | `, the numbers of a group by `, `.
     ///
     /// Errors: want of memory.

@@ -1,5 +1,5 @@
 -- The steps of the loops that lend groups their systems and values, and take them back.
-use Rattle.std.proofs.Common.{◌≡◌, ℕ, ◌<◌, ◌≤◌, ◌+◌, Bool, true, false, List, [], ◌∷◌, ◌++◌, length, map, get_or, take, drop, refl, ap, sym, ◌∙◌, subst, Option, Some, None, take_all}
+use Rattle.std.proofs.Common.{◌≡◌, ℕ, ◌<◌, ◌≤◌, ◌+◌, Bool, true, false, List, [], ◌∷◌, ◌++◌, length, map, get_or, take, drop, refl, ap, sym, ◌∙◌, subst, Option, Some, None, take_all, is_some, suc, zero, true≢false, arith, length-append}
 use Rattle.std.specs.Prelude.{if◌then◌else◌}
 use Rattle.std.specs.Option.{option_or}
 use Rattle.std.specs.List.{AllZip}
@@ -13,7 +13,7 @@ use Rattle.shred_plan.specs.Laws.{numbers_of}
 use Rattle.shred_stages.specs.declared.stop.Stop.{Stop}
 use Rattle.shred_stages.specs.declared.turn.Staged.{Staged}
 use Rattle.shred_stages.specs.Views.{FitsSeat}
-use Rattle.shred_stages.specs.Moves.{filled, moved_to, left_of, IsSeat}
+use Rattle.shred_stages.specs.Moves.{emptied, filled, moved_to, left_of, IsSeat}
 use Rattle.shred_stages.specs.Seats.{AreSeated, StageIsSeated}
 use Rattle.shred_stages.specs.Apart.{StandAt}
 use Rattle.shred_stages.specs.Packs.{Packed, ArePlaced}
@@ -42,6 +42,27 @@ module _ {V : Type 0} (ids writes : List ResourceId) (same : ids ≡ writes) (w 
 
   pub seat-left : ((id : ResourceId) → w2 id ≡ left_of ids w id) → (id : ResourceId) → w2 id ≡ left_of writes w id
   seat-left from id = from id ∙ ap (λ list. left_of list w id) same
+
+is-out : {V : Type 0} (o : Option (Option V)) → slot_of o ≡ out → o ≡ Some None
+is-out None e = cc
+is-out (Some None) e = refl
+is-out (Some (Some v)) e = cc
+
+is-absent : {V : Type 0} (o : Option (Option V)) → slot_of o ≡ absent → o ≡ None
+is-absent None e = refl
+is-absent (Some None) e = cc
+is-absent (Some (Some v)) e = cc
+
+-- a seat from which values were moved
+pub seat-emptied : {V : Type 0} (writes ids : List ResourceId) (seat seat2 : Slots V) → ids ≡ writes → FitsSeat writes seat → ((id : ResourceId) → holding_of seat2 id ≡ left_of ids (holding_of seat) id) → IsSeat writes seat2
+seat-emptied writes ids seat seat2 same fits from id = by (is_listed writes id) (get seat id) (get seat2 id) (fits id) (from id ∙ ap (λ list. left_of list (holding_of seat) id) same)
+  where
+    by : {V : Type 0} (L : Bool) (o o2 : Option (Option V)) → is_some o ≡ L → slot_of o2 ≡ (if L then emptied (slot_of o) else slot_of o) → o2 ≡ (if L then Some None else None)
+    by true None o2 e f = absurd (true≢false (sym e))
+    by true (Some None) o2 e f = is-out o2 f
+    by true (Some (Some v)) o2 e f = is-out o2 f
+    by false None o2 e f = is-absent o2 f
+    by false (Some x) o2 e f = absurd (true≢false e)
 
 zip-more : {A B : Type 0} (R : A → B → Type 0) (xs : List A) (ys : List B) (x : A) (y : B) → AllZip R xs ys → R x y → AllZip R (xs ++ x ∷ []) (ys ++ y ∷ [])
 zip-more R [] [] x y are one = (one, tt)
@@ -118,3 +139,41 @@ module _ {V S : Type 0} where
       → option_or outcome (first_told now) ≡ first_told all → option_or next (first_told rest2) ≡ first_told all
   told-next now rest2 all pack outcome one next items is told was =
       ap (λ o. option_or o (first_told rest2)) (told ∙ ap (option_or outcome) is) ∙ option_or-assoc outcome pack.refused (first_told rest2) ∙ ap (λ list. option_or outcome (first_told list)) (sym items) ∙ was
+
+-- a group has as many systems as placings
+pub placed-length : {V S : Type 0} (group : Group ResourceId) (staged : List (Staged V S)) → ArePlaced group staged → length group ≡ length staged
+placed-length [] [] placed = refl
+placed-length [] (one ∷ staged) placed = absurd placed
+placed-length (one ∷ group) [] placed = absurd placed
+placed-length (one ∷ group) (there ∷ staged) placed = ap suc (placed-length group staged placed.1)
+
+-- the groups of some packs
+abbrev pub groups_of : {V S : Type 0} → List (Packed V S) → Stage ResourceId
+groups_of packs = map (λ pack. pack.group) packs
+
+-- one more pack becomes what a group is run with
+pub kits-next : {V S : Type 0} (kits kits2 : Stage ResourceId) (now rest2 all : List (Packed V S)) (pack : Packed V S) (kit : Group ResourceId) → now ≡ pack ∷ rest2 → kits2 ≡ kits ++ kit ∷ [] → kit ≡ pack.group
+    → kits ++ groups_of now ≡ groups_of all → kits2 ++ groups_of rest2 ≡ groups_of all
+kits-next kits kits2 now rest2 all pack kit items more is was =
+    ap (λ list. list ++ groups_of rest2) more ∙ append_assoc kits (kit ∷ []) (groups_of rest2) ∙ ap (λ k. kits ++ k ∷ groups_of rest2) is ∙ ap (λ list. kits ++ groups_of list) (sym items) ∙ was
+
+pub few-next : {A B : Type 0} (kits kits2 : List A) (rest rest2 : List B) (pack : B) (kit : A) (room : ℕ) → rest ≡ pack ∷ rest2 → kits2 ≡ kits ++ kit ∷ [] → length kits + length rest ≤ room → length kits2 + length rest2 ≤ room
+few-next kits kits2 rest rest2 pack kit room items more was =
+    let a : length kits2 ≡ length kits + 1 = ap length more ∙ length-append kits (kit ∷ []) in
+    let b : length rest ≡ suc (length rest2) = ap length items in
+    omega (arith, was, a, b)
+
+-- what stands first among what is left of a list
+pub drop-at : {A : Type 0} (k : ℕ) (list : List A) (a : A) (later : List A) → drop k list ≡ a ∷ later → (k < length list) × (a ≡ get_or list k a) × (later ≡ drop (k + 1) list)
+drop-at zero [] a later e = absurd (omega (arith, ap length e))
+drop-at (suc k) [] a later e = absurd (omega (arith, ap length e))
+drop-at zero (x ∷ list) a later e = (omega arith, sym (ap (λ l. get_or l 0 a) e), sym (ap (drop 1) e))
+drop-at (suc k) (x ∷ list) a later e =
+    let at = drop-at k list a later e in
+    let next : suc (k + 1) ≡ suc k + 1 = omega arith in
+    (omega (arith, at.0), at.1, at.2 ∙ ap (λ n. drop n (x ∷ list)) next)
+
+pub drop-none : {A : Type 0} (k : ℕ) (list : List A) → drop k list ≡ [] → length list ≤ k
+drop-none k [] e = omega arith
+drop-none zero (x ∷ list) e = absurd (omega (arith, ap length e))
+drop-none (suc k) (x ∷ list) e = let few = drop-none k list e in omega (arith, few)

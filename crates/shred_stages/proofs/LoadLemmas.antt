@@ -1,5 +1,5 @@
 -- Facts on groups of a stage that are lent their values, run or not, and give them back.
-use Rattle.std.proofs.Common.{◌≡◌, ℕ, zero, suc, Bool, true, false, List, [], ◌∷◌, ◌++◌, length, map, refl, ap, sym, ◌∙◌, subst, Option, Some, None, IsSome, take}
+use Rattle.std.proofs.Common.{◌≡◌, ℕ, zero, suc, Bool, true, false, List, [], ◌∷◌, ◌++◌, length, map, refl, ap, ap₂, sym, ◌∙◌, subst, Option, Some, None, IsSome, take}
 use Rattle.std.specs.Prelude.{if◌then◌else◌, is_some}
 use Rattle.std.specs.Option.{option_flatten}
 use Rattle.std.specs.List.{AllZip}
@@ -232,6 +232,16 @@ module _ {V S : Type 0} where
         let Q : List (Staged V S) → Type 0 = λ list. SeatsKept all list in
         (subst P same ran, is.0, subst Q (sym is.1) back.3, ap length is.1 ∙ back.4)
 
+    -- and has the stage's groups still
+    pub ran-kits : map (λ pack. pack.group) packs2 ≡ stage
+    ran-kits = by stage packs2 (ran-groups meets systems world stage packs packs2 loaded.packs runs)
+      where
+        by : (stage : Stage ResourceId) (packs : List (Packed V S)) → HaveGroups stage packs → map (λ pack. pack.group) packs ≡ stage
+        by [] [] have = refl
+        by [] (pack ∷ packs) have = absurd have
+        by (group ∷ stage) [] have = absurd have
+        by (group ∷ stage) (pack ∷ packs) have = ap₂ (λ one others. one ∷ others) have.0 (by stage packs have.1)
+
   module _ (stage : Stage ResourceId) (all : List (Staged V S)) (packs : List (Packed V S)) (slots : List (Option (Staged V S))) (w : Slots V) (world : Slots V)
       (free : AreFree stage) (loaded : AreLoaded all stage packs slots (holding_of w) (holding_of world)) where
     -- what didn't run comes home
@@ -255,3 +265,10 @@ module _ {V S : Type 0} where
         let made : List S → Holding V → State V S = λ list h. record { systems = list; held = h } in
         let Q : List (Staged V S) → Type 0 = λ list. SeatsKept all list in
         (ap (λ list. made list (holding_of w2)) same ∙ ap (made (map (λ one. one.system) all)) held, is.0, subst Q (sym is.1) back.3, ap length is.1 ∙ back.4)
+
+-- lists that are related place by place are as long
+pub zip-length : {A B : Type 0} (R : A → B → Type 0) (xs : List A) (ys : List B) → AllZip R xs ys → length xs ≡ length ys
+zip-length R [] [] all = refl
+zip-length R [] (y ∷ ys) all = absurd all
+zip-length R (x ∷ xs) [] all = absurd all
+zip-length R (x ∷ xs) (y ∷ ys) all = ap suc (zip-length R xs ys all.1)

@@ -1,5 +1,5 @@
 -- Turns of two systems that don't conflict, one after the other, are turns of them the other way round.
-use Rattle.std.proofs.Common.{◌≡◌, ◌≢◌, ℕ, Bool, false, List, [], ◌∷◌, ◌++◌, refl, ap, sym, ◌∙◌, subst, Option, Some, None}
+use Rattle.std.proofs.Common.{◌≡◌, ◌≢◌, ℕ, false, List, [], ◌∷◌, ◌++◌, ap, sym, ◌∙◌, subst, Option, Some, None}
 use Rattle.std.specs.Prelude.{slice_get}
 use Rattle.std.specs.Option.{MatchOption}
 use Rattle.shred_world.specs.declared.resource_id.ResourceId.{ResourceId}
@@ -7,8 +7,8 @@ use Rattle.shred_world.specs.ResourceIds.{same_id}
 use Rattle.shred_world.specs.Bundles.{Holding}
 use Rattle.shred_plan.specs.Plan.{Placing, conflict}
 use Rattle.shred_stages.specs.declared.stop.Stop.{Stop}
-use Rattle.shred_stages.specs.Runs.{Step, State, Turn, GroupRuns}
-use Rattle.shred_stages.specs.Orders.{Taken, CanBeTaken, taken_from, ListRuns}
+use Rattle.shred_stages.specs.Runs.{State, Turn, GroupRuns}
+use Rattle.shred_stages.specs.Orders.{CanBeTaken, taken_from, ListRuns}
 use Rattle.shred_stages.proofs.StepLemmas.{step-of-turn, turn-of-step, second-first, first-second, one-end}
 
 of-each : {S : Type 0} {P Q : S → Type 0} (there : Option S) → ((system : S) → P system → Q system) → MatchOption there ⊥ P → MatchOption there ⊥ Q

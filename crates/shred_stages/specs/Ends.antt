@@ -31,3 +31,11 @@ module _ {V S : Type 0} (meets : S → Holding V → Option Stop → S → Holdi
   RunsApart before held (Err (Local place stop)) after held_after = ⊥
   RunsApart before held (Err Memory) after held_after = EndsBetween before.planning.stages (record { systems = before.systems; held = held }) (record { systems = after.systems; held = held_after })
   RunsApart before held (Err Threads) after held_after = EndsBetween before.planning.stages (record { systems = before.systems; held = held }) (record { systems = after.systems; held = held_after })
+
+-- an answer tells that memory or a thread was wanting
+abbrev pub IsWanting : {A : Type 0} → Result A DispatchError → Type 0
+IsWanting (Ok a) = ⊥
+IsWanting (Err (System id stop)) = ⊥
+IsWanting (Err (Local place stop)) = ⊥
+IsWanting (Err Memory) = Unit {0}
+IsWanting (Err Threads) = Unit {0}

@@ -14,3 +14,4 @@ pub mod Loading
 pub mod Ends
 pub mod Orders
 pub mod Changes
+pub mod Touring

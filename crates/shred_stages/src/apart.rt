@@ -1,96 +1,24 @@
 //! Runs of stages on threads: the groups of a stage apart from one another.
-ghost use Rattle.std.specs.Prelude.{◌≡◌, ◌<◌, [], length, vec_capacity, IfOk, OnErr};
+ghost use Rattle.std.specs.Prelude.{◌≡◌, ◌<◌, ◌≤◌, [], None, length, vec_capacity, IfOk, OnOk, OnErr, IfNone, IfSome};
 ghost use Rattle.std.specs.List.{All};
 ghost use Rattle.shred_world.specs.Bundles.{holding_of};
-ghost use Rattle.shred_stages.specs.Runs.{StageRuns};
-ghost use Rattle.shred_stages.specs.Seats.{StageIsSeated, StagesAreSeated, SeatsKept, state_of, refusal_of};
-ghost use Rattle.shred_stages.specs.Away.{systems_in, AreIn};
+ghost use Rattle.shred_stages.specs.Runs.{StagesRun};
+ghost use Rattle.shred_stages.specs.Seats.{StagesAreSeated, SeatsKept, state_of, refusal_of};
+ghost use Rattle.shred_stages.specs.Staging.{Tells};
 ghost use Rattle.shred_stages.specs.Free.{AreFree};
-ghost use Rattle.shred_stages.specs.Ends.{EndsAs};
+ghost use Rattle.shred_stages.specs.Ends.{EndsAs, IsWanting};
 
-use crate::packing::{give_back_all, lend_all};
-use crate::run::Refusal;
+use crate::berth::Berth;
 use crate::slots::{empty_slots, fill_slots};
+use crate::tour::Tour;
 use crate::turn::Staged;
-use crate::{DispatchError, System};
-use shred_crew::{Refused, Want, work_dealt};
-use shred_plan::{Group, Stage};
-use shred_world::{ResourceId, World};
+use crate::{DispatchError, Refusal, System};
+use shred_crew::{Unmanned, Want, with_crew};
+use shred_world::World;
 use std::alloc::{AllocError, Global};
 use std::mem;
 use std::sync::Wait;
 use std::thread::Threads;
-
-/// Runs the groups of a stage, each to its end, on as many threads, and tells the first refusal.
-///
-/// Errors: want of memory or of a thread, before any system runs; the world and the systems are as they were.
-fn run_stage_apart<
-    V: Drop + Send + Sync,
-    S: System<V> + Drop + Send,
-    R: AllocGlobal + Threads + Wait + Sync,
->(
-    rt: &R,
-    workers: usize,
-    world: &mut World<V>,
-    slots: &mut Vec<Option<Staged<V, S>>>,
-    stage: &[Group<ResourceId>],
-) -> Result<Result<(), Refusal>, Want>
-    requires free { AreFree stage.now }
-    requires there { AreIn slots.old.items }
-    requires seated { StageIsSeated stage.now (systems_in slots.old.items) }
-    ensures runs { IfOk result (λ outcome. StageRuns S.meets stage.now (state_of (systems_in slots.old.items) (holding_of world.old)) (refusal_of outcome) (state_of (systems_in slots.new.items) (holding_of world.new))) }
-    ensures err { OnErr result (state_of (systems_in slots.new.items) (holding_of world.new) ≡ state_of (systems_in slots.old.items) (holding_of world.old)) }
-    ensures there { AreIn slots.new.items }
-    ensures seats { SeatsKept (systems_in slots.old.items) (systems_in slots.new.items) }
-    ensures count { length (systems_in slots.new.items) ≡ length (systems_in slots.old.items) }
-{
-    let Ok(mut packs) = Vec::with_capacity(rt.alloc(), stage.len()) else {
-        return Err(Want::Memory);
-    };
-    let lent = lend_all(rt.alloc(), world, slots, stage, &mut packs);
-    if lent.is_err() {
-        let _ = give_back_all(world, slots, packs);
-        return Err(Want::Memory);
-    }
-    match work_dealt(rt, &*world, workers, packs) {
-        Ok(packs) => Ok(give_back_all(world, slots, packs)),
-        Err(Refused { want, loads }) => {
-            let _ = give_back_all(world, slots, loads);
-            Err(want)
-        }
-    }
-}
-
-/// Runs the stages on threads, one after the other, up to the first in which a system refuses or that can't be run.
-fn run_stages_apart<
-    V: Drop + Send + Sync,
-    S: System<V> + Drop + Send,
-    R: AllocGlobal + Threads + Wait + Sync,
->(
-    rt: &R,
-    workers: usize,
-    world: &mut World<V>,
-    slots: &mut Vec<Option<Staged<V, S>>>,
-    stages: &[Stage<ResourceId>],
-) -> Result<(), DispatchError>
-    requires free { All AreFree stages.now }
-    requires there { AreIn slots.old.items }
-    requires seated { StagesAreSeated stages.now (systems_in slots.old.items) }
-    ensures ends { EndsAs S.meets stages.now (state_of (systems_in slots.old.items) (holding_of world.old)) result (state_of (systems_in slots.new.items) (holding_of world.new)) }
-    ensures there { AreIn slots.new.items }
-    ensures seats { SeatsKept (systems_in slots.old.items) (systems_in slots.new.items) }
-    ensures count { length (systems_in slots.new.items) ≡ length (systems_in slots.old.items) }
-{
-    for stage in stages {
-        match run_stage_apart(rt, workers, world, slots, stage.groups()) {
-            Ok(Ok(())) => {}
-            Ok(Err(Refusal { system, stop })) => return Err(DispatchError::System(system, stop)),
-            Err(Want::Memory) => return Err(DispatchError::Memory),
-            Err(Want::Threads) => return Err(DispatchError::Threads),
-        }
-    }
-    Ok(())
-}
 
 /// As many slots as there is room for, and room for as many systems.
 ///
@@ -106,7 +34,94 @@ fn make_slots<A: Drop>(alloc: Global, count: usize) -> Result<(Vec<Option<A>>, V
     Ok((slots, systems))
 }
 
-/// Runs some stages on threads, one after the other, up to the first in which a system refuses or that can't be run.
+/// The answer that tells how a run ended, or what was wanting for it.
+fn answer(outcome: Result<(), Refusal>, want: Option<Want>) -> Result<(), DispatchError>
+    ensures told { IfNone want (Tells result (refusal_of outcome)) }
+    ensures wanted { IfSome want (λ _. IsWanting result) }
+{
+    match want {
+        Some(Want::Memory) => Err(DispatchError::Memory),
+        Some(Want::Threads) => Err(DispatchError::Threads),
+        None => match outcome {
+            Ok(()) => Ok(()),
+            Err(Refusal { system, stop }) => Err(DispatchError::System(system, stop)),
+        },
+    }
+}
+
+/// Makes a tour while so many workers stand by, or tells why none did.
+fn tour_manned<
+    V: Drop + Send + Sync,
+    S: System<V> + Drop + Send,
+    R: AllocGlobal + Threads + Wait + Sync,
+>(rt: &R, workers: usize, tour: Tour<V, S>) -> (Tour<V, S>, Option<Want>)
+    ensures stages { result.0.stages ≡ tour.stages }
+    ensures seats { SeatsKept tour.staged result.0.staged }
+    ensures count { length result.0.staged ≡ length tour.staged }
+    ensures ran { IfNone result.1 (StagesRun S.meets tour.stages (state_of tour.staged (holding_of tour.world)) result.0.refused (state_of result.0.staged (holding_of result.0.world))) }
+    ensures still { IfSome result.1 (λ _. state_of result.0.staged (holding_of result.0.world) ≡ state_of tour.staged (holding_of tour.world)) }
+{
+    match with_crew(rt, workers, tour) {
+        Ok(after) => (after, None),
+        Err(Unmanned { want, shift }) => (shift, Some(want)),
+    }
+}
+
+/// Takes a world, systems and what their stages are run with on a tour, and leaves room for the systems.
+///
+/// Errors: want of memory, which leaves all as it was.
+fn embark<V: Drop, S: Drop>(
+    alloc: Global,
+    world: &mut World<V>,
+    staged: &mut Vec<Staged<V, S>>,
+    berths: &mut Vec<Berth<V, S>>,
+) -> Result<Tour<V, S>, AllocError>
+    requires free { All AreFree berths.old.items }
+    requires seated { StagesAreSeated berths.old.items staged.old.items }
+    ensures ok { IfOk result (λ tour. tour ≡ record { stages = berths.old.items; staged = staged.old.items; world = world.old; refused = None }) }
+    ensures none { OnOk result (staged.new.items ≡ []) }
+    ensures room { OnOk result (length staged.old.items ≤ vec_capacity staged.new) }
+    ensures world { OnErr result (world.new ≡ world.old) }
+    ensures staged { OnErr result (staged.new.items ≡ staged.old.items) }
+    ensures berths { OnErr result (berths.new.items ≡ berths.old.items) }
+{
+    let (mut slots, room) = make_slots(alloc, staged.len())?;
+    fill_slots(mem::replace(staged, room), &mut slots);
+    Ok(Tour {
+        world: mem::replace(world, World::empty(alloc)),
+        slots,
+        berths: mem::replace(berths, Vec::new(alloc)),
+        outcome: Ok(()),
+    })
+}
+
+/// Puts back what was taken on a tour, and tells how it ended.
+fn disembark<V: Drop, S: Drop>(
+    tour: Tour<V, S>,
+    world: &mut World<V>,
+    staged: &mut Vec<Staged<V, S>>,
+    berths: &mut Vec<Berth<V, S>>,
+) -> Result<(), Refusal>
+    requires none { staged.old.items ≡ [] }
+    requires room { length tour.staged ≤ vec_capacity staged.old }
+    ensures world { world.new ≡ tour.world }
+    ensures staged { staged.new.items ≡ tour.staged }
+    ensures berths { berths.new.items ≡ tour.stages }
+    ensures told { refusal_of result ≡ tour.refused }
+{
+    let Tour {
+        world: back,
+        slots,
+        berths: kept,
+        outcome,
+    } = tour;
+    *world = back;
+    *berths = kept;
+    empty_slots(slots, staged);
+    outcome
+}
+
+/// Runs some stages by so many workers, one stage after the other, up to the first in which a system refuses.
 pub(crate) fn run_apart<
     V: Drop + Send + Sync,
     S: System<V> + Drop + Send,
@@ -116,22 +131,20 @@ pub(crate) fn run_apart<
     workers: usize,
     world: &mut World<V>,
     staged: &mut Vec<Staged<V, S>>,
-    stages: &[Stage<ResourceId>],
+    berths: &mut Vec<Berth<V, S>>,
 ) -> Result<(), DispatchError>
-    requires some { 0 < length stages.now }
-    requires free { All AreFree stages.now }
-    requires seated { StagesAreSeated stages.now staged.old.items }
-    ensures ends { EndsAs S.meets stages.now (state_of staged.old.items (holding_of world.old)) result (state_of staged.new.items (holding_of world.new)) }
+    requires some { 0 < length berths.old.items }
+    requires free { All AreFree berths.old.items }
+    requires seated { StagesAreSeated berths.old.items staged.old.items }
+    ensures ends { EndsAs S.meets berths.old.items (state_of staged.old.items (holding_of world.old)) result (state_of staged.new.items (holding_of world.new)) }
     ensures seats { SeatsKept staged.old.items staged.new.items }
     ensures count { length staged.new.items ≡ length staged.old.items }
+    ensures berths { berths.new.items ≡ berths.old.items }
 {
-    let count = staged.len();
-    let Ok((mut slots, room)) = make_slots(rt.alloc(), count) else {
+    let Ok(tour) = embark(rt.alloc(), world, staged, berths) else {
         return Err(DispatchError::Memory);
     };
-    let systems = mem::replace(staged, room);
-    fill_slots(systems, &mut slots);
-    let outcome = run_stages_apart(rt, workers, world, &mut slots, stages);
-    empty_slots(slots, staged);
-    outcome
+    let (tour, want) = tour_manned(rt, workers, tour);
+    let outcome = disembark(tour, world, staged, berths);
+    answer(outcome, want)
 }

@@ -5,7 +5,9 @@ mod access;
 mod accessor;
 mod alone;
 mod apart;
+mod berth;
 mod error;
+mod kit;
 pub mod laws;
 mod moves;
 mod pack;
@@ -20,6 +22,7 @@ mod slots;
 mod stages;
 mod stop;
 mod system;
+mod tour;
 mod turn;
 mod view;
 

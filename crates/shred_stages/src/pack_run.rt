@@ -1,7 +1,6 @@
 //! What a thread does with what it is lent.
 ghost use Rattle.std.specs.Prelude.{map};
 ghost use Rattle.shred_world.specs.Bundles.{holding_of};
-ghost use Rattle.shred_plan.specs.Plan.{time_of};
 ghost use Rattle.shred_stages.specs.Views.{view_slots, FitsSeat};
 ghost use Rattle.shred_stages.specs.Seats.{refusal_of};
 ghost use Rattle.shred_stages.specs.Packs.{ArePlaced, PlacesInView, PackRuns};
@@ -35,21 +34,15 @@ fn run_list<V: Drop, S: System<V>, H: AllocGlobal>(
     run_group_in_view(rt, staged.as_mut_slice(), group, world, reads, writes, seat)
 }
 
-impl<V: Drop, S: System<V>> Load<World<V>> for Pack<'_, V, S> {
+impl<V: Drop, S: System<V>> Load<World<V>> for Pack<V, S> {
     ghost does = { PackRuns S.meets };
-
-    ghost said_time = { λ pack. time_of pack.group };
-
-    fn time(&self) -> u32 {
-        self.time
-    }
 
     fn work<H: AllocGlobal>(&mut self, rt: &H, shared: &World<V>) {
         let seat = mem::replace(&mut self.seat, World::empty(rt.alloc()));
         let (outcome, seat) = run_list(
             rt,
             &mut self.staged,
-            self.group,
+            &self.group,
             shared,
             &self.reads,
             &self.writes,

@@ -1,7 +1,6 @@
 //! Groups that are lent their systems and the values that they write, and give them back.
-ghost use Rattle.std.specs.Prelude.{◌≡◌, ◌≤◌, ℕ, [], length, take, vec_capacity, OnOk, OnErr, IfOk};
+ghost use Rattle.std.specs.Prelude.{◌≡◌, ◌≤◌, [], length, map, vec_capacity};
 ghost use Rattle.shred_world.specs.Bundles.{holding_of};
-ghost use Rattle.shred_plan.specs.Plan.{time_of};
 ghost use Rattle.shred_stages.specs.Moves.{HasSlots};
 ghost use Rattle.shred_stages.specs.Seats.{StageIsSeated, refusal_of};
 ghost use Rattle.shred_stages.specs.Packs.{ArePlaced};
@@ -11,119 +10,121 @@ ghost use Rattle.shred_stages.specs.Free.{AreFree};
 ghost use Rattle.shred_stages.specs.Loading.{AreLoaded};
 
 use crate::System;
-use crate::access::{Access, list_group};
+use crate::kit::Kit;
 use crate::moves::move_values;
 use crate::pack::Pack;
 use crate::run::{Refusal, first_of};
-use crate::seat::seat_for;
 use crate::slots::{put_group, take_group};
 use crate::turn::Staged;
-use shred_plan::{Adding, Group};
-use shred_world::{ResourceId, World};
-use std::alloc::{AllocError, Global};
+use shred_world::World;
 
-/// Lends a group, which is said to run so long, its systems, and the values that they write.
-///
-/// Errors: want of memory, which leaves the world and the slots as they were.
-fn lend<'p, V: Drop, S: System<V> + Drop>(
-    alloc: Global,
+/// Lends a group its systems, and the values that they write.
+fn lend<V: Drop, S: System<V> + Drop>(
     world: &mut World<V>,
     slots: &mut Vec<Option<Staged<V, S>>>,
-    group: &'p [Adding<ResourceId>],
-    time: u32,
-) -> Result<Pack<'p, V, S>, AllocError>
-    requires placed { ArePlaced group.now (standing group.now slots.old.items) }
-    requires timed { time ≡ time_of group.now }
-    ensures ok { IfOk result (λ pack. IsLoaded group.entry.now pack slots.old.items slots.new.items (holding_of world.old) (holding_of world.new)) }
-    ensures world { OnErr result (world.new ≡ world.old) }
-    ensures slots { OnErr result (slots.new.items ≡ slots.old.items) }
+    kit: Kit<V, S>,
+) -> Pack<V, S>
+    requires placed { ArePlaced kit (standing kit slots.old.items) }
+    ensures { IsLoaded kit result slots.old.items slots.new.items (holding_of world.old) (holding_of world.new) }
 {
-    let mut reads = Vec::new(alloc);
-    list_group(&mut reads, Access::Reads, group)?;
-    let mut writes = Vec::new(alloc);
-    list_group(&mut writes, Access::Writes, group)?;
-    let mut seat = seat_for(alloc, &writes)?;
-    let mut staged = Vec::with_capacity(alloc, group.len())?;
-    take_group(slots, group, &mut staged);
-    move_values(world, &mut seat, &writes);
-    Ok(Pack {
+    let Kit {
         group,
-        time,
+        reads,
+        writes,
+        mut seat,
+        mut staged,
+    } = kit;
+    take_group(slots, &group, &mut staged);
+    move_values(world, &mut seat, &writes);
+    Pack {
+        group,
         reads,
         writes,
         seat,
         staged,
         outcome: Ok(()),
-    })
+    }
 }
 
 /// Lends each group of a stage its systems, and the values that they write, one after the other.
-///
-/// Errors: want of memory; the groups before the refused one are lent theirs.
-pub(crate) fn lend_all<'p, V: Drop, S: System<V> + Drop>(
-    alloc: Global,
+pub(crate) fn lend_all<V: Drop, S: System<V> + Drop>(
     world: &mut World<V>,
     slots: &mut Vec<Option<Staged<V, S>>>,
-    stage: &'p [Group<ResourceId>],
-    packs: &mut Vec<Pack<'p, V, S>>,
-) -> Result<(), AllocError>
+    kits: &mut Vec<Kit<V, S>>,
+    packs: &mut Vec<Pack<V, S>>,
+)
     requires none { packs.old.items ≡ [] }
-    requires room { length stage.now ≤ vec_capacity packs.old }
-    requires free { AreFree stage.now }
+    requires room { length kits.old.items ≤ vec_capacity packs.old }
+    requires free { AreFree kits.old.items }
     requires there { AreIn slots.old.items }
-    requires seated { StageIsSeated stage.now (systems_in slots.old.items) }
-    ensures ok { OnOk result (AreLoaded (systems_in slots.old.items) stage.entry.now packs.new.items slots.new.items (holding_of world.old) (holding_of world.new)) }
-    ensures err { OnErr result ((done : ℕ) × AreLoaded (systems_in slots.old.items) (take done stage.entry.now) packs.new.items slots.new.items (holding_of world.old) (holding_of world.new)) }
+    requires seated { StageIsSeated kits.old.items (systems_in slots.old.items) }
+    ensures loaded { AreLoaded (systems_in slots.old.items) kits.old.items packs.new.items slots.new.items (holding_of world.old) (holding_of world.new) }
+    ensures kits { kits.new.items ≡ [] }
+    ensures kits_room { vec_capacity kits.new ≡ vec_capacity kits.old }
+    ensures packs_room { vec_capacity packs.new ≡ vec_capacity packs.old }
 {
-    for group in stage {
-        match lend(alloc, world, slots, group.systems(), group.time()) {
-            Ok(pack) => packs.push_reserved(pack),
-            Err(error) => return Err(error),
-        }
+    let mut rest = kits.drain(..);
+    while let Some(kit) = rest.next() {
+        packs.push_reserved(lend(world, slots, kit));
     }
-    Ok(())
 }
 
 /// Gives the values of a pack back to the world, and its systems to their slots, and tells how its run ended.
 fn give_back<V: Drop, S: System<V> + Drop>(
     world: &mut World<V>,
     slots: &mut Vec<Option<Staged<V, S>>>,
-    pack: Pack<'_, V, S>,
-) -> Result<(), Refusal>
+    pack: Pack<V, S>,
+) -> (Result<(), Refusal>, Kit<V, S>)
     requires home { HasSlots pack.writes (holding_of pack.seat) (holding_of world.old) }
-    ensures home { IsHome pack.entry (holding_of world.old) (holding_of world.new) }
-    ensures slots { IsPutBack pack.entry slots.old.items slots.new.items }
-    ensures told { refusal_of result ≡ pack.entry.refused }
+    ensures home { IsHome pack (holding_of world.old) (holding_of world.new) }
+    ensures slots { IsPutBack pack slots.old.items slots.new.items }
+    ensures told { refusal_of result.0 ≡ pack.refused }
+    ensures kit { result.1 ≡ pack.group }
 {
     let Pack {
         group,
-        time: _,
-        reads: _,
+        reads,
         writes,
         mut seat,
-        staged,
+        mut staged,
         outcome,
     } = pack;
     move_values(&mut seat, world, &writes);
-    put_group(slots, group, staged);
-    outcome
+    put_group(slots, &group, &mut staged);
+    let kit = Kit {
+        group,
+        reads,
+        writes,
+        seat,
+        staged,
+    };
+    (outcome, kit)
 }
 
 /// Gives back what some packs hold, and tells the first refusal.
 pub(crate) fn give_back_all<V: Drop, S: System<V> + Drop>(
     world: &mut World<V>,
     slots: &mut Vec<Option<Staged<V, S>>>,
-    packs: Vec<Pack<'_, V, S>>,
+    packs: &mut Vec<Pack<V, S>>,
+    kits: &mut Vec<Kit<V, S>>,
 ) -> Result<(), Refusal>
-    requires home { ComeHome packs.items (holding_of world.old) }
-    ensures home { AreHome packs.entry.items (holding_of world.old) (holding_of world.new) }
-    ensures slots { ArePutBack packs.entry.items slots.old.items slots.new.items }
-    ensures told { refusal_of result ≡ first_told packs.entry.items }
+    requires home { ComeHome packs.old.items (holding_of world.old) }
+    requires none { kits.old.items ≡ [] }
+    requires room { length packs.old.items ≤ vec_capacity kits.old }
+    ensures home { AreHome packs.old.items (holding_of world.old) (holding_of world.new) }
+    ensures slots { ArePutBack packs.old.items slots.old.items slots.new.items }
+    ensures told { refusal_of result ≡ first_told packs.old.items }
+    ensures kits { kits.new.items ≡ map (λ pack. pack.group) packs.old.items }
+    ensures kits_room { vec_capacity kits.new ≡ vec_capacity kits.old }
+    ensures packs { packs.new.items ≡ [] }
+    ensures packs_room { vec_capacity packs.new ≡ vec_capacity packs.old }
 {
     let mut outcome = Ok(());
-    let mut rest = packs.into_iter();
+    let mut rest = packs.drain(..);
     while let Some(pack) = rest.next() {
-        outcome = first_of(outcome, give_back(world, slots, pack));
+        let (told, kit) = give_back(world, slots, pack);
+        outcome = first_of(outcome, told);
+        kits.push_reserved(kit);
     }
     outcome
 }

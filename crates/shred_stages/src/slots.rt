@@ -1,11 +1,11 @@
 //! Systems that go away with their groups, and come back into the slots of their numbers.
 ghost use Rattle.std.specs.Prelude.{◌≡◌, ◌≤◌, ◌+◌, ◌++◌, [], Some, None, length, map, vec_capacity, slice_set};
-ghost use Rattle.std.specs.Vec.Iter.{into_iter_items};
+ghost use Rattle.std.specs.Vec.Iter.{drain_items, DrainKeeps};
 ghost use Rattle.shred_stages.specs.Away.{slot_at, vacated, standing, returned, systems_in};
 
 use shred_plan::Adding;
 use shred_world::ResourceId;
-use std::vec::IntoIter;
+use std::vec::Drain;
 
 /// Takes what is in the slot of a number; past the last slot there is nothing.
 fn take_one<A>(slots: &mut Vec<Option<A>>, number: usize) -> Option<A>
@@ -37,6 +37,7 @@ pub(crate) fn take_group<A: Drop>(
     requires room { length taken.old.items + length group.now ≤ vec_capacity taken.old }
     ensures slots { slots.new.items ≡ vacated group.now slots.old.items }
     ensures taken { taken.new.items ≡ taken.old.items ++ standing group.now slots.old.items }
+    ensures taken_room { vec_capacity taken.new ≡ vec_capacity taken.old }
 {
     let Some((adding, later)) = group.split_first() else {
         return;
@@ -51,9 +52,10 @@ pub(crate) fn take_group<A: Drop>(
 fn put_each<A: Drop>(
     slots: &mut Vec<Option<A>>,
     group: &[Adding<ResourceId>],
-    systems: &mut IntoIter<A>,
+    systems: &mut Drain<'_, A>,
 )
-    ensures { slots.new.items ≡ returned group.now (into_iter_items systems.old) slots.old.items }
+    ensures slots { slots.new.items ≡ returned group.now (drain_items systems.old) slots.old.items }
+    ensures keeps { DrainKeeps systems.old systems.new }
 {
     let Some((adding, later)) = group.split_first() else {
         return;
@@ -65,15 +67,17 @@ fn put_each<A: Drop>(
     put_each(slots, later, systems);
 }
 
-/// Puts the systems of a group into their slots.
+/// Puts the systems of a group into their slots, and keeps the room that they had.
 pub(crate) fn put_group<A: Drop>(
     slots: &mut Vec<Option<A>>,
     group: &[Adding<ResourceId>],
-    systems: Vec<A>,
+    systems: &mut Vec<A>,
 )
-    ensures { slots.new.items ≡ returned group.now systems.items slots.old.items }
+    ensures slots { slots.new.items ≡ returned group.now systems.old.items slots.old.items }
+    ensures systems { systems.new.items ≡ [] }
+    ensures room { vec_capacity systems.new ≡ vec_capacity systems.old }
 {
-    let mut rest = systems.into_iter();
+    let mut rest = systems.drain(..);
     put_each(slots, group, &mut rest);
 }
 

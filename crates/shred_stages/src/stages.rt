@@ -15,6 +15,7 @@ ghost use Rattle.shred_stages.specs.Accesses.{all_reads, all_writes};
 
 use crate::access::{Access, ids_in_stages};
 use crate::apart::run_apart;
+use crate::berth::{Berth, make_ready};
 use crate::run::{Refusal, run_stages};
 use crate::seat::seat_for;
 use crate::setup::{dispose_staged, set_up_staged};
@@ -73,18 +74,21 @@ pub struct StagesBuilder<V, S> {
     alloc: Global,
     planner: Planner<ResourceId>,
     staged: Vec<Staged<V, S>>,
+    cut_for: usize,
+    berths: Vec<Berth<V, S>>,
 }
 
 impl<V, S> Model for StagesBuilder<V, S> {
     ghost use Rattle.std.specs.Prelude.{map};
     ghost use Rattle.shred_stages.specs.Seats.{IsStaged};
     ghost use Rattle.shred_stages.specs.Staging.{Staging};
+    ghost use Rattle.shred_stages.specs.Touring.{IsKept};
 
     ghost Value = { Staging S };
 
     ghost view = { λ builder. record { planning = builder.planner; systems = map (λ one. one.system) builder.staged.items } };
 
-    ghost invariant = { λ builder. IsStaged ⟦<ResourceId as PartialEq>⟧.eq builder.planner builder.staged.items };
+    ghost invariant = { λ builder. IsStaged ⟦<ResourceId as PartialEq>⟧.eq builder.planner builder.staged.items × IsKept builder.planner.stages builder.berths.items };
 }
 
 impl<V: Drop, S: System<V> + Drop> StagesBuilder<V, S> {
@@ -96,6 +100,8 @@ impl<V: Drop, S: System<V> + Drop> StagesBuilder<V, S> {
             alloc,
             planner: Planner::new(alloc),
             staged: Vec::new(alloc),
+            cut_for: 0,
+            berths: Vec::new(alloc),
         }
     }
 
@@ -123,7 +129,10 @@ impl<V: Drop, S: System<V> + Drop> StagesBuilder<V, S> {
         let adding = Adding::new(number, reads, writes, after, system.running_time());
         let one = Staged { system, seat };
         match stage_system(&mut self.planner, &mut self.staged, adding, one) {
-            Ok(()) => Ok(SystemId(number)),
+            Ok(()) => {
+                self.berths = Vec::new(self.alloc);
+                Ok(SystemId(number))
+            }
             Err(
                 AllocFailed {
                     value: Staged { system, seat: _ },
@@ -212,14 +221,16 @@ impl<V: Drop, S: System<V> + Drop> StagesBuilder<V, S> {
         told(self.run(rt, world))
     }
 
-    /// Runs the systems on threads: stage by stage, the groups of a stage on as many threads as there are workers, or groups.
+    /// Runs the systems by workers: stage by stage, the groups of a stage by as many workers as there are, or groups.
     ///
-    /// A thread runs the groups of one list of `cut`, by the groups' times, in their order; none is started for an empty list.
+    /// The caller's thread is one of the workers. Each other has a thread of its own, which is started before the first stage, stands by over all of
+    /// them, and has ended when the call returns. A worker runs the groups of one list of `cut`, by the groups' times, in their order; what a worker has not begun when
+    /// the caller's thread has run its own list, that thread runs too. What the groups are run with is kept from one call to the next, until a system is added.
     ///
-    /// With fewer than 2 workers all runs on the caller's thread, as `execute_seq` runs it.
+    /// With fewer than 2 workers, or where no stage has 2 groups, all runs on the caller's thread, as `execute_seq` runs it.
     ///
-    /// Errors: as `execute_seq`; `Memory` and `Threads`, where there was no memory for a stage or a thread of it couldn't be started:
-    /// the earlier stages ran to their ends, and no system of that stage or of a later one ran.
+    /// Errors: as `execute_seq`; `Memory` and `Threads`, where there was no memory for what the groups are run with or for a worker, or a thread couldn't be started:
+    /// no system ran.
     pub fn execute<R: AllocGlobal + Threads + Wait + Sync>(
         &mut self,
         rt: &R,
@@ -237,10 +248,21 @@ impl<V: Drop, S: System<V> + Drop> StagesBuilder<V, S> {
         // The same ids have values as before.
         ensures leaves { Leaves (holding_of world.old) (holding_of world.new) }
     {
-        if workers < 2 || self.planner.stages().is_empty() {
+        let workers = workers.min(self.planner.max_groups());
+        if workers < 2 {
             return self.execute_seq(rt, world);
         }
-        run_apart(rt, workers, world, &mut self.staged, self.planner.stages())
+        let stages = self.planner.stages();
+        let Ok(()) = make_ready(
+            rt.alloc(),
+            stages,
+            workers,
+            &mut self.cut_for,
+            &mut self.berths,
+        ) else {
+            return Err(DispatchError::Memory);
+        };
+        run_apart(rt, workers, world, &mut self.staged, &mut self.berths)
     }
 
     /// Runs the systems on the caller's thread as `execute_seq` does, and tells the first refusal in the order of the plan.
@@ -279,8 +301,11 @@ impl<V: Drop, S: System<V> + Drop> StagesBuilder<V, S> {
             alloc: _,
             planner,
             staged,
+            cut_for: _,
+            berths,
         } = self;
         drop(planner);
+        drop(berths);
         dispose_staged(staged, world)
     }
 }

@@ -1,23 +1,36 @@
-//! Loads that any number of threads work on, and the lists that they are dealt by.
+//! Loads that any number of workers work on, again and again, and the lists that they are dealt by.
+ghost use Rattle.std.specs.Prelude.{◌≡◌, length};
+
 use crate::values::Number;
-use shred_crew::{Load, cut, work_dealt};
+use shred_crew::{Crew, Load, Room, Shift, cut, with_crew};
 use std::alloc::{AllocError, Global};
 use std::sync::Wait;
 use std::thread::Threads;
 
 impl Load<u64> for Number {
-    ghost use Rattle.std.specs.Prelude.{◌%◌};
-
     ghost does = { λ _ _ _. Unit {0} };
-
-    ghost said_time = { λ number. number.0 % 4 };
-
-    fn time(&self) -> u32 {
-        (self.0 % 4) as u32
-    }
 
     fn work<H: AllocGlobal>(&mut self, _rt: &H, shared: &u64) {
         self.0 = self.0.wrapping_add(*shared);
+    }
+}
+
+/// Numbers to which 10 is added three times, and the room in which they are dealt.
+#[derive(Drop)]
+struct Raising {
+    room: Room<Number>,
+    numbers: Vec<Number>,
+    ghost counted: { room.count ≡ length numbers.items },
+}
+
+impl Shift<u64, Number> for Raising {
+    ghost does = { λ _ _. Unit {0} };
+
+    fn run<R: AllocGlobal + Wait>(&mut self, rt: &R, crew: &mut Crew<u64, Number>) {
+        let mut ten = 10;
+        for _time in 0..3 {
+            ten = crew.work(rt, ten, &mut self.room, &mut self.numbers);
+        }
     }
 }
 
@@ -38,14 +51,21 @@ fn digits_of(numbers: &Vec<Number>) -> u64 {
     digits
 }
 
-/// What is made of the numbers 1 to 5 where 10 is added to each; none where no thread can be started.
+/// What is made of the numbers 1 to 5, whose times are 1, 2, 3, 0 and 1; none where no thread can be started.
 fn raised<R: AllocGlobal + Threads + Wait + Sync>(
     rt: &R,
     workers: usize,
 ) -> Result<Option<u64>, AllocError> {
-    let loads = numbers(rt.alloc())?;
-    match work_dealt(rt, &10, workers, loads) {
-        Ok(after) => Ok(Some(digits_of(&after))),
+    let numbers = numbers(rt.alloc())?;
+    if numbers.len() != 5 {
+        return Ok(None);
+    }
+    let raising = Raising {
+        room: Room::new(rt.alloc(), &[1, 2, 3, 0, 1], workers.max(1))?,
+        numbers,
+    };
+    match with_crew(rt, workers, raising) {
+        Ok(after) => Ok(Some(digits_of(&after.numbers))),
         Err(_) => Ok(None),
     }
 }
@@ -54,7 +74,7 @@ fn raised<R: AllocGlobal + Threads + Wait + Sync>(
 fn each_load_is_worked_on_in_its_place(rt: HostRuntime) {
     let mut wrong = None;
     for workers in [0, 1, 2, 3, 5, 8] {
-        if raised(&rt, workers) != Ok(Some(1_112_131_415)) {
+        if raised(&rt, workers) != Ok(Some(3_132_333_435)) {
             wrong = Some(workers);
         }
     }

@@ -8,7 +8,7 @@ use Rattle.std.specs.Cmp.{nat_eq_equiv}
 use Rattle.std.specs.List.{IsDistinct, list_any, AllByRecursion}
 use Rattle.std.proofs.Math.ListN.{length-set}
 use Rattle.std.proofs.Math.Seq.{take-length}
-use Rattle.std.proofs.lemmas.Bool.{true≢false, false≢true, cases_eq, eqb-true, eq-eqb, false_from_ne_true}
+use Rattle.std.proofs.lemmas.Bool.{true≢false, false≢true, cases_eq, eqb-true, eq-eqb, false_from_ne_true, cond-true, cond-false}
 use Rattle.std.proofs.lemmas.List.{get_or_past, take_more}
 use Rattle.std.proofs.lemmas.List.Folds.{list_any-append}
 use Rattle.std.proofs.lemmas.Map.Keys.{IsDistinct-push}
@@ -404,12 +404,45 @@ AreBirths-settled births index kept is_fresh =
 pub births-same : (one other : Births) → one.persistent ≡ other.persistent → one.fresh ≡ other.fresh → one.deletions ≡ other.deletions → one.cache ≡ other.cache → one.indices ≡ other.indices → one.generations ≡ other.generations → one ≡ other
 births-same one other p f d c i g = λ j. record { persistent = p j; fresh = f j; deletions = d j; cache = c j; indices = i j; generations = g j }
 
+-- an index of the cache is taken
+pub taken-popped : (births : Births) (rest : List ℕ) → 0 < length births.cache → rest ≡ take (length births.cache - 1) births.cache → record births { cache = rest } ≡ with_next_taken births
+taken-popped births rest some is =
+    let full : eqb (length births.cache) 0 ≡ false = not-equal (length births.cache) 0 (λ h. absurd (omega arith)) in
+    births-same (record births { cache = rest }) (with_next_taken births) (sym (cond-false (eqb (length births.cache) 0) _ _ full)) refl refl is refl refl
+
+-- an index comes into use
+pub taken-opened : (births : Births) (lasts : List (Option Life)) (rest : List ℕ) → births.cache ≡ [] → rest ≡ births.cache → lasts ≡ births.persistent ++ None ∷ [] → record births { persistent = lasts; cache = rest } ≡ with_next_taken births
+taken-opened births lasts rest empty same is =
+    births-same (record births { persistent = lasts; cache = rest }) (with_next_taken births)
+    (is ∙ sym (cond-true (eqb (length births.cache) 0) _ _ (eq-eqb (length births.cache) 0 (ap length empty))))
+    refl refl
+    (same ∙ (empty ∙ sym (ap (λ (xs : List ℕ). take (length xs - 1) xs) empty)))
+    refl refl
+
 alive-number : (last : Option Life) (life : Life) → alive_of last ≡ Some life → number_of last ≡ life.number
 alive-number None life is = absurd (none-some life is)
 alive-number (Some one) life is =
     elim (bool-cases one.lives) [
       | inl holds ↦ let e : one ≡ life = some-same one life (sym (ap (λ b. cond b (Some one) None) holds) ∙ is) in ap (λ (l : Life). l.number) e
       | inr lacks ↦ absurd (none-some life (sym (ap (λ b. cond b (Some one) None) lacks) ∙ is))
+    ]
+
+alive-lives : (last : Option Life) (life : Life) → alive_of last ≡ Some life → life.lives ≡ true
+alive-lives None life is = absurd (none-some life is)
+alive-lives (Some one) life is =
+    elim (bool-cases one.lives) [
+      | inl holds ↦ let e : one ≡ life = some-same one life (sym (ap (λ b. cond b (Some one) None) holds) ∙ is) in sym (ap (λ (l : Life). l.lives) e) ∙ holds
+      | inr lacks ↦ absurd (none-some life (sym (ap (λ b. cond b (Some one) None) lacks) ∙ is))
+    ]
+
+-- the life of who lives at an index is that of a living one
+pub living-lives : (births : Births) (index : ℕ) (life : Life) → living births index ≡ Some life → life.lives ≡ true
+living-lives births index life is =
+    elim (bool-cases (fin.contains births.fresh index)) [
+      | inl holds ↦
+          let e : next_life (persistent_at births index) ≡ life = some-same (next_life (persistent_at births index)) life (sym (living-fresh births index holds) ∙ is) in
+          sym (ap (λ (l : Life). l.lives) e)
+      | inr lacks ↦ alive-lives (persistent_at births index) life (sym (living-lasting births index lacks) ∙ is)
     ]
 
 -- who lives at an index was born there last

@@ -1,5 +1,6 @@
 pub mod BirthLemmas
 pub mod ListLemmas
+pub mod DeathLemmas
 pub mod CreateLemmas
 pub mod LawLemmas
 pub mod NewLemmas

@@ -40,15 +40,17 @@ births_of a =
       generations = a.highest;
     }
 
--- there is room for each index in use, nothing is marked between two calls, and a set has the indices where an entity lives
+-- there is room up to one number for each index in use, nothing is marked between two calls, and a set has the indices where an entity lives
 pub record IsKept (a : Inside) : Type 0 where
   pub births : AreBirths (births_of a)
-  pub raised : length a.generations.items ≤ a.raised.room
-  pub killed : length a.generations.items ≤ a.killed.room
-  pub marked : length a.generations.items ≤ a.marked.room
-  pub cache : length a.generations.items ≤ vec_capacity a.cache
+  pub used : length a.generations.items ≤ a.room
+  pub generations : a.room ≤ vec_capacity a.generations
+  pub raised : a.room ≤ a.raised.room
+  pub killed : a.room ≤ a.killed.room
+  pub marked : a.room ≤ a.marked.room
+  pub cache : a.room ≤ vec_capacity a.cache
   pub unmarked : a.marked.members ≡ set.empty
-  pub alive_room : length a.generations.items ≤ a.alive.room
+  pub alive_room : a.room ≤ a.alive.room
   pub alive : MarksLiving a.alive.members (births_of a)
 
 -- a birth by `create` led from one state to another, and gave that index

@@ -3,3 +3,4 @@ pub mod RefusalLemmas
 pub mod Births
 pub mod Layout
 pub mod Building
+pub mod Emptied

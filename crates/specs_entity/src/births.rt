@@ -1,5 +1,5 @@
 //! Births and deaths, one at a time.
-ghost use Rattle.std.specs.Prelude.{◌≡◌, ◌≢◌, ℕ, ◌+◌, ◌<◌, ◌≤◌, ◌↔◌, IsOk, OnOk, OnErr, IfOk, IfErr, IsErrOf, None, Some, [], true};
+ghost use Rattle.std.specs.Prelude.{◌≡◌, ◌≢◌, ℕ, ◌+◌, ◌<◌, ◌≤◌, ◌↔◌, IsOk, OnOk, OnErr, IfOk, IfErr, IsErrOf, None, Some, [], length, true};
 ghost use Rattle.std.specs.FinSet as set;
 
 use crate::entities_res::EntitiesRes;
@@ -8,6 +8,9 @@ use crate::ids::{Entity, Generation};
 use crate::parts::{following, number};
 use hibitset::Index;
 use std::alloc::AllocError;
+
+/// Room is made for twice as many indices at first.
+const FIRST_ROOM: usize = 32;
 
 impl EntitiesRes {
     ghost use Rattle.specs_entity.specs.Births.{IsBorn, Continues, newborn, next_index, IndicesAreSpent, GenerationsAreSpent, RefusesBirth, with_next_taken, allocated, created, deleted, buried, settled, living, IsAlive, wrong_generation, number_of, persistent_at};
@@ -99,13 +102,31 @@ impl EntitiesRes {
         if self.cache.pop().is_some() {
             return Ok(());
         }
-        let used = self.generations.len() as Index;
-        self.raised.reserve(used + 1)?;
-        self.killed.reserve(used + 1)?;
-        self.marked.reserve(used + 1)?;
-        self.alive.reserve(used + 1)?;
-        self.cache.reserve(used as usize + 1)?;
-        self.generations.push(None)?;
+        if self.generations.len() < self.room as usize {
+            let _ = self.generations.push(None);
+            return Ok(());
+        }
+        self.grow()
+    }
+
+    /// Takes an index into use that there is no room for. Room is made for twice as many as are in use.
+    #[cold]
+    fn grow(&mut self) -> Result<(), AllocError>
+        requires empty { self.old.cache ≡ [] }
+        requires left { length self.old.persistent < self.old.indices }
+        ensures ok { OnOk result (self.new ≡ with_next_taken self.old) }
+        ensures err { OnErr result (self.new ≡ self.old) }
+    {
+        let used = self.generations.len();
+        let wanted = (used.max(FIRST_ROOM) * 2).min(self.indices as usize);
+        self.raised.reserve(wanted as Index)?;
+        self.killed.reserve(wanted as Index)?;
+        self.marked.reserve(wanted as Index)?;
+        self.alive.reserve(wanted as Index)?;
+        self.cache.reserve(wanted)?;
+        self.generations.reserve(wanted - used)?;
+        self.room = wanted as Index;
+        let _ = self.generations.push(None);
         Ok(())
     }
 
@@ -138,25 +159,24 @@ impl EntitiesRes {
         }
     }
 
-    /// Buries the entity that lives at an index.
-    pub(crate) fn bury(&mut self, id: Index)
-        requires { living self.old id ≢ None }
-        ensures value { self.new ≡ buried self.old id }
+    /// Buries an entity that is alive.
+    pub(crate) fn bury(&mut self, entity: Entity)
+        requires { IsAlive self.old entity }
+        ensures value { self.new ≡ buried self.old entity.id }
         ensures continues { Continues self.old self.new }
     {
-        if let Some(generation) = self.living(id) {
-            self.generations[id as usize] = Some(generation.died());
-            let _ = self.raised.remove(id);
-            let _ = self.killed.remove(id);
-            let _ = self.alive.remove(id);
-            let _ = self.cache.push(id);
-        }
+        self.generations[entity.id as usize] = Some(entity.generation.died());
+        let _ = self.raised.remove(entity.id);
+        let _ = self.killed.remove(entity.id);
+        let _ = self.alive.remove(entity.id);
+        let _ = self.cache.push(entity.id);
     }
 
     /// Makes the fresh birth at an index persistent.
     pub(crate) fn settle(&mut self, id: Index)
         requires { set.contains self.old.fresh id ≡ true }
         ensures value { self.new ≡ settled self.old id }
+        ensures lives { (index : ℕ) → living self.new index ≡ living self.old index }
         ensures continues { Continues self.old self.new }
     {
         let last = self.generation(id);

@@ -5,11 +5,12 @@ ghost use Rattle.std.specs.FinSet as set;
 ghost use Rattle.hibitset_sets.specs.Walk.{walk};
 ghost use Rattle.specs_entity.specs.Births.{alive_of, number_of, living_in, indices_of, CanKill, IsFirstFault};
 
+use crate::emptying::Emptying;
 use crate::entities_res::EntitiesRes;
 use crate::errors::Error;
 use crate::ids::{Entity, Generation};
 use crate::parts::is_living;
-use hibitset::{AtomicBitSet, BitSetLike, Index, Uncounted};
+use hibitset::{AtomicBitSet, BitSetLike};
 use std::alloc::AllocError;
 
 impl EntitiesRes {
@@ -32,10 +33,19 @@ impl EntitiesRes {
         if let Some(place) = self.first_fault(entities) {
             return Err(Error::WrongGeneration(self.refusal(entities[place])));
         }
-        for entity in entities {
-            self.bury(entity.id);
-        }
+        self.bury_each(entities);
         Ok(())
+    }
+
+    /// Buries the entities of a list, in its order.
+    fn bury_each(&mut self, entities: &[Entity])
+        requires { CanKill (living self.old) entities.now }
+        ensures value { self.new ≡ all_buried self.old (indices_of entities.now) }
+        ensures continues { Continues self.old self.new }
+    {
+        for entity in entities {
+            self.bury(*entity);
+        }
     }
 
     /// The place of the first entity that can't be killed after those before it.
@@ -69,13 +79,14 @@ impl EntitiesRes {
     {
         let deleted = self.deleted()?;
         self.settle_all();
-        self.bury_all();
+        self.bury_each(&deleted);
         Ok(deleted)
     }
 
     /// The entities whose deletion was accepted, ascending by index.
     fn deleted(&self) -> Result<Vec<Entity>, AllocError>
-        ensures { IfOk result (λ deleted. deleted.items ≡ all_deleted self.now) }
+        ensures killable { IfOk result (λ deleted. CanKill (living self.now) deleted.items) }
+        ensures value { IfOk result (λ deleted. deleted.items ≡ all_deleted self.now) }
     {
         let mut deleted = Vec::new(self.alloc);
         for id in (&self.killed).iter() {
@@ -87,32 +98,14 @@ impl EntitiesRes {
     /// Makes all fresh births persistent.
     fn settle_all(&mut self)
         ensures value { self.new ≡ all_settled self.old (walk (set.contains self.old.fresh)) }
+        ensures lives { (index : ℕ) → living self.new index ≡ living self.old index }
         ensures continues { Continues self.old self.new }
     {
-        while let Some(id) = first_of(&self.raised) {
+        let mut emptying = Emptying::new(&self.raised);
+        while let Some(id) = emptying.first_of(&self.raised) {
             self.settle(id);
         }
     }
-
-    /// Buries all entities whose deletion was accepted.
-    fn bury_all(&mut self)
-        ensures value { self.new ≡ all_buried self.old (walk (set.contains self.old.deletions)) }
-        ensures continues { Continues self.old self.new }
-    {
-        while let Some(id) = first_of(&self.killed) {
-            self.bury(id);
-        }
-    }
-}
-
-/// The least index of a set.
-fn first_of(indices: &AtomicBitSet) -> Option<Index>
-    ensures walk { MatchOption result (walk (set.contains indices.now.members) ≡ [])
-        (λ first. walk (set.contains indices.now.members) ≡ first ∷ walk (set.contains (set.remove indices.now.members first))) }
-    ensures member { IfSome result (λ first. set.contains indices.now.members first ≡ true) }
-{
-    let mut walk = indices.iter();
-    walk.next_counted(&mut Uncounted)
 }
 
 /// Marks the indices of a list up to the first entity that isn't alive or is marked already, and

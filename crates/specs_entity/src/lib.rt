@@ -5,6 +5,7 @@ mod births;
 pub mod builder;
 pub mod create_iter;
 mod deaths;
+mod emptying;
 pub mod entities_res;
 pub mod errors;
 pub mod ids;

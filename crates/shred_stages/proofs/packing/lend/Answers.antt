@@ -1,44 +1,55 @@
-use Rattle.std.proofs.Common.{◌≡◌, List, ap, sym, ◌∙◌, subst, refl, map, rules}
+use Rattle.std.proofs.Common.{◌≡◌, List, ap, sym, ◌∙◌, ◌++◌, subst, refl, map, None}
 use Rattle.shred_world.specs.Bundles.{holding_of}
+use Rattle.shred_plan.specs.Plan.{Group}
 use Rattle.shred_stages.specs.declared.turn.Staged.{Staged}
 use Rattle.shred_world.specs.declared.resource_id.ResourceId.{ResourceId}
 use Rattle.shred_stages.specs.Moves.{IsSeat}
-use Rattle.shred_stages.specs.Apart.{group_reads, group_writes}
-use Rattle.shred_stages.specs.Packs.{ArePlaced}
-use Rattle.shred_stages.specs.Away.{standing}
+use Rattle.shred_stages.specs.Apart.{group_writes}
+use Rattle.shred_stages.specs.Packs.{Packed, ArePlaced}
+use Rattle.shred_stages.specs.Away.{standing, vacated, IsLoaded}
 use Rattle.shred_stages.proofs.LendingLemmas.{seat-lent, seat-fits, seat-left}
 use Rattle.shred_stages.proofs.packing.lend.Goals as goal
 
 pub invariant_of-result : goal.invariant_of-result
 invariant_of-result g c =
-    let taken : c.take_group.new.taken.items ≡ standing c.args.group.now c.args.slots.now.items = search rules in
-    let P : List (Staged g.row.V.Denot g.row.S.Denot) → Type 0 = λ list. ArePlaced c.args.group.now list in
-    let same : c.deref-2.result.now ≡ c.deref.result.now = c.deref-2.ensures.value ∙ sym c.deref.ensures.value in
-    let I : List ResourceId → Type 0 = λ list. IsSeat list c.in_ok-seat.seat in
-    let seated : IsSeat c.deref-2.result.now c.in_ok-seat.seat = subst I (sym same) c.in_ok-seat.ensures in
-    let ids : c.deref-2.result.now ≡ c.list_group-2.new.list.items = c.deref-2.ensures.value in (
-      seat-fits c.deref-2.result.now c.list_group-2.new.list.items ids (holding_of c.args.world.now) (holding_of c.move_values.new.from) c.in_ok-seat.seat c.move_values.new.to seated c.move_values.ensures.to,
-      subst P (sym taken) c.requires.placed,
-      c.requires.timed,
+    let kit = c.kit.inside in
+    let was = c.kit.invariant in
+    let slots = c.args.slots.now.items in
+    let taken : c.take_group.new.taken.items ≡ standing kit.group.items slots = c.take_group.ensures.taken ∙ ap (λ list. list ++ standing c.deref.result.now slots) was.3 ∙ ap (λ group. standing group slots) c.deref.ensures.value in
+    let P : Group ResourceId → Type 0 = λ group. ArePlaced group (standing group slots) in
+    let Q : List (Staged g.row.V.Denot g.row.S.Denot) → Type 0 = λ list. ArePlaced kit.group.items list in
+    let ids : c.deref-2.result.now ≡ kit.writes.items = c.deref-2.ensures.value in
+    let I : List ResourceId → Type 0 = λ list. IsSeat list kit.seat in
+    let seated : IsSeat c.deref-2.result.now kit.seat = subst I (sym ids) was.2 in (
+      was.0,
+      was.1,
+      seat-fits c.deref-2.result.now kit.writes.items ids (holding_of c.args.world.now) (holding_of c.move_values.new.from) kit.seat c.move_values.new.to seated c.move_values.ensures.to,
+      subst Q (sym taken) (subst P (sym c.kit.view_is) c.requires.placed),
     )
 
-pub returns-clause-ok : goal.returns-clause-ok
-returns-clause-ok g c =
-    let taken : c.take_group.new.taken.items ≡ standing c.args.group.now c.args.slots.now.items = search rules in
-    let same : c.deref-2.result.now ≡ c.deref.result.now = c.deref-2.ensures.value ∙ sym c.deref.ensures.value in
-    let I : List ResourceId → Type 0 = λ list. IsSeat list c.in_ok-seat.seat in
-    let seated : IsSeat c.deref-2.result.now c.in_ok-seat.seat = subst I (sym same) c.in_ok-seat.ensures in
-    let ids : c.deref-2.result.now ≡ c.list_group-2.new.list.items = c.deref-2.ensures.value in
-    let reads : c.list_group.new.list.items ≡ group_reads c.args.group.now = search rules in
-    let writes : c.list_group-2.new.list.items ≡ group_writes c.args.group.now = search rules in
-    record {
+pub returns : goal.returns
+returns g c =
+    let kit = c.kit.inside in
+    let was = c.kit.invariant in
+    let slots = c.args.slots.now.items in
+    let w = holding_of c.args.world.now in
+    let w2 = holding_of c.move_values.new.from in
+    let taken : c.take_group.new.taken.items ≡ standing kit.group.items slots = c.take_group.ensures.taken ∙ ap (λ list. list ++ standing c.deref.result.now slots) was.3 ∙ ap (λ group. standing group slots) c.deref.ensures.value in
+    let ids : c.deref-2.result.now ≡ kit.writes.items = c.deref-2.ensures.value in
+    let same : c.deref-2.result.now ≡ group_writes kit.group.items = ids ∙ was.1 in
+    let I : List ResourceId → Type 0 = λ list. IsSeat list kit.seat in
+    let seated : IsSeat c.deref-2.result.now kit.seat = subst I (sym ids) was.2 in
+    let pack : Packed g.row.V.Denot g.row.S.Denot = record { group = kit.group.items; reads = kit.reads.items; writes = kit.writes.items; seat = c.move_values.new.to; systems = map (λ one. one.system) c.take_group.new.taken.items; refused = None } in
+    let P : Group ResourceId → Type 0 = λ planned. IsLoaded planned pack slots c.take_group.new.slots.items w w2 in
+    subst P c.kit.view_is
+    (record {
       group = refl;
-      reads = reads;
-      writes = writes;
+      reads = was.0;
+      writes = was.1;
       systems = ap (map (λ one. one.system)) taken;
       lent = record {
-        seat = seat-lent c.deref-2.result.now (group_writes c.args.group.now) (ids ∙ writes) (holding_of c.args.world.now) (holding_of c.move_values.new.from) c.in_ok-seat.seat c.move_values.new.to seated c.move_values.ensures.to;
-        left = seat-left c.deref-2.result.now (group_writes c.args.group.now) (ids ∙ writes) (holding_of c.args.world.now) (holding_of c.move_values.new.from) c.in_ok-seat.seat c.move_values.new.to seated c.move_values.ensures.to c.move_values.ensures.from;
+        seat = seat-lent c.deref-2.result.now (group_writes kit.group.items) same w w2 kit.seat c.move_values.new.to seated c.move_values.ensures.to;
+        left = seat-left c.deref-2.result.now (group_writes kit.group.items) same w w2 kit.seat c.move_values.new.to seated c.move_values.ensures.to c.move_values.ensures.from;
       };
-      slots = c.take_group.ensures.slots;
-    }
+      slots = c.take_group.ensures.slots ∙ ap (λ group. vacated group slots) c.deref.ensures.value;
+    })

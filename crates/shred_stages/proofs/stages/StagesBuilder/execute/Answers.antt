@@ -1,30 +1,55 @@
-use Rattle.std.proofs.Common.{List, length, sym, subst}
+use Rattle.std.proofs.Common.{◌≡◌, ◌≤◌, ◌<◌, List, length, sym, ap, subst, ◌∙◌, rules}
 use Rattle.std.specs.List.{All}
 use Rattle.std.specs.Prelude.{map}
 use Rattle.shred_world.specs.Bundles.{holding_of}
 use Rattle.shred_world.specs.declared.resource_id.ResourceId.{ResourceId}
-use Rattle.shred_plan.specs.Plan.{Stage}
+use Rattle.shred_plan.specs.Plan.{Stage, most_groups}
 use Rattle.shred_stages.specs.Free.{AreFree}
+use Rattle.shred_stages.specs.Runs.{State}
+use Rattle.shred_stages.specs.Seats.{StagesAreSeated}
 use Rattle.shred_stages.proofs.FreeLemmas.{planned-free}
 use Rattle.shred_stages.specs.Orders.{RunsInAnyOrder}
 use Rattle.shred_stages.specs.Staging.{Staging}
-use Rattle.shred_stages.proofs.EndLemmas.{ends-leave}
+use Rattle.shred_stages.proofs.EndLemmas.{ends-at-once, ends-leave, some-stage}
 use Rattle.shred_stages.proofs.PlanLemmas.{ends-in-any-order}
 use Rattle.shred_stages.proofs.stages.StagesBuilder.execute.Goals as goal
 
+pub run_apart-requires-clause-some : goal.run_apart-requires-clause-some
+run_apart-requires-clause-some g c κs within =
+    let kept : c.make_ready.new.berths.items ≡ c.self.inside.planner.stages = c.in-Ok.ensures.ok ∙ c.stages-stages.ensures in
+    let few : c.min-workers.result ≤ most_groups c.self.inside.planner.stages = search rules in
+    let P : List (Stage ResourceId) → Type 0 = λ stages. 0 < length stages in
+    subst P (sym kept) (some-stage c.self.inside.planner.stages c.min-workers.result few c.if-workers-lt2.false)
+
 pub run_apart-requires-clause-free : goal.run_apart-requires-clause-free
 run_apart-requires-clause-free g c κs within =
+    let kept : c.make_ready.new.berths.items ≡ c.self.inside.planner.stages = c.in-Ok.ensures.ok ∙ c.stages-stages.ensures in
     let P : List (Stage ResourceId) → Type 0 = λ stages. All AreFree stages in
-    subst P (sym c.stages-2.ensures) (planned-free c.self-2.inside.planner (length c.self-2.inside.staged.items) c.self-2.invariant.planned)
+    subst P (sym kept) (planned-free c.self.inside.planner (length c.self.inside.staged.items) c.self.invariant.0.planned)
+
+pub run_apart-requires-clause-seated : goal.run_apart-requires-clause-seated
+run_apart-requires-clause-seated g c κs within =
+    let kept : c.make_ready.new.berths.items ≡ c.self.inside.planner.stages = c.in-Ok.ensures.ok ∙ c.stages-stages.ensures in
+    let P : List (Stage ResourceId) → Type 0 = λ stages. StagesAreSeated stages c.self.inside.staged.items in
+    subst P (sym kept) c.self.invariant.0.seated
 
 pub returns-clause-leaves : goal.returns-clause-leaves
-returns-clause-leaves g c = ends-leave g.S.System.meets c.stages-2.result.now _ _ c.run_apart.result c.run_apart.ensures.ends
+returns-clause-leaves g c = ends-leave g.S.System.meets c.make_ready.new.berths.items _ _ c.run_apart.result c.run_apart.ensures.ends
 
 pub returns-clause-any_order : goal.returns-clause-any_order
 returns-clause-any_order g c =
-    let planner = c.self-2.inside.planner in
-    let staged = c.self-2.inside.staged.items in
+    let kept : c.make_ready.new.berths.items ≡ c.self.inside.planner.stages = c.in-Ok.ensures.ok ∙ c.stages-stages.ensures in
+    let planner = c.self.inside.planner in
+    let staged = c.self.inside.staged.items in
     let P : Staging _ → Type 0 = λ staging.
     RunsInAnyOrder g.S.System.meets staging (holding_of c.args.world.now) c.run_apart.result (record { planning = planner; systems = map (λ one. one.system) c.run_apart.new.staged.items }) (holding_of c.run_apart.new.world) in
-    subst P c.self-2.view_is
-    (ends-in-any-order g.S.System.meets _ (length staged) planner planner c.stages-2.result.now staged c.run_apart.new.staged.items _ _ c.self-2.invariant.planned c.stages-2.ensures c.run_apart.result c.run_apart.ensures.ends)
+    subst P c.self.view_is
+    (ends-in-any-order g.S.System.meets _ (length staged) planner planner c.make_ready.new.berths.items staged c.run_apart.new.staged.items _ _ c.self.invariant.0.planned kept c.run_apart.result c.run_apart.ensures.ends)
+
+pub returns-in_default-clause-runs : goal.returns-in_default-clause-runs
+returns-in_default-clause-runs g c =
+    let few : c.min-workers.result ≤ most_groups c.self.inside.planner.stages = search rules in
+    let P : Staging g.row.S.Denot → Type 0 = λ staging. 0 < length staging.planning.stages in
+    let some : 0 < length c.args.self.now.planning.stages = subst P c.self.view_is (some-stage c.self.inside.planner.stages c.min-workers.result few c.if-workers-lt2.false) in
+    let state : Staging g.row.S.Denot → State g.row.V.Denot g.row.S.Denot = λ staging. record { systems = staging.systems; held = holding_of c.args.world.now } in
+    ends-at-once g.S.System.meets c.args.self.now.planning.stages (state c.args.self.now) _ some (ap state c.self.view_is)

@@ -1,4 +1,4 @@
-use Rattle.std.proofs.Common.{◌≡◌, ◌+◌, length, ap, ◌∙◌, ◌∷◌, [], map, sym, subst, rules, arith, ◌<◌, length-append}
+use Rattle.std.proofs.Common.{◌≡◌, ◌+◌, length, ap, ◌∙◌, ◌∷◌, [], map, sym, subst, rules, arith, ◌<◌, length-append, inl}
 use Rattle.std.proofs.lemmas.List.{length-map}
 use Rattle.shred_stages.specs.Staging.{Staging}
 use Rattle.shred_stages.proofs.FreeLemmas.{planned-more}
@@ -13,4 +13,4 @@ invariant_of-self g c =
     let systems = map (λ one. one.system) c.self.inside.staged.items in
     let room : length systems < 65536 = subst P (sym c.self.view_is) c.requires.room in
     let long : length systems ≡ length c.self.inside.staged.items = length-map c.self.inside.staged.items (λ one. one.system) in
-    record { planned = planned-more _ c.self.inside.planner c.stage_system.new.planner (length c.self.inside.staged.items) (length c.stage_system.new.staged.items) c.new-adding.result c.self.invariant.planned made.planned number more; seated = made.seated; few = omega (arith, more, room, long) }
+    (record { planned = planned-more _ c.self.inside.planner c.stage_system.new.planner (length c.self.inside.staged.items) (length c.stage_system.new.staged.items) c.new-adding.result c.self.invariant.0.planned made.planned number more; seated = made.seated; few = omega (arith, more, room, long) }, inl c.new.ensures.items)

@@ -20,4 +20,4 @@ returns-clause-any_order g c =
     let P : Staging _ → List (Staged _ _) → Type 0 = λ before after.
     RunsInAnyOrder g.S.System.meets before (g.W.Holder.slots c.args.world.now) c.run_stages.result (staging after) (g.W.Holder.slots c.run_stages.new.world) in
     subst (P c.args.self.now) (sym whole) (subst (λ before. P before c.run_stages.new.staged) (ap staging value ∙ c.self.view_is)
-    (run-in-any-order g.S.System.meets _ (length c.self.inside.staged.items) planner planner c.stages.result.now c.as_mut_slice.result.now c.run_stages.new.staged _ _ c.self.invariant.planned c.stages.ensures c.run_stages.result c.run_stages.ensures.runs))
+    (run-in-any-order g.S.System.meets _ (length c.self.inside.staged.items) planner planner c.stages.result.now c.as_mut_slice.result.now c.run_stages.new.staged _ _ c.self.invariant.0.planned c.stages.ensures c.run_stages.result c.run_stages.ensures.runs))

@@ -39,19 +39,18 @@ invariant_of-self c =
     let few : number_of (persistent_at births (next_index before)) < births.generations = let r = c.in_ok-entity.ensures.room in let n = ap number_of same in omega arith in
     let alive : AreBirths (with_life births (next_index before) (next_life (persistent_at births (next_index before)))) = AreBirths-alive births (next_index before) c.self.invariant.births free few in
     let long = length-set c.self.inside.generations.items id (Some life) in
-    let raised = c.self.invariant.raised in
-    let killed = c.self.invariant.killed in
-    let marked = c.self.invariant.marked in
-    let cache = c.self.invariant.cache in
+    let within = c.self.invariant.used in
     let alive_room = c.self.invariant.alive_room in
     let used = free.used in
     let members : c.add.new.self.members ≡ fin.insert c.self.inside.alive.members (next_index before) = on-ok c.add.result c.add.ensures.ok (c.add.ensures.succeeds (omega arith)) ∙ ap (fin.insert c.self.inside.alive.members) named in
     record {
       births = subst (λ (e : LifeAt). AreBirths (with_life births e.id e.generation)) {x = record { id = next_index before; generation = next_life (persistent_at births (next_index before)) }} (λ j. record { id = sym named j; generation = (ap next_life same ∙ sym given) j }) alive;
-      raised = omega arith;
-      killed = omega arith;
-      marked = omega arith;
-      cache = omega arith;
+      used = omega arith;
+      generations = c.self.invariant.generations;
+      raised = c.self.invariant.raised;
+      killed = c.self.invariant.killed;
+      marked = c.self.invariant.marked;
+      cache = c.self.invariant.cache;
       unmarked = c.self.invariant.unmarked;
       alive_room = let r = c.add.ensures.room in omega arith;
       alive = (subst (λ (e : LifeAt). MarksLiving c.add.new.self.members (with_life births e.id e.generation)) {x = record { id = next_index before; generation = next_life (persistent_at births (next_index before)) }} (λ j. record { id = sym named j; generation = (ap next_life same ∙ sym given) j }) (subst (λ s. MarksLiving s (with_life births (next_index before) (next_life (persistent_at births (next_index before))))) (sym members) (marks-allocated c.self.inside.alive.members births (next_index before) c.self.invariant.alive free)));

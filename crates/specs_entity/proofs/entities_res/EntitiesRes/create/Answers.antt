@@ -42,6 +42,7 @@ module _ (c : goal.After-add-2) where
   members =
       let here = named in
       let used = free.used in
+      let within = c.self.invariant.used in
       let room = c.self.invariant.raised in
       on-ok c.add.result c.add.ensures.ok (c.add.ensures.succeeds (omega arith)) ∙ ap (fin.insert births.fresh) named
 
@@ -49,6 +50,7 @@ module _ (c : goal.After-add-2) where
   living-members =
       let here = named in
       let used = free.used in
+      let within = c.self.invariant.used in
       let room = c.self.invariant.alive_room in
       on-ok c.add-2.result c.add-2.ensures.ok (c.add-2.ensures.succeeds (omega arith)) ∙ ap (fin.insert c.self.inside.alive.members) named
 
@@ -78,6 +80,8 @@ invariant_of-self c =
     let room = c.self.invariant.raised in
     record {
       births = subst (λ s. AreBirths (record births { fresh = s })) (sym (members c)) (AreBirths-fresh births (next_index before) c.self.invariant.births (free c) few);
+      used = c.self.invariant.used;
+      generations = c.self.invariant.generations;
       raised = let r = c.add.ensures.room in omega arith;
       killed = c.self.invariant.killed;
       marked = c.self.invariant.marked;

@@ -1,6 +1,6 @@
-use Rattle.std.proofs.Common.{◌≡◌, List, length, ap, sym, subst, ◌∙◌}
+use Rattle.std.proofs.Common.{List, length, sym, subst}
 use Rattle.specs_entity.specs.Life.{LifeAt}
-use Rattle.specs_entity.specs.Births.{Births, AreNew, Continues, all_created, newborns}
+use Rattle.specs_entity.specs.Births.{Births, AreNew, Continues, all_created}
 use Rattle.specs_entity.proofs.NewLemmas.{newborns-new, all_created-continues}
 use Rattle.specs_entity.proofs.entities_res.EntitiesRes.create_iter.Goals as goal
 

@@ -14,11 +14,14 @@ invariant_of-self c =
     let alive : living births id ≡ Some c.args.entity.generation = ap (λ (b : Births). living b id) c.self.view_is ∙ (ap (living c.args.self.now) named ∙ c.is_alive.ensures.value.0 c.if-not-is_alive.false) in
     let lives : living births id ≢ None = λ dead. some-none c.args.entity.generation (sym alive ∙ dead) in
     let room = c.self.invariant.killed in
+    let used = c.self.invariant.used in
     let within : id < length births.persistent = used-living births kept id lives in
     let members = on-ok c.add.result c.add.ensures.ok (c.add.ensures.succeeds (omega arith)) in
     let same = births-same (record births { deletions = c.add.new.self.members }) (deleted births id) refl refl members refl refl refl in
     record {
       births = subst AreBirths (sym same) (AreBirths-deleted births id kept lives);
+      used = c.self.invariant.used;
+      generations = c.self.invariant.generations;
       raised = c.self.invariant.raised;
       killed = let r = c.add.ensures.room in omega arith;
       marked = c.self.invariant.marked;

@@ -21,6 +21,7 @@ module _ (c : goal.After-push) where
   pushed =
       let few = undo-room c.requires.0 c.args.id births (held c.requires.0 c.requires.1) born in
       let room = c.self.invariant.cache in
+      let used = c.self.invariant.used in
       let ok = c.self.inside.cache.ok in
       c.push.ensures.items ∙ ap (λ b. cond b (births.cache ++ c.args.id ∷ []) births.cache) (c.push.ensures.succeeds (omega arith))
 
@@ -73,6 +74,8 @@ returns-then-is_none c = new-undone c
 pub invariant_of-self-else-is_none : goal.invariant_of-self-else-is_none
 invariant_of-self-else-is_none c = record {
   births = subst AreBirths (sym (cached-undone c c.requires.0 c.requires.1)) c.requires.1.kept;
+  used = c.self.invariant.used;
+  generations = c.self.invariant.generations;
   raised = let r = c.remove.ensures.room in let h = c.self.invariant.raised in omega arith;
   killed = c.self.invariant.killed;
   marked = c.self.invariant.marked;
@@ -90,10 +93,12 @@ invariant_of-self c =
     let shorter : length c.pop.new.self.items ≤ length c.self.inside.generations.items = omega arith in
     record {
       births = subst AreBirths (sym (new-undone c c.requires.0 c.requires.1)) c.requires.1.kept;
+      used = let h = c.self.invariant.used in omega arith;
+      generations = let h = c.self.invariant.generations in let r = c.pop.ensures.capacity in omega arith;
       raised = let r = c.remove.ensures.room in let h = c.self.invariant.raised in omega arith;
-      killed = let h = c.self.invariant.killed in omega arith;
-      marked = let h = c.self.invariant.marked in omega arith;
-      cache = let h = c.self.invariant.cache in omega arith;
+      killed = c.self.invariant.killed;
+      marked = c.self.invariant.marked;
+      cache = c.self.invariant.cache;
       unmarked = c.self.invariant.unmarked;
       alive_room = let r = c.remove-2.ensures.room in let h = c.self.invariant.alive_room in omega arith;
       alive = subst (MarksLiving c.remove-2.new.self.members) (sym (new-undone c c.requires.0 c.requires.1)) (subst (λ s. MarksLiving s c.requires.0) (sym c.remove-2.ensures.members) (new-alive c));

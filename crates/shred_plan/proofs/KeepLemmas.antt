@@ -1,0 +1,141 @@
+-- An index keeps to a plan that takes a system in.
+use Rattle.std.proofs.Common.{◌≡◌, ◌≢◌, ℕ, ◌<◌, ◌≤◌, zero, suc, max, Bool, true, false, not, ne_eqb, ◌||◌, ◌&&◌, List, [], ◌∷◌, ◌++◌, length, refl, ap, sym, ◌∙◌, arith, Option, Some, None, ◌⊎◌, inl, inr}
+use Rattle.std.specs.Prelude.{◌==◌, nat_lt}
+use Rattle.std.specs.List.{list_any}
+use Rattle.std.specs.declared.cmp.Ordering.{Ordering}
+use Rattle.std.proofs.Math.ListN.{set}
+use Rattle.std.proofs.lemmas.Bool.{cases_eq, cases_lt, or_from, le-ltb, and_right}
+use Rattle.std.proofs.lemmas.List.{get_or_past, get_or_append_left, get_or_push, get_or-set_same, get_or-set_other, length_push}
+use Rattle.std.proofs.lemmas.List.Folds.{list_any-append}
+use Rattle.shred_plan.specs.declared.stage.Way.TheVariants.{Alone}
+use Rattle.shred_plan.specs.declared.stage_set.StageSet.{StageSet}
+use Rattle.shred_plan.specs.declared.planner.Place.{Place}
+use Rattle.shred_plan.specs.declared.index.Index.{Index}
+use Rattle.shred_plan.specs.Plan.{Placing, Group, Stage, taken, longest, time_of, systems_of}
+use Rattle.shred_plan.specs.Places.{IsPlace, placed_at}
+use Rattle.shred_plan.specs.Index.{has_stage, has_for, stood_before, stage_at, stands_before, is_loose, writes, uses}
+use Rattle.shred_plan.specs.Kept.{Keeps, Blocks, stage_of}
+use Rattle.shred_plan.proofs.IndexLemmas.{any-placed, any-before, blocked-by}
+use Rattle.shred_plan.proofs.LongestLemmas.{longest-new}
+
+no-stages : (Id : Type 0) (number place : ℕ) → stands_before {Id = Id} [] number place ≡ false
+no-stages Id number zero = refl
+no-stages Id number (suc place) = refl
+
+-- the index of a plan without stages
+pub keeps-none : {Id : Type 0} (cmp : Id → Id → Ordering) (same : Id → Id → Bool) (index : Index Id)
+    → ((id : Id) (place : ℕ) → has_for cmp index.writers id place ≡ false)
+    → ((id : Id) (place : ℕ) → has_for cmp index.users id place ≡ false)
+    → ((number place : ℕ) → stood_before index.firsts.stages number place ≡ false)
+    → Keeps cmp same index []
+keeps-none {Id} cmp same index writers users firsts = record {
+  writers = λ id place. writers id place;
+  users = λ id place. users id place;
+  firsts = λ number place. firsts number place ∙ sym (no-stages Id number place);
+  loose = λ place h. refl;
+}
+
+-- what an index tells of the stages with which a system conflicts
+pub keeps-blocks : {Id : Type 0} (cmp : Id → Id → Ordering) (same : Id → Id → Bool) (turns : (x y : Id) → same x y ≡ same y x) (index : Index Id) (one : Placing Id) (stages : List (Stage Id)) (set : StageSet) → Keeps cmp same index stages
+    → ((place : ℕ) → has_stage set place ≡ (list_any (λ id. has_for cmp index.writers id place) one.reads || list_any (λ id. has_for cmp index.users id place) one.writes))
+    → Blocks same one stages set
+keeps-blocks cmp same turns index one stages set keeps is place =
+    is place
+    ∙ (λ i. list_any (λ id. keeps.writers id place i) one.reads || list_any (λ id. keeps.users id place i) one.writes)
+    ∙ blocked-by same turns one (stage_at stages place)
+
+-- a stage of one system has no group that is shorter than another
+single-tight : {Id : Type 0} (one : Placing Id) → is_loose ((one ∷ []) ∷ []) ≡ false
+single-tight one =
+    or_from (nat_lt 1 4 && nat_lt (time_of (one ∷ [])) (max 0 (time_of (one ∷ [])))) false
+    (and_right (nat_lt 1 4) (nat_lt (time_of (one ∷ [])) (max 0 (time_of (one ∷ [])))) (le-ltb (time_of (one ∷ [])) (max 0 (time_of (one ∷ []))) (omega arith))) refl
+
+-- a group as long as the longest loosens nothing
+alone-tight : {Id : Type 0} (one : Placing Id) (stage : Stage Id) → longest stage ≡ one.time → is_loose stage ≡ false → is_loose (stage ++ (one ∷ []) ∷ []) ≡ false
+alone-tight {Id} one stage same tight =
+    let long : longest (stage ++ (one ∷ []) ∷ []) ≡ longest stage = longest-new stage one ∙ (omega arith) in
+    ap (λ most. list_any (λ (group : Group Id). nat_lt (length group) 4 && nat_lt (time_of group) most) (stage ++ (one ∷ []) ∷ [])) long
+    ∙ list_any-append (λ (group : Group Id). nat_lt (length group) 4 && nat_lt (time_of group) (longest stage)) stage ((one ∷ []) ∷ [])
+    ∙ or_from (is_loose stage) ((nat_lt 1 4 && nat_lt (time_of (one ∷ [])) (longest stage)) || false) tight
+    (or_from (nat_lt 1 4 && nat_lt (time_of (one ∷ [])) (longest stage)) false (and_right (nat_lt 1 4) (nat_lt (time_of (one ∷ [])) (longest stage)) (le-ltb (time_of (one ∷ [])) (longest stage) (omega arith))) refl)
+
+-- other stages are as loose as they were, and so is that of the place, if it takes the system in as a group of the same time
+pub tight-others : {Id : Type 0} (one : Placing Id) (stages : List (Stage Id)) (found : Option Place) → IsPlace stages found → (at : ℕ) → at ≢ stage_of stages found → is_loose (stage_at stages at) ≡ false → is_loose (stage_at (placed_at one stages found) at) ≡ false
+tight-others one stages None fits at ne tight = by (cases_lt at (length stages))
+  where
+    by : (at < length stages) ⊎ (length stages ≤ at) → is_loose (stage_at (stages ++ ((one ∷ []) ∷ []) ∷ []) at) ≡ false
+    by (inl h) = ap is_loose (get_or_append_left stages (((one ∷ []) ∷ []) ∷ []) [] at h) ∙ tight
+    by (inr h) =
+        let past : length stages < at = omega arith in
+        ap is_loose (get_or_past (stages ++ ((one ∷ []) ∷ []) ∷ []) at [] (omega (arith, length_push stages ((one ∷ []) ∷ []))))
+tight-others one stages (Some found) fits at ne tight = ap is_loose (get_or-set_other stages found.stage at (taken one (stage_at stages found.stage) found.way) [] ne) ∙ tight
+
+pub tight-new : {Id : Type 0} (one : Placing Id) (stages : List (Stage Id)) (at : ℕ) → is_loose (stage_at stages at) ≡ false → is_loose (stage_at (placed_at one stages None) at) ≡ false
+tight-new one stages at tight = by (cases_eq at (length stages))
+  where
+    by : (at ≡ length stages) ⊎ (at ≡ length stages → ⊥) → is_loose (stage_at (placed_at one stages None) at) ≡ false
+    by (inl e) = ap is_loose (get_or_push stages ((one ∷ []) ∷ []) [] at (sym e)) ∙ single-tight one
+    by (inr ne) = tight-others one stages None tt at ne tight
+
+pub tight-alone : {Id : Type 0} (one : Placing Id) (stages : List (Stage Id)) (stage : ℕ) → stage < length stages → longest (stage_at stages stage) ≡ one.time → (at : ℕ)
+    → is_loose (stage_at stages at) ≡ false → is_loose (stage_at (placed_at one stages (Some (record { stage = stage; way = Alone }))) at) ≡ false
+tight-alone one stages stage within same at tight = by (cases_eq at stage)
+  where
+    P : Type 0
+    P = is_loose (stage_at (set stages stage (taken one (stage_at stages stage) Alone)) at) ≡ false
+
+    by : (at ≡ stage) ⊎ (at ≡ stage → ⊥) → P
+    by (inl e) =
+        ap (λ place. is_loose (stage_at (set stages stage (taken one (stage_at stages stage) Alone)) place)) e
+        ∙ ap is_loose (get_or-set_same stages stage (taken one (stage_at stages stage) Alone) [] within)
+        ∙ alone-tight one (stage_at stages stage) same (ap (λ place. is_loose (stage_at stages place)) (sym e) ∙ tight)
+    by (inr ne) = tight-others one stages (Some (record { stage = stage; way = Alone })) (within, tt) at ne tight
+
+-- the index with a system in it keeps to the plan with the system at its place
+pub keeps-noted : {Id : Type 0} (cmp : Id → Id → Ordering) (same : Id → Id → Bool) (before after : Index Id) (one : Placing Id) (stages : List (Stage Id)) (found : Option Place) (stage : ℕ) → IsPlace stages found → stage ≡ stage_of stages found
+    → Keeps cmp same before stages
+    → ((id : Id) (place : ℕ) → has_for cmp after.writers id place ≡ (has_for cmp before.writers id place || ((stage == place) && writes same one id)))
+    → ((id : Id) (place : ℕ) → has_for cmp after.users id place ≡ (has_for cmp before.users id place || ((stage == place) && uses same one id)))
+    → ((number place : ℕ) → stood_before after.firsts.stages number place ≡ (stood_before before.firsts.stages number place || (nat_lt stage place && (one.number == number))))
+    → ((place : ℕ) → has_stage after.loose place ≡ false → is_loose (stage_at (placed_at one stages found) place) ≡ false)
+    → Keeps cmp same after (placed_at one stages found)
+keeps-noted cmp same before after one stages found stage fits is keeps writers users firsts loose = record {
+  writers = λ id place.
+      writers id place
+      ∙ ap (λ b. b || ((stage == place) && writes same one id)) (keeps.writers id place)
+      ∙ ap (λ s. list_any (λ other. writes same other id) (systems_of (stage_at stages place)) || ((s == place) && writes same one id)) is
+      ∙ sym (any-placed (λ other. writes same other id) one stages found fits place);
+  users = λ id place.
+      users id place
+      ∙ ap (λ b. b || ((stage == place) && uses same one id)) (keeps.users id place)
+      ∙ ap (λ s. list_any (λ other. uses same other id) (systems_of (stage_at stages place)) || ((s == place) && uses same one id)) is
+      ∙ sym (any-placed (λ other. uses same other id) one stages found fits place);
+  firsts = λ number place.
+      firsts number place
+      ∙ ap (λ b. b || (nat_lt stage place && (one.number == number))) (keeps.firsts number place)
+      ∙ ap (λ s. stands_before stages number place || (nat_lt s place && (one.number == number))) is
+      ∙ sym (any-before (λ other. other.number == number) one stages found fits place);
+  loose = loose;
+}
+
+and-true : (b : Bool) → (b && true) ≡ b
+and-true true = refl
+and-true false = refl
+
+-- the index keeps to the plan where a stage that lets no system join a group is told to be so
+pub keeps-tight : {Id : Type 0} (cmp : Id → Id → Ordering) (same : Id → Id → Bool) (before after : Index Id) (stages : List (Stage Id)) (stage : ℕ)
+    → Keeps cmp same before stages → is_loose (stage_at stages stage) ≡ false
+    → (after.writers ≡ before.writers) × (after.users ≡ before.users) × (after.firsts ≡ before.firsts)
+    → ((place : ℕ) → has_stage after.loose place ≡ (has_stage before.loose place && not (stage == place)))
+    → Keeps cmp same after stages
+keeps-tight cmp same before after stages stage keeps tight kept loose = record {
+  writers = λ id place. ap (λ table. has_for cmp table id place) kept.0 ∙ keeps.writers id place;
+  users = λ id place. ap (λ table. has_for cmp table id place) kept.1 ∙ keeps.users id place;
+  firsts = λ number place. ap (λ firsts. stood_before firsts.stages number place) kept.2 ∙ keeps.firsts number place;
+  loose = λ place h. by place (cases_eq stage place) (sym (loose place) ∙ h);
+}
+  where
+    by : (place : ℕ) → (stage ≡ place) ⊎ (stage ≡ place → ⊥) → (has_stage before.loose place && not (stage == place)) ≡ false → is_loose (stage_at stages place) ≡ false
+    by place (inl e) out = ap (λ p. is_loose (stage_at stages p)) (sym e) ∙ tight
+    by place (inr ne) out =
+        keeps.loose place (sym (ap (λ b. has_stage before.loose place && not b) (ne_eqb stage place ne) ∙ and-true (has_stage before.loose place)) ∙ out)

@@ -1,0 +1,175 @@
+-- Facts on sets of stages that are kept in words.
+use Rattle.std.proofs.Common.{◌≡◌, ◌≢◌, ℕ, ◌+◌, ◌-◌, ◌*◌, ◌/◌, ◌%◌, ◌^◌, ◌<◌, ◌≤◌, max, Bool, true, false, not, ◌||◌, ◌&&◌, bit_and, eqb, List, length, get_or, take, refl, ap, sym, ◌∙◌, arith, ◌⊎◌, inl, inr, eq-eqb, ne_eqb}
+use Rattle.std.proofs.Math.ListN.{set}
+use Rattle.std.specs.Prelude.{◌==◌}
+use Rattle.std.specs.Prelude.{bit_or}
+use Rattle.std.specs.Int.{bit_at, bit_not, w64}
+use Rattle.std.proofs.lemmas.Bool.{cases_eq, cases_lt}
+use Rattle.std.proofs.lemmas.List.{get_or-set_same, get_or-set_other, get_or_past, get_or-take, length-take}
+use Rattle.std.proofs.lemmas.Nat.Bits.{bit_at_set_same, bit_at_set_other, bit_at_clear_same, bit_at_clear_other, bit_at_or, bit_at_ones, bit_at-zero, bit_at-lt}
+use Rattle.shred_plan.specs.Index.{is_in}
+
+-- a number is that of its word and its place in the word
+one-place : (x y : ℕ) → x / 64 ≡ y / 64 → x % 64 ≡ y % 64 → x ≡ y
+one-place x y p q = omega arith
+
+or-true : (b : Bool) → (b || true) ≡ true
+or-true true = refl
+or-true false = refl
+
+or-false : (b : Bool) → (b || false) ≡ b
+or-false true = refl
+or-false false = refl
+
+-- the bit of a stage, set in its word, is that of the stage alone
+pub is_in-insert : (words : List ℕ) (stage place : ℕ) → stage / 64 < length words
+    → is_in (set words (stage / 64) (bit_or (get_or words (stage / 64) 0) (1 * 2 ^ (stage % 64) % 2 ^ 64))) place ≡ (is_in words place || (stage == place))
+is_in-insert words stage place within = by (cases_eq (place / 64) (stage / 64)) (cases_eq (place % 64) (stage % 64))
+  where
+    word : ℕ
+    word = bit_or (get_or words (stage / 64) 0) (1 * 2 ^ (stage % 64) % 2 ^ 64)
+
+    small : stage % 64 < 64
+    small = omega arith
+
+    other : place ≢ stage → (is_in words place || (stage == place)) ≡ is_in words place
+    other ne = ap (λ b. is_in words place || b) (ne_eqb stage place (λ e. ne (sym e))) ∙ or-false (is_in words place)
+
+    by : (place / 64 ≡ stage / 64) ⊎ (place / 64 ≡ stage / 64 → ⊥) → (place % 64 ≡ stage % 64) ⊎ (place % 64 ≡ stage % 64 → ⊥)
+        → is_in (set words (stage / 64) word) place ≡ (is_in words place || (stage == place))
+    by (inl p) (inl q) =
+        ap (λ w. eqb (bit_at (get_or (set words (stage / 64) word) w 0) (place % 64)) 1) p
+        ∙ ap (λ w. eqb (bit_at w (place % 64)) 1) (get_or-set_same words (stage / 64) word 0 within)
+        ∙ ap (λ i. eqb (bit_at word i) 1) q
+        ∙ ap (λ b. eqb b 1) (bit_at_set_same w64 (get_or words (stage / 64) 0) (stage % 64) small)
+        ∙ sym (ap (λ b. is_in words place || b) (eq-eqb stage place (sym (one-place place stage p q))) ∙ or-true (is_in words place))
+    by (inl p) (inr nq) =
+        ap (λ w. eqb (bit_at (get_or (set words (stage / 64) word) w 0) (place % 64)) 1) p
+        ∙ ap (λ w. eqb (bit_at w (place % 64)) 1) (get_or-set_same words (stage / 64) word 0 within)
+        ∙ ap (λ b. eqb b 1) (bit_at_set_other w64 (get_or words (stage / 64) 0) (stage % 64) small (place % 64) nq)
+        ∙ ap (λ w. eqb (bit_at (get_or words w 0) (place % 64)) 1) (sym p)
+        ∙ sym (other (λ e. nq (ap (λ x. x % 64) e)))
+    by (inr np) q =
+        ap (λ w. eqb (bit_at w (place % 64)) 1) (get_or-set_other words (stage / 64) (place / 64) word 0 np)
+        ∙ sym (other (λ e. np (ap (λ x. x / 64) e)))
+
+and-true : (b : Bool) → (b && true) ≡ b
+and-true true = refl
+and-true false = refl
+
+and-false : (b : Bool) → (b && false) ≡ false
+and-false true = refl
+and-false false = refl
+
+-- the bit of a stage, cleared in its word, is that of the stage alone
+pub is_in-remove : (words : List ℕ) (stage place : ℕ) → stage / 64 < length words
+    → is_in (set words (stage / 64) (bit_and (get_or words (stage / 64) 0) (bit_not w64 (1 * 2 ^ (stage % 64) % 2 ^ 64)))) place ≡ (is_in words place && not (stage == place))
+is_in-remove words stage place within = by (cases_eq (place / 64) (stage / 64)) (cases_eq (place % 64) (stage % 64))
+  where
+    word : ℕ
+    word = bit_and (get_or words (stage / 64) 0) (bit_not w64 (1 * 2 ^ (stage % 64) % 2 ^ 64))
+
+    small : stage % 64 < 64
+    small = omega arith
+
+    other : place ≢ stage → (is_in words place && not (stage == place)) ≡ is_in words place
+    other ne = ap (λ b. is_in words place && not b) (ne_eqb stage place (λ e. ne (sym e))) ∙ and-true (is_in words place)
+
+    by : (place / 64 ≡ stage / 64) ⊎ (place / 64 ≡ stage / 64 → ⊥) → (place % 64 ≡ stage % 64) ⊎ (place % 64 ≡ stage % 64 → ⊥)
+        → is_in (set words (stage / 64) word) place ≡ (is_in words place && not (stage == place))
+    by (inl p) (inl q) =
+        ap (λ w. eqb (bit_at (get_or (set words (stage / 64) word) w 0) (place % 64)) 1) p
+        ∙ ap (λ w. eqb (bit_at w (place % 64)) 1) (get_or-set_same words (stage / 64) word 0 within)
+        ∙ ap (λ i. eqb (bit_at word i) 1) q
+        ∙ ap (λ b. eqb b 1) (bit_at_clear_same w64 (get_or words (stage / 64) 0) (stage % 64) small)
+        ∙ sym (ap (λ b. is_in words place && not b) (eq-eqb stage place (sym (one-place place stage p q))) ∙ and-false (is_in words place))
+    by (inl p) (inr nq) =
+        ap (λ w. eqb (bit_at (get_or (set words (stage / 64) word) w 0) (place % 64)) 1) p
+        ∙ ap (λ w. eqb (bit_at w (place % 64)) 1) (get_or-set_same words (stage / 64) word 0 within)
+        ∙ ap (λ b. eqb b 1) (bit_at_clear_other w64 (get_or words (stage / 64) 0) (stage % 64) small (place % 64) (omega arith) nq)
+        ∙ ap (λ w. eqb (bit_at (get_or words w 0) (place % 64)) 1) (sym p)
+        ∙ sym (other (λ e. nq (ap (λ x. x % 64) e)))
+    by (inr np) q =
+        ap (λ w. eqb (bit_at w (place % 64)) 1) (get_or-set_other words (stage / 64) (place / 64) word 0 np)
+        ∙ sym (other (λ e. np (ap (λ x. x / 64) e)))
+
+-- a stage past the words isn't there
+pub is_in-past : (words : List ℕ) (stage place : ℕ) → length words ≤ stage / 64 → is_in words place ≡ (is_in words place && not (stage == place))
+is_in-past words stage place past = by (cases_eq stage place)
+  where
+    by : (stage ≡ place) ⊎ (stage ≡ place → ⊥) → is_in words place ≡ (is_in words place && not (stage == place))
+    by (inl e) =
+        let out : is_in words place ≡ false =
+        ap (λ p. is_in words p) (sym e) ∙ ap (λ w. eqb (bit_at w (stage % 64)) 1) (get_or_past words (stage / 64) 0 past) ∙ ap (λ b. eqb b 1) (bit_at-zero (stage % 64)) in
+        out ∙ sym (ap (λ b. b && not (stage == place)) out)
+    by (inr ne) = sym (ap (λ b. is_in words place && not b) (ne_eqb stage place ne) ∙ and-true (is_in words place))
+
+-- words that read the same have the same stages
+pub is_in-same : (words others : List ℕ) → ((place : ℕ) → get_or words place 0 ≡ get_or others place 0) → (place : ℕ) → is_in words place ≡ is_in others place
+is_in-same words others same place = ap (λ w. eqb (bit_at w (place % 64)) 1) (same (place / 64))
+
+max-one : (x y : ℕ) → (x ≡ 0) ⊎ (x ≡ 1) → (y ≡ 0) ⊎ (y ≡ 1) → eqb (max x y) 1 ≡ (eqb x 1 || eqb y 1)
+max-one x y (inl p) (inl q) = rw (p, q) refl
+max-one x y (inl p) (inr q) = rw (p, q) refl
+max-one x y (inr p) (inl q) = rw (p, q) refl
+max-one x y (inr p) (inr q) = rw (p, q) refl
+
+a-bit : (x : ℕ) → x < 2 → (x ≡ 0) ⊎ (x ≡ 1)
+a-bit x h = grind arith
+
+-- the bit of two words in one
+pub bit-or : (x y i : ℕ) → eqb (bit_at (bit_or x y) i) 1 ≡ (eqb (bit_at x i) 1 || eqb (bit_at y i) 1)
+bit-or x y i = ap (λ b. eqb b 1) (bit_at_or x y i) ∙ max-one (bit_at x i) (bit_at y i) (a-bit _ (bit_at-lt x i)) (a-bit _ (bit_at-lt y i))
+
+-- a word of ones has each of its stages
+pub full-word : (words : List ℕ) (stage place : ℕ) → stage % 64 ≡ 0 → get_or words (stage / 64) 0 ≡ 2 ^ 64 - 1 → stage ≤ place → place < stage + 64 → is_in words place ≡ true
+full-word words stage place start full from upto =
+    let same : place / 64 ≡ stage / 64 = omega arith in
+    ap (λ w. eqb (bit_at (get_or words w 0) (place % 64)) 1) same
+    ∙ ap (λ w. eqb (bit_at w (place % 64)) 1) full
+    ∙ ap (λ b. eqb b 1) (bit_at_ones 64 (place % 64) (omega arith))
+
+-- a word of zeros has none
+pub empty-word : (words : List ℕ) (stage place : ℕ) → stage % 64 ≡ 0 → get_or words (stage / 64) 0 ≡ 0 → stage ≤ place → place < stage + 64 → is_in words place ≡ false
+empty-word words stage place start none from upto =
+    let same : place / 64 ≡ stage / 64 = omega arith in
+    ap (λ w. eqb (bit_at (get_or words w 0) (place % 64)) 1) same
+    ∙ ap (λ w. eqb (bit_at w (place % 64)) 1) none
+    ∙ ap (λ b. eqb b 1) (bit_at-zero (place % 64))
+
+-- a word joined with that of another list, of those joined so far
+pub united : (words firsts others : List ℕ) (i : ℕ) → i < length others → length others ≤ length words
+    → ((word bit : ℕ) → eqb (bit_at (get_or words word 0) bit) 1 ≡ (eqb (bit_at (get_or firsts word 0) bit) 1 || eqb (bit_at (get_or (take i others) word 0) bit) 1))
+    → (word bit : ℕ)
+    → eqb (bit_at (get_or (set words i (bit_or (get_or words i 0) (get_or others i 0))) word 0) bit) 1
+    ≡ (eqb (bit_at (get_or firsts word 0) bit) 1 || eqb (bit_at (get_or (take (i + 1) others) word 0) bit) 1)
+united words firsts others i h room joined word bit = by (cases_eq word i)
+  where
+    test : ℕ → Bool
+    test x = eqb (bit_at x bit) 1
+
+    before : get_or (take i others) i 0 ≡ 0
+    before = get_or_past (take i others) i 0 (omega (arith, length-take i others))
+
+    own : test (get_or words i 0) ≡ test (get_or firsts i 0)
+    own = joined i bit ∙ ap (λ x. test (get_or firsts i 0) || test x) before ∙ ap (λ x. test (get_or firsts i 0) || eqb x 1) (bit_at-zero bit) ∙ or-false (test (get_or firsts i 0))
+
+    same : word ≢ i → (word < i) ⊎ (i ≤ word) → get_or (take i others) word 0 ≡ get_or (take (i + 1) others) word 0
+    same ne (inl lt) = get_or-take i others word 0 lt ∙ sym (get_or-take (i + 1) others word 0 (omega arith))
+    same ne (inr ge) =
+        let more : i < word = omega arith in
+        get_or_past (take i others) word 0 (omega (arith, length-take i others)) ∙ sym (get_or_past (take (i + 1) others) word 0 (omega (arith, length-take (i + 1) others)))
+
+    by : (word ≡ i) ⊎ (word ≡ i → ⊥)
+        → test (get_or (set words i (bit_or (get_or words i 0) (get_or others i 0))) word 0) ≡ (test (get_or firsts word 0) || test (get_or (take (i + 1) others) word 0))
+    by (inl e) =
+        ap (λ w. test (get_or (set words i (bit_or (get_or words i 0) (get_or others i 0))) w 0)) e
+        ∙ ap test (get_or-set_same words i (bit_or (get_or words i 0) (get_or others i 0)) 0 (omega arith))
+        ∙ bit-or (get_or words i 0) (get_or others i 0) bit
+        ∙ ap (λ b. b || test (get_or others i 0)) own
+        ∙ ap (λ x. test (get_or firsts i 0) || test x) (sym (get_or-take (i + 1) others i 0 (omega arith)))
+        ∙ ap (λ w. test (get_or firsts w 0) || test (get_or (take (i + 1) others) w 0)) (sym e)
+    by (inr ne) =
+        ap test (get_or-set_other words i word (bit_or (get_or words i 0) (get_or others i 0)) 0 ne)
+        ∙ joined word bit
+        ∙ ap (λ x. test (get_or firsts word 0) || test x) (same ne (cases_lt word i))
