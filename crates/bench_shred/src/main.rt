@@ -4,6 +4,7 @@
 //! of a dispatch and of planning, and what threads make of the time of a stage.
 #![tactic(auto)]
 
+mod draws;
 mod load;
 mod runs;
 

@@ -1,6 +1,8 @@
 //! Dispatches and plans, with their checksums and times.
 ghost use Rattle.std.specs.Prelude.{◌≡◌};
 
+use crate::draws;
+use crate::draws::print_plan;
 use crate::load::{Mixer, Number, Value, mixed};
 use shred::{ResourceId, RunningTime, StagesBuilder, World};
 use std::alloc::{AllocError, Global};
@@ -196,6 +198,7 @@ pub(crate) fn checksums<R: Print + AllocGlobal + Threads + Wait + Sync>(rt: &R) 
     println!(rt;
         "plan of {PLANNED} systems over 64 ids: {groups} groups at most, text {checksum}"
     )?;
+    print_plan(rt)?;
     for groups in [2, 4, 8] {
         for workers in [0, 1, 2, 4] {
             print_stage(rt, groups, workers, 1)?;
@@ -285,5 +288,5 @@ pub(crate) fn times<R: Print + AllocGlobal + Threads + Wait + Sync + Clock>(
             "plan of {PLANNED} systems over {ids} ids: {taken} us, {groups} groups at most"
         )?;
     }
-    Ok(())
+    draws::print_time(rt)
 }

@@ -151,10 +151,8 @@ impl DrainableBitSet for AtomicBitSet {
     }
 }
 
-ghost use Rattle.std.specs.Iterator.{Drains, ExtendsWithItems, HoldsAlong, IsFinite};
-ghost use Rattle.std.specs.List.{All};
-ghost use Rattle.std.specs.Borrow.{Bor};
-ghost use Rattle.hibitset_sets.specs.Extend.{Extends, ExtendsRef, IsIndex, IsIndexRef, with_all};
+ghost use Rattle.std.specs.Iterator.{ExtendsWithItems};
+ghost use Rattle.hibitset_sets.specs.Extend.{Extends, ExtendsRef, GivesOnly, IsIndex, IsIndexRef, IsMadeOf};
 
 impl AtomicBitSet {
     /// Puts the indices in, in the order in which they come. Each has to be below `MAX_EID`.
@@ -164,7 +162,8 @@ impl AtomicBitSet {
         &mut self,
         indices: U,
     ) -> Result<(), AllocError>
-        requires { (it : U.IntoIter) → U.into_iter_gives indices it → U.IntoIter.can_next it × IsFinite (U.IntoIter.remaining it) × HoldsAlong U.IntoIter.next_gives it (All IsIndex) }
+        requires { GivesOnly U.into_iter_gives U.IntoIter.can_next U.IntoIter.remaining U.IntoIter.next_gives
+            IsIndex indices }
         ensures { ExtendsWithItems U.into_iter_gives U.IntoIter.next_gives Extends indices self.old self.new result }
     {
         self.bits.extend_indices(indices)
@@ -177,7 +176,8 @@ impl AtomicBitSet {
         &mut self,
         indices: U,
     ) -> Result<(), AllocError>
-        requires { (it : U.IntoIter) → U.into_iter_gives indices it → U.IntoIter.can_next it × IsFinite (U.IntoIter.remaining it) × HoldsAlong U.IntoIter.next_gives it (All IsIndexRef) }
+        requires { GivesOnly U.into_iter_gives U.IntoIter.can_next U.IntoIter.remaining U.IntoIter.next_gives
+            IsIndexRef indices }
         ensures { ExtendsWithItems U.into_iter_gives U.IntoIter.next_gives ExtendsRef indices self.old self.new result }
     {
         self.bits.extend_indices_by_ref(indices)
@@ -190,8 +190,9 @@ impl AtomicBitSet {
         alloc: Global,
         indices: U,
     ) -> Result<AtomicBitSet, AllocError>
-        requires { (it : U.IntoIter) → U.into_iter_gives indices it → U.IntoIter.can_next it × IsFinite (U.IntoIter.remaining it) × HoldsAlong U.IntoIter.next_gives it (All IsIndex) }
-        ensures { IfOk result (λ s. (it : U.IntoIter) × (xs : List ℕ) × U.into_iter_gives indices it × Drains U.IntoIter.next_gives it xs × (s.members ≡ with_all set.empty xs)) }
+        requires { GivesOnly U.into_iter_gives U.IntoIter.can_next U.IntoIter.remaining U.IntoIter.next_gives
+            IsIndex indices }
+        ensures { IfOk result (IsMadeOf U.into_iter_gives U.IntoIter.next_gives Extends indices) }
     {
         let bits = BitSet::from_indices(alloc, indices)?;
         Ok(AtomicBitSet { bits })
@@ -204,8 +205,9 @@ impl AtomicBitSet {
         alloc: Global,
         indices: U,
     ) -> Result<AtomicBitSet, AllocError>
-        requires { (it : U.IntoIter) → U.into_iter_gives indices it → U.IntoIter.can_next it × IsFinite (U.IntoIter.remaining it) × HoldsAlong U.IntoIter.next_gives it (All IsIndexRef) }
-        ensures { IfOk result (λ s. (it : U.IntoIter) × (xs : List (Bor ℕ)) × U.into_iter_gives indices it × Drains U.IntoIter.next_gives it xs × (s.members ≡ with_all set.empty (map (λ i. i.now) xs))) }
+        requires { GivesOnly U.into_iter_gives U.IntoIter.can_next U.IntoIter.remaining U.IntoIter.next_gives
+            IsIndexRef indices }
+        ensures { IfOk result (IsMadeOf U.into_iter_gives U.IntoIter.next_gives ExtendsRef indices) }
     {
         let bits = BitSet::from_indices_by_ref(alloc, indices)?;
         Ok(AtomicBitSet { bits })

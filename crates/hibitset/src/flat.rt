@@ -21,7 +21,8 @@ pub fn map_indices<R: Threads + Sync, T: Send + Drop, F: Fn(Index) -> T + Sync>(
 ) -> Result<Vec<T>, AllocError>
     requires { F.IsAlwaysCallable f }
     ensures each { IfOk result (λ v. AllZip (λ i t. F.post f i t) indices.now v.items) }
-    ensures plain { (answer : ℕ → T) → ((i : ℕ) (t : T) → F.post f i t → t ≡ answer i) → IfOk result (λ v. v.items ≡ map answer indices.now) }
+    ensures plain { (answer : ℕ → T) → ((i : ℕ) (t : T) → F.post f i t → t ≡ answer i)
+        → IfOk result (λ v. v.items ≡ map answer indices.now) }
 {
     indices
         .par_iter()

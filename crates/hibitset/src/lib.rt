@@ -20,7 +20,7 @@ pub use hibitset_sets::count::{Counter, Steps, Uncounted};
 pub use hibitset_sets::util::{BITS, LAYERS, MAX, Row, SHIFT0, SHIFT1, SHIFT2, SHIFT3, offsets};
 pub use hibitset_sets::{
     BitIter, BitSet, BitSetAll, BitSetAnd, BitSetIter, BitSetLike, BitSetNot, BitSetOr, BitSetXor,
-    DrainBitIter, DrainableBitSet, Index, KeptMasks, MAX_EID,
+    DrainBitIter, DrainableBitSet, Index, KeptMasks, MAX_EID, take_in_word,
 };
 pub use par_iter::BitParIter;
 pub use parallel::ParBitSetLike;

@@ -1,7 +1,8 @@
 //! Walks in several threads.
 ghost use Rattle.std.specs.List.{AllZip, FoldsTo};
 ghost use Rattle.hibitset.specs.Split.{AreJoined};
-ghost use Rattle.std.specs.Prelude.{◌∷◌, ◌%◌, ◌^◌, ◌≡◌, ◌≢◌, ℕ, ◌+◌, ◌<◌, ◌≤◌, ◌++◌, List, [], flat_map, length, IfOk, IsOk, vec_len, slice_index_or};
+ghost use Rattle.std.specs.Prelude.{◌∷◌, ◌%◌, ◌^◌, ◌≡◌, ◌≢◌, ℕ, ◌+◌, ◌<◌, ◌≤◌, ◌++◌, List, [], flat_map, length};
+ghost use Rattle.std.specs.Prelude.{IfOk, IsOk, vec_len, slice_index_or};
 ghost use Rattle.hibitset_sets.specs.Walk.{walk};
 ghost use Rattle.hibitset.specs.Producer.{items_of};
 ghost use Rattle.hibitset.specs.Folds.{FoldsFromStart, FoldsInParts, GoesOn};
@@ -84,12 +85,16 @@ impl<T: BitSetLike> BitParIter<T> {
         requires start { I.IsAlwaysCallable start }
         requires step { F.IsAlwaysCallable step }
         requires combine { C.IsAlwaysCallable combine }
-        ensures parts { IfOk result (FoldsInParts (λ a. I.post start a) (λ a i b. F.post step a i b) (λ a b c. C.post combine a b c) (walk (T.members (shared_set self.now)))) }
+        ensures parts { IfOk result (FoldsInParts (λ a. I.post start a) (λ a i b. F.post step a i b)
+            (λ a b c. C.post combine a b c) (walk (T.members (shared_set self.now)))) }
 
         // Where combining is going on through the part, it is the fold of the walk; for one worker too.
         ensures goes_on { GoesOn (λ a. I.post start a) (λ a i b. F.post step a i b) (λ a b c. C.post combine a b c)
-            → IfOk result (FoldsFromStart (λ a. I.post start a) (λ a i b. F.post step a i b) (walk (T.members (shared_set self.now)))) }
-        ensures alone { workers < 2 → IfOk result (FoldsFromStart (λ a. I.post start a) (λ a i b. F.post step a i b) (walk (T.members (shared_set self.now)))) }
+            → IfOk result (FoldsFromStart (λ a. I.post start a) (λ a i b. F.post step a i b)
+            (walk (T.members (shared_set self.now)))) }
+        ensures alone { workers < 2
+            → IfOk result (FoldsFromStart (λ a. I.post start a) (λ a i b. F.post step a i b)
+            (walk (T.members (shared_set self.now)))) }
         ensures succeeds { workers < 2 → IsOk result }
     {
         let whole = self.producer();
@@ -207,7 +212,8 @@ fn collect_parts<'a, R: Threads + Sync, T: BitSetLike + Sync>(
     alloc: Global,
     parts: Vec<BitProducer<'a, T>>,
 ) -> Result<Vec<Result<Vec<Index>, AllocError>>, AllocError>
-    ensures { IfOk result (λ v. AllZip (λ part list. IfOk list (λ l. l.items ≡ items_of T.members part)) parts.entry.items v.items) }
+    ensures { IfOk result (λ v.
+        AllZip (λ part list. IfOk list (λ l. l.items ≡ items_of T.members part)) parts.entry.items v.items) }
 {
     thread::map_vec(
         rt,
@@ -274,14 +280,18 @@ fn fold_parts<
     requires start { I.IsAlwaysCallable start.now }
     requires step { F.IsAlwaysCallable step.now }
     ensures len { IfOk result (λ v. vec_len v ≡ vec_len parts.entry) }
-    ensures each { IfOk result (λ v. AllZip (λ part fold. FoldsFromStart (λ a. I.post start.now a) (λ a i b. F.post step.now a i b) (items_of T.members part) fold) parts.entry.items v.items) }
+    ensures each { IfOk result (λ v. AllZip
+        (λ part fold. FoldsFromStart (λ a. I.post start.now a) (λ a i b. F.post step.now a i b)
+        (items_of T.members part) fold)
+        parts.entry.items v.items) }
 {
     thread::map_vec(
         rt,
         parts,
         &|part: BitProducer<'_, T>| -> A
             requires { I.IsAlwaysCallable start.now × F.IsAlwaysCallable step.now }
-            ensures { FoldsFromStart (λ a. I.post start.entry.now a) (λ a i b. F.post step.entry.now a i b) (items_of T.members part.entry) result }
+            ensures { FoldsFromStart (λ a. I.post start.entry.now a) (λ a i b. F.post step.entry.now a i b)
+                (items_of T.members part.entry) result }
         { fold_items(part, start(), step) },
     )
 }
@@ -290,7 +300,8 @@ fn fold_parts<
 fn combine_all<A: Drop, C: Fn(A, A) -> A>(folds: Vec<A>, combine: &C) -> A
     requires some { 0 < vec_len folds }
     requires combine { C.IsAlwaysCallable combine.now }
-    ensures { (first : A) × (others : List A) × (folds.items ≡ first ∷ others) × FoldsTo (λ a b c. C.post combine.now a b c) first others result }
+    ensures { (first : A) × (others : List A) × (folds.items ≡ first ∷ others)
+        × FoldsTo (λ a b c. C.post combine.now a b c) first others result }
 {
     let mut rest = folds.into_iter();
     let Some(first) = rest.next() else {
@@ -310,7 +321,8 @@ fn cut_parts<'a, T: BitSetLike>(
     parts: Vec<BitProducer<'a, T>>,
 ) -> Result<Vec<BitProducer<'a, T>>, AllocError>
     requires layers { whole.1 ≤ 3 }
-    ensures items { IfOk result (λ v. flat_map (items_of T.members) v.items ≡ flat_map (items_of T.members) parts.entry.items ++ items_of T.members whole.entry) }
+    ensures items { IfOk result (λ v. flat_map (items_of T.members) v.items
+        ≡ flat_map (items_of T.members) parts.entry.items ++ items_of T.members whole.entry) }
     ensures some { IfOk result (λ v. 0 < vec_len v) }
 {
     let mut parts = parts;

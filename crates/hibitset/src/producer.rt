@@ -28,7 +28,8 @@ impl<'a, T: BitSetLike> BitProducer<'a, T> {
     /// more than one mask that isn't empty is left whole.
     pub fn split(self) -> (Self, Option<Self>)
         requires { self.1 ≤ 3 }
-        ensures keeps { IsSplit (items_of T.members self.entry) (items_of T.members result.0) (items_of_other T.members result.1) }
+        ensures keeps { IsSplit (items_of T.members self.entry) (items_of T.members result.0)
+            (items_of_other T.members result.1) }
         ensures cut { MatchOption result.1
             ((index : ℕ) → CutsAt T.words self.entry index → ⊥)
             (λ other. (index : ℕ) × CutsAt T.words self.entry index
@@ -42,7 +43,8 @@ impl<'a, T: BitSetLike> BitProducer<'a, T> {
         // part is empty.
         ensures fresh { BeginsExact T.words self.entry → MatchOption result.1
             (Differ (T.members (walked_set self.entry.0).now) → ⊥)
-            (λ other. Differ (T.members (walked_set self.entry.0).now) × (items_of T.members result.0 ≢ []) × (items_of T.members other ≢ [])) }
+            (λ other. Differ (T.members (walked_set self.entry.0).now) × (items_of T.members result.0 ≢ [])
+            × (items_of T.members other ≢ [])) }
     {
         self.halves()
     }
@@ -50,7 +52,8 @@ impl<'a, T: BitSetLike> BitProducer<'a, T> {
     /// `split`, without what it says of a walk that begins.
     fn halves(self) -> (Self, Option<Self>)
         requires { self.1 ≤ 3 }
-        ensures keeps { IsSplit (items_of T.members self.entry) (items_of T.members result.0) (items_of_other T.members result.1) }
+        ensures keeps { IsSplit (items_of T.members self.entry) (items_of T.members result.0)
+            (items_of_other T.members result.1) }
         ensures cut { MatchOption result.1
             ((index : ℕ) → CutsAt T.words self.entry index → ⊥)
             (λ other. (index : ℕ) × CutsAt T.words self.entry index
@@ -105,7 +108,8 @@ fn cut_in<T: BitSetLike>(
     requires placed { IsPlaced masks.now prefix.now }
     ensures { MatchOption result
         ((index : ℕ) → IsCut (T.words set.now) masks.now prefix.now layers index → ⊥)
-        (λ cut. IsCutOf (T.members set.now) (T.words set.now) masks.now prefix.now layers cut.layer cut.first cut.word cut.place) }
+        (λ cut. IsCutOf (T.members set.now)
+        (T.words set.now) masks.now prefix.now layers cut.layer cut.first cut.word cut.place) }
 {
     let layer = only_mask(masks)?;
     let first = if layer < 3 { prefix[layer] } else { 0 };
@@ -158,7 +162,8 @@ fn cut_of<T: BitSetLike>(
     requires stands { IsFirstBit layer first }
     ensures { MatchOption result
         ((index : ℕ) → IsCutAt (T.words set.now) lowest layer first word index → ⊥)
-        (λ cut. IsFound (T.members set.now) (T.words set.now) lowest layer first word cut.layer cut.first cut.word cut.place) }
+        (λ cut. IsFound (T.members set.now)
+        (T.words set.now) lowest layer first word cut.layer cut.first cut.word cut.place) }
 {
     if layer < lowest || word == 0 {
         return None;
@@ -182,7 +187,8 @@ fn standing<'a, T: BitSetLike>(set: &'a T, layer: usize, first: usize, word: u64
     requires above { 0 < layer }
     requires stands { IsFirstBit layer first }
     ensures set { (walked_set result).now ≡ set.entry.now }
-    ensures items { left_of (λ s. T.members s.now) result ≡ walk (λ i. T.members set.entry.now i && is_under layer first word i) }
+    ensures items { left_of (λ s. T.members s.now) result
+        ≡ walk (λ i. T.members set.entry.now i && is_under layer first word i) }
 {
     let number = first as u32;
     if layer == 3 {

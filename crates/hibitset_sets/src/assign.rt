@@ -29,7 +29,8 @@ impl<'a, B: BitSetLike> BitAndAssign<&'a B> for BitSet {
     ghost use Rattle.hibitset_sets.specs.Assign.{Assigns};
     ghost use Rattle.hibitset_sets.specs.BitSet.{has_member};
 
-    ghost bitand_assign_gives = { λ old other new. Assigns (members_of_and (has_member old) (B.members other.now)) (has_member new) × (new.room ≡ old.room) };
+    ghost bitand_assign_gives = { λ old other new.
+        Assigns (members_of_and (has_member old) (B.members other.now)) (has_member new) × (new.room ≡ old.room) };
 
     fn bitand_assign(&mut self, rhs: &'a B) {
         let words = self.layer0_as_slice().len();
@@ -48,7 +49,8 @@ impl BitSet {
     ///
     /// Errors: `AllocError`, and the set is as it was.
     pub fn bitor_assign<B: BitSetLike>(&mut self, rhs: &B) -> Result<(), AllocError>
-        ensures ok { OnOk result (Assigns (members_of_or (has_member self.old) (B.members rhs.now)) (has_member self.new)) }
+        ensures ok { OnOk result (Assigns (members_of_or (has_member self.old) (B.members rhs.now))
+            (has_member self.new)) }
         ensures err { OnErr result (self.new ≡ self.old) }
     {
         let bound = bound_of(rhs);
@@ -61,7 +63,8 @@ impl BitSet {
     ///
     /// Errors: `AllocError`, and the set is as it was.
     pub fn bitxor_assign<B: BitSetLike>(&mut self, rhs: &B) -> Result<(), AllocError>
-        ensures ok { OnOk result (Assigns (members_of_xor (has_member self.old) (B.members rhs.now)) (has_member self.new)) }
+        ensures ok { OnOk result (Assigns (members_of_xor (has_member self.old) (B.members rhs.now))
+            (has_member self.new)) }
         ensures err { OnErr result (self.new ≡ self.old) }
     {
         self.reserve(bound_of(rhs))?;

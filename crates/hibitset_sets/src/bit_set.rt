@@ -1,5 +1,6 @@
 //! The set that is kept in memory.
-ghost use Rattle.std.specs.Prelude.{◌≡◌, ◌≢◌, ℕ, ◌+◌, ◌-◌, ◌*◌, ◌/◌, ◌%◌, ◌^◌, ◌<◌, ◌≤◌, ◌==◌, Bool, true, false, not, max, IsTrue, ◌↔◌, IsOk, IfOk, OnOk, OnErr, length, slice_index};
+ghost use Rattle.std.specs.Prelude.{◌≡◌, ◌≢◌, ℕ, ◌+◌, ◌-◌, ◌*◌, ◌/◌, ◌%◌, ◌^◌, ◌<◌, ◌≤◌, ◌==◌, Bool, true, false};
+ghost use Rattle.std.specs.Prelude.{not, max, IsTrue, ◌↔◌, IsOk, IfOk, OnOk, OnErr, length, slice_index};
 ghost use Rattle.std.specs.FinSet as set;
 
 use crate::bit_set_like::BitSetLike;

@@ -1,5 +1,6 @@
 //! What every set of indices answers, whether it is kept or virtual.
-ghost use Rattle.std.specs.Prelude.{◌≡◌, ℕ, ◌+◌, ◌/◌, ◌%◌, ◌^◌, ◌<◌, ◌==◌, ◌↔◌, [], ◌∷◌, Bool, true, false, IsTrue, if◌then◌else◌};
+ghost use Rattle.std.specs.Prelude.{◌≡◌, ℕ, ◌+◌, ◌/◌, ◌%◌, ◌^◌, ◌<◌, ◌==◌, ◌↔◌, [], ◌∷◌, Bool};
+ghost use Rattle.std.specs.Prelude.{true, false, IsTrue, if◌then◌else◌};
 ghost use Rattle.hibitset_sets.specs.Iter.{left_of, unread, walked_set, masks_left};
 ghost use Rattle.hibitset_sets.specs.Walk.{walk, words_walked};
 ghost use Rattle.hibitset_sets.specs.Words.{is_marked, StandsOver};

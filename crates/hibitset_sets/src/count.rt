@@ -20,7 +20,8 @@ pub trait Counter {
     ghost ticked_none: { (count : Self) → ticked count 0 count };
 
     /// What was told first and what was told then add up.
-    ghost ticked_both: { (before between after : Self) (first then : ℕ) → ticked before first between → ticked between then after → ticked before (first + then) after };
+    ghost ticked_both: { (before between after : Self) (first then : ℕ) → ticked before first between
+        → ticked between then after → ticked before (first + then) after };
 }
 
 /// Counts nothing, at no cost.

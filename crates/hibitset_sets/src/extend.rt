@@ -1,10 +1,7 @@
 //! Sets made of indices, and indices put into sets.
-ghost use Rattle.std.specs.Prelude.{◌≡◌, ℕ, List, map, IfOk};
-ghost use Rattle.std.specs.Iterator.{Drains, ExtendsWithItems, HoldsAlong, IsFinite};
-ghost use Rattle.std.specs.List.{All};
-ghost use Rattle.std.specs.FinSet as set;
-ghost use Rattle.std.specs.Borrow.{Bor};
-ghost use Rattle.hibitset_sets.specs.Extend.{Extends, ExtendsRef, IsIndex, IsIndexRef, with_all};
+ghost use Rattle.std.specs.Prelude.{IfOk};
+ghost use Rattle.std.specs.Iterator.{ExtendsWithItems};
+ghost use Rattle.hibitset_sets.specs.Extend.{Extends, ExtendsRef, GivesOnly, IsIndex, IsIndexRef, IsMadeOf};
 
 use crate::bit_set::BitSet;
 use crate::util::Index;
@@ -19,7 +16,8 @@ impl BitSet {
         &mut self,
         indices: U,
     ) -> Result<(), AllocError>
-        requires { (it : U.IntoIter) → U.into_iter_gives indices it → U.IntoIter.can_next it × IsFinite (U.IntoIter.remaining it) × HoldsAlong U.IntoIter.next_gives it (All IsIndex) }
+        requires { GivesOnly U.into_iter_gives U.IntoIter.can_next U.IntoIter.remaining U.IntoIter.next_gives
+            IsIndex indices }
         ensures { ExtendsWithItems U.into_iter_gives U.IntoIter.next_gives Extends indices self.old self.new result }
     {
         for i in indices {
@@ -36,7 +34,8 @@ impl BitSet {
         &mut self,
         indices: U,
     ) -> Result<(), AllocError>
-        requires { (it : U.IntoIter) → U.into_iter_gives indices it → U.IntoIter.can_next it × IsFinite (U.IntoIter.remaining it) × HoldsAlong U.IntoIter.next_gives it (All IsIndexRef) }
+        requires { GivesOnly U.into_iter_gives U.IntoIter.can_next U.IntoIter.remaining U.IntoIter.next_gives
+            IsIndexRef indices }
         ensures { ExtendsWithItems U.into_iter_gives U.IntoIter.next_gives ExtendsRef indices self.old self.new result }
     {
         for i in indices {
@@ -52,8 +51,9 @@ impl BitSet {
         alloc: Global,
         indices: U,
     ) -> Result<BitSet, AllocError>
-        requires { (it : U.IntoIter) → U.into_iter_gives indices it → U.IntoIter.can_next it × IsFinite (U.IntoIter.remaining it) × HoldsAlong U.IntoIter.next_gives it (All IsIndex) }
-        ensures { IfOk result (λ s. (it : U.IntoIter) × (xs : List ℕ) × U.into_iter_gives indices it × Drains U.IntoIter.next_gives it xs × (s.members ≡ with_all set.empty xs)) }
+        requires { GivesOnly U.into_iter_gives U.IntoIter.can_next U.IntoIter.remaining U.IntoIter.next_gives
+            IsIndex indices }
+        ensures { IfOk result (IsMadeOf U.into_iter_gives U.IntoIter.next_gives Extends indices) }
     {
         let mut set = BitSet::new(alloc);
         set.extend_indices(indices)?;
@@ -67,8 +67,9 @@ impl BitSet {
         alloc: Global,
         indices: U,
     ) -> Result<BitSet, AllocError>
-        requires { (it : U.IntoIter) → U.into_iter_gives indices it → U.IntoIter.can_next it × IsFinite (U.IntoIter.remaining it) × HoldsAlong U.IntoIter.next_gives it (All IsIndexRef) }
-        ensures { IfOk result (λ s. (it : U.IntoIter) × (xs : List (Bor ℕ)) × U.into_iter_gives indices it × Drains U.IntoIter.next_gives it xs × (s.members ≡ with_all set.empty (map (λ i. i.now) xs))) }
+        requires { GivesOnly U.into_iter_gives U.IntoIter.can_next U.IntoIter.remaining U.IntoIter.next_gives
+            IsIndexRef indices }
+        ensures { IfOk result (IsMadeOf U.into_iter_gives U.IntoIter.next_gives ExtendsRef indices) }
     {
         let mut set = BitSet::new(alloc);
         set.extend_indices_by_ref(indices)?;

@@ -1,7 +1,8 @@
 //! Walks: the members of a set below `MAX_EID`, in ascending order.
-ghost use Rattle.std.specs.Prelude.{◌≡◌, ◌≢◌, ℕ, ◌+◌, ◌-◌, ◌<◌, ◌≤◌, ◌∷◌, false, IsTrue, ◌↔◌, IfSome, IfNone, slice_index};
+ghost use Rattle.std.specs.Prelude.{◌≡◌, ◌≢◌, ℕ, ◌+◌, ◌-◌, ◌<◌, ◌≤◌, ◌∷◌, false, IsTrue};
+ghost use Rattle.std.specs.Prelude.{◌↔◌, Bool, IfSome, IfNone, slice_index};
 ghost use Rattle.std.specs.Iterator.{YieldsFirst, item_count};
-ghost use Rattle.hibitset_sets.specs.Walk.{IsPlaced};
+ghost use Rattle.hibitset_sets.specs.Walk.{walk, is_pending, IsPlaced};
 ghost use Rattle.hibitset_sets.specs.Steps.{TakesLowest};
 
 use crate::bit_set_like::BitSetLike;
@@ -33,8 +34,22 @@ fn take_lowest(masks: &mut [u64; LAYERS], layer: usize) -> u32
     place
 }
 
+/// Takes the first index out of a walk that is known by its masks and prefixes alone, while the word at which it
+/// stands has one. It reads no set, so none need be lent meanwhile.
+pub fn take_in_word(masks: &mut [u64; LAYERS], prefix: &[u32; 3]) -> Index
+    requires placed { IsPlaced masks.old prefix.now }
+    requires some { slice_index masks.old 0 ≢ 0 }
+    ensures placed { IsPlaced masks.new prefix.now }
+    ensures items { (members : ℕ → Bool) → walk (is_pending members masks.old prefix.now)
+        ≡ result ∷ walk (is_pending members masks.new prefix.now) }
+    ensures gone { (members : ℕ → Bool) → is_pending members masks.new prefix.now result ≡ false }
+{
+    let place = take_lowest(masks, 0);
+    prefix[0] + place
+}
+
 impl<T: BitSetLike> BitIter<T> {
-    ghost use Rattle.hibitset_sets.specs.Walk.{walk, is_pending, words_left};
+    ghost use Rattle.hibitset_sets.specs.Walk.{words_left};
     ghost use Rattle.hibitset_sets.specs.Iter.{left_of, unread, walked_set, masks_left, prefixes};
 
     /// A walk that goes on from these masks and prefixes.
@@ -133,11 +148,13 @@ impl<T: BitSetLike> BitIter<T> {
     pub fn next_counted<C: Counter>(&mut self, count: &mut C) -> Option<Index>
         ensures item { YieldsFirst (left_of T.members) self.old result self.new }
         ensures range { IfSome result (λ i. i < 16777216) }
-        ensures gone { IfSome result (λ i. is_pending (T.members (walked_set self.old)) (masks_left self.new) (prefixes self.new) i ≡ false) }
+        ensures gone { IfSome result (λ i. is_pending (T.members (walked_set self.old)) (masks_left self.new)
+            (prefixes self.new) i ≡ false) }
         ensures set { walked_set self.new ≡ walked_set self.old }
         ensures fewer { unread T.reads T.words self.new ≤ unread T.reads T.words self.old }
         ensures ended { IfNone result (unread T.reads T.words self.new ≡ 0) }
-        ensures counted { C.ticked count.old (unread T.reads T.words self.old - unread T.reads T.words self.new) count.new }
+        ensures counted { C.ticked count.old
+            (unread T.reads T.words self.old - unread T.reads T.words self.new) count.new }
     {
         while self.masks[0] == 0 {
             let layer = self.lowest();

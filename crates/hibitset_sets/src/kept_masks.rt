@@ -56,5 +56,6 @@ impl<A: KeptMasks, B: KeptMasks> KeptMasks for BitSetAnd<A, B> {
 
     ghost reads_kept = { λ mask layer. (λ j. A.reads_kept mask.0 layer j + B.reads_kept mask.1 layer j) };
 
-    ghost few_words = { λ mask. and-few (A.words mask.0) (B.words mask.1) (A.least mask.0) (B.least mask.1) (A.few_words mask.0) (B.few_words mask.1) };
+    ghost few_words = { λ mask. and-few (A.words mask.0) (B.words mask.1) (A.least mask.0) (B.least mask.1)
+        (A.few_words mask.0) (B.few_words mask.1) };
 }

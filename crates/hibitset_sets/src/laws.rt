@@ -1,5 +1,6 @@
 //! Laws on which callers rely. Most functions have no code; each contract is the law.
-ghost use Rattle.std.specs.Prelude.{◌≡◌, ◌≢◌, ℕ, ◌+◌, ◌*◌, ◌/◌, ◌<◌, ◌≤◌, ◌↔◌, [], ◌∷◌, Bool, true, false, not, min, length, take, drop};
+ghost use Rattle.std.specs.Prelude.{◌≡◌, ◌≢◌, ℕ, ◌+◌, ◌*◌, ◌/◌, ◌<◌, ◌≤◌, ◌↔◌, [], ◌∷◌, Bool, true, false, not};
+ghost use Rattle.std.specs.Prelude.{min, length, take, drop};
 ghost use Rattle.std.specs.FinSet as set;
 ghost use Rattle.hibitset_sets.specs.Assign.{Assigns};
 ghost use Rattle.hibitset_sets.specs.BitSet.{has_member};
@@ -19,7 +20,8 @@ use std::sync::ledger::Ledger;
 /// Two sets hold each other exactly where `==` holds of them.
 pub fn equal_sets_hold_each_other(one: &BitSet, other: &BitSet)
     ensures both { same_members one.now other.now ≡ true
-        ↔ ((set.is_subset other.now.members one.now.members ≡ true) × (set.is_subset one.now.members other.now.members ≡ true)) }
+        ↔ ((set.is_subset other.now.members one.now.members ≡ true)
+        × (set.is_subset one.now.members other.now.members ≡ true)) }
     ensures same { same_members one.now other.now ≡ true ↔ (one.now.members ≡ other.now.members) }
 {}
 
@@ -85,7 +87,8 @@ fn drain_into<'a, T: DrainableBitSet>(drain: &mut DrainBitIter<'a, T>, given: &m
     ensures count { result ≡ min (length given.old) (length (drained_of T.members drain.old)) }
     ensures items { take result given.new ≡ take result (drained_of T.members drain.old) }
     ensures rest { drop result given.new ≡ drop result given.old }
-    ensures members { WithoutAll (T.members drain.old.set.now) (take result (drained_of T.members drain.old)) (T.members drain.new.set.now) }
+    ensures members { WithoutAll (T.members drain.old.set.now) (take result (drained_of T.members drain.old))
+        (T.members drain.new.set.now) }
 {
     for place in 0..given.len() {
         let Some(i) = drain.next() else {

@@ -22,7 +22,7 @@ pub mod util;
 pub use bit_set::BitSet;
 pub use bit_set_like::BitSetLike;
 pub use drain::{DrainBitIter, DrainableBitSet};
-pub use iter::BitIter;
+pub use iter::{BitIter, take_in_word};
 pub use kept_masks::KeptMasks;
 pub use ops::{BitSetAll, BitSetAnd, BitSetIter, BitSetNot, BitSetOr, BitSetXor};
 pub use util::{Index, MAX_EID};

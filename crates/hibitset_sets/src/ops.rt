@@ -1,7 +1,11 @@
 //! Virtual sets: the connectives of sets, made without memory.
 ghost use Rattle.std.specs.Prelude.{◌≡◌, ℕ, ◌+◌, ◌<◌, true};
-ghost use Rattle.hibitset_sets.specs.Operators.{members_of_and, members_of_or, members_of_xor, members_of_not, words_of_and, words_of_or, words_of_xor, words_of_not, reads_of_not};
-ghost use Rattle.hibitset_sets.specs.OperatorLemmas.{and-over, and-agree, and-fit, or-over, or-agree, or-fit, xor-over, xor-agree, xor-fit, not-over, not-agree, not-fit, all-over, all-agree, all-fit};
+ghost use Rattle.hibitset_sets.specs.Operators.{members_of_and, members_of_or, members_of_xor, members_of_not};
+ghost use Rattle.hibitset_sets.specs.Operators.{words_of_and, words_of_or, words_of_xor, words_of_not};
+ghost use Rattle.hibitset_sets.specs.Operators.{reads_of_not};
+ghost use Rattle.hibitset_sets.specs.OperatorLemmas.{and-over, and-agree, and-fit, or-over, or-agree, or-fit};
+ghost use Rattle.hibitset_sets.specs.OperatorLemmas.{xor-over, xor-agree, xor-fit, not-over, not-agree, not-fit};
+ghost use Rattle.hibitset_sets.specs.OperatorLemmas.{all-over, all-agree, all-fit};
 
 mod and_sets;
 mod kept_walks;
@@ -44,7 +48,8 @@ impl<A: BitSetLike, B: BitSetLike> BitSetLike for BitSetAnd<A, B> {
 
     ghost stands_over = { λ set. and-over (A.words set.0) (B.words set.1) (A.stands_over set.0) (B.stands_over set.1) };
 
-    ghost words_agree = { λ set. and-agree (A.words set.0) (B.words set.1) (A.members set.0) (B.members set.1) (A.words_agree set.0) (B.words_agree set.1) };
+    ghost words_agree = { λ set. and-agree (A.words set.0) (B.words set.1) (A.members set.0) (B.members set.1)
+        (A.words_agree set.0) (B.words_agree set.1) };
 
     ghost words_fit = { λ set. and-fit (A.words set.0) (B.words set.1) (A.words_fit set.0) };
 
@@ -84,7 +89,8 @@ impl<A: BitSetLike, B: BitSetLike> BitSetLike for BitSetOr<A, B> {
 
     ghost stands_over = { λ set. or-over (A.words set.0) (B.words set.1) (A.stands_over set.0) (B.stands_over set.1) };
 
-    ghost words_agree = { λ set. or-agree (A.words set.0) (B.words set.1) (A.members set.0) (B.members set.1) (A.words_agree set.0) (B.words_agree set.1) };
+    ghost words_agree = { λ set. or-agree (A.words set.0) (B.words set.1) (A.members set.0) (B.members set.1)
+        (A.words_agree set.0) (B.words_agree set.1) };
 
     ghost words_fit = { λ set. or-fit (A.words set.0) (B.words set.1) (A.words_fit set.0) (B.words_fit set.1) };
 
@@ -124,7 +130,8 @@ impl<A: BitSetLike, B: BitSetLike> BitSetLike for BitSetXor<A, B> {
 
     ghost stands_over = { λ set. xor-over (A.words set.0) (B.words set.1) (A.stands_over set.0) (B.stands_over set.1) };
 
-    ghost words_agree = { λ set. xor-agree (A.words set.0) (B.words set.1) (A.members set.0) (B.members set.1) (A.words_agree set.0) (B.words_agree set.1) };
+    ghost words_agree = { λ set. xor-agree (A.words set.0) (B.words set.1) (A.members set.0) (B.members set.1)
+        (A.words_agree set.0) (B.words_agree set.1) };
 
     ghost words_fit = { λ set. xor-fit (A.words set.0) (B.words set.1) (A.words_fit set.0) (B.words_fit set.1) };
 
@@ -164,7 +171,8 @@ impl<A: BitSetLike> BitSetLike for BitSetNot<A> {
 
     ghost stands_over = { λ set. not-over (A.words set.0) };
 
-    ghost words_agree = { λ set. not-agree (A.words set.0) (A.words_fit set.0) (A.members set.0) (A.words_agree set.0) };
+    ghost words_agree = { λ set. not-agree (A.words set.0) (A.words_fit set.0) (A.members set.0)
+        (A.words_agree set.0) };
 
     ghost words_fit = { λ set. not-fit (A.words set.0) };
 

@@ -10,15 +10,15 @@ use Rattle.scene_rules.specs.declared.refusals.FrameRefusal.{FrameRefusal}
 use Rattle.scene_rules.specs.declared.refusals.FrameRefusal.TheVariants.{System, GoneReference, IdsSpent, IndicesSpent, GenerationsSpent, TooManyCommands, Memory, Threads}
 use Rattle.scene_rules.specs.Parts.{Json, Name, Part, place_of}
 use Rattle.scene_rules.specs.Rulebook.{Book, Command}
-use Rattle.scene_rules.specs.Scenes.{PlainScene, PlainSystem, PlainFrame, Steps, PartsAdmitted, RefsLive}
+use Rattle.scene_rules.specs.Scenes.{PlainScene, PlainSystem, PlainFrame, Steps, PartsAdmitted, GlobalsReadable, RefsLive}
 use Rattle.scene_rules.specs.Lawful.{IsLawful}
 use Rattle.scene_rules.specs.Queues.{plain_commands, waiting}
 use Rattle.scene_rules.specs.declared.turn.Saved.{Saved}
 use Rattle.scene_rules.specs.declared.view.Columns.{Columns}
 use Rattle.scene_rules.specs.declared.command.Command.{Command as CodeCommand}
-use Rattle.scene_rules.specs.Slots.{in_column, filled, HoldsOnly}
+use Rattle.scene_rules.specs.Slots.{in_column, filled, HoldsOnly, AreEmpty}
 use Rattle.scene_rules.specs.Commands.{CommandsAccepted, CommandsRefused}
-use Rattle.scene_rules.specs.Lending.{StepIsRefused, SavesBefore, SameBefore, NothingSaved, scene_in, before, before_at, Fits, IsSound}
+use Rattle.scene_rules.specs.Lending.{StepIsRefused, SavesBefore, SameBefore, scene_in, before, before_at, Fits, IsSound}
 use Rattle.scene_rules.proofs.CallerLemmas.{same_scene}
 use Rattle.scene_commands.specs.Together.{all_of}
 use Rattle.scene.specs.Frames.{Queues, SystemsRun, SystemsRefuse, SystemsFill, entered, by_place, all_commands, Accepts, Refuses}
@@ -154,7 +154,7 @@ saves-then early late = record {
 }
 
 -- what stood at each place before a frame in which nothing had been saved is known from then on
-pub known-before : {T : Type 0} (first_saved saved : List (Option T)) (original mid : List T) → NothingSaved first_saved → SameBefore first_saved original saved mid → (place : ℕ) → before saved mid place ≡ slice_get original place
+pub known-before : {T : Type 0} (first_saved saved : List (Option T)) (original mid : List T) → AreEmpty first_saved → SameBefore first_saved original saved mid → (place : ℕ) → before saved mid place ≡ slice_get original place
 known-before first_saved saved original mid nothing same place = same place ∙ ap (λ some. before_at some (slice_get original place)) (nothing place)
 
 -- no system has run
@@ -224,6 +224,7 @@ module _ {D G : Type 0} (part_of : D → Part) (global_of : G → Json) (book : 
     own = restored-own sound.own later;
     admitted = subst (λ scene. PartsAdmitted book scene.part) (sym (restored-scene same)) sound.admitted;
     living = subst (λ scene. RefsLive scene.ids scene.part) (sym (restored-scene same)) sound.living;
+    readable = subst (λ scene. GlobalsReadable book scene.global) (sym (restored-scene same)) sound.readable;
   }
 
 -- a frame is accepted where its systems have run and its commands are accepted

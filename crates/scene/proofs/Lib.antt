@@ -1,3 +1,4 @@
 pub mod EngineLemmas
 pub mod TurnLemmas
 pub mod OutcomeLemmas
+pub mod CallerLemmas

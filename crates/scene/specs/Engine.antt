@@ -2,7 +2,7 @@
 use Rattle.std.specs.Prelude.{◌≡◌, ℕ, List, map, All}
 use Rattle.scene_rules.specs.declared.command.Queue.{Queue}
 use Rattle.scene_rules.specs.declared.refusals.FrameRefusal.{FrameRefusal}
-use Rattle.scene_rules.specs.declared.refusals.FrameRefusal.TheVariants.{System, GoneReference, IdsSpent, IndicesSpent, GenerationsSpent, TooManyCommands, Memory, Threads}
+use Rattle.scene_rules.specs.Causes.{Says}
 use Rattle.scene_rules.specs.Parts.{Part}
 use Rattle.scene_rules.specs.Rulebook.{Book, Command}
 use Rattle.scene_rules.specs.Scenes.{PlainScene, PlainSystem, Steps}
@@ -34,11 +34,9 @@ pub record HaveRun {D : Type 0} (part_of : D → Part) (book : Book) (order : Li
 
 -- the systems are refused for this cause: one refuses, or fills its queue; want of memory says nothing, and there is no other
 abbrev pub SystemsAreRefused : Book → List PlainSystem → PlainScene → FrameRefusal → Type 0
-SystemsAreRefused book order scene (System position text) = SystemsRefuse book order scene position text
-SystemsAreRefused book order scene (GoneReference id) = ⊥
-SystemsAreRefused book order scene IdsSpent = ⊥
-SystemsAreRefused book order scene IndicesSpent = ⊥
-SystemsAreRefused book order scene GenerationsSpent = ⊥
-SystemsAreRefused book order scene TooManyCommands = SystemsFill book order scene
-SystemsAreRefused book order scene Memory = Unit {0}
-SystemsAreRefused book order scene Threads = ⊥
+SystemsAreRefused book order scene cause = Says (record {
+  system = λ position text. SystemsRefuse book order scene position text;
+  gone = λ id. ⊥;
+  ids = ⊥;
+  commands = SystemsFill book order scene;
+}) cause

@@ -5,11 +5,12 @@ use Rattle.std.specs.List.{fold, flat_map}
 use Rattle.std.specs.Ordering.{nat_cmp}
 use Rattle.std.specs.BTreeMap.{insert_entry}
 use Rattle.scene_rules.specs.declared.refusals.FrameRefusal.{FrameRefusal}
-use Rattle.scene_rules.specs.declared.refusals.FrameRefusal.TheVariants.{System, GoneReference, IdsSpent, IndicesSpent, GenerationsSpent, TooManyCommands, Memory, Threads}
+use Rattle.scene_rules.specs.declared.refusals.FrameRefusal.TheVariants.{GoneReference, IdsSpent, TooManyCommands}
 use Rattle.scene_rules.specs.declared.refusals.Report.{Report}
 use Rattle.scene_rules.specs.declared.refusals.Skip.{Skip}
 use Rattle.scene_rules.specs.Rulebook.{Book, Command}
 use Rattle.scene_rules.specs.Scenes.{PlainScene, PlainSystem, PlainFrame, Steps, StepRefuses, StepFills}
+use Rattle.scene_rules.specs.Causes.{Says}
 use Rattle.scene_rules.specs.Commands.{CommandsAccepted, CommandsRefused, skips_of}
 
 -- the commands of each system, under the system's place among the entries
@@ -53,14 +54,12 @@ RefusesCommands book limit frame scene cause = (mid : PlainScene) × (queues : Q
 
 -- a frame is refused with this cause: a system's, or one of the commands; a want of memory says nothing of the scene
 abbrev pub Refuses : Book → ℕ → PlainFrame → PlainScene → FrameRefusal → Type 0
-Refuses book limit frame scene (System position text) = SystemsRefuse book frame.order scene position text
-Refuses book limit frame scene (GoneReference id) = RefusesCommands book limit frame scene (GoneReference id)
-Refuses book limit frame scene IdsSpent = RefusesCommands book limit frame scene IdsSpent
-Refuses book limit frame scene IndicesSpent = ⊥
-Refuses book limit frame scene GenerationsSpent = ⊥
-Refuses book limit frame scene TooManyCommands = SystemsFill book frame.order scene ⊎ RefusesCommands book limit frame scene TooManyCommands
-Refuses book limit frame scene Memory = Unit {0}
-Refuses book limit frame scene Threads = ⊥
+Refuses book limit frame scene cause = Says (record {
+  system = λ position text. SystemsRefuse book frame.order scene position text;
+  gone = λ id. RefusesCommands book limit frame scene (GoneReference id);
+  ids = RefusesCommands book limit frame scene IdsSpent;
+  commands = SystemsFill book frame.order scene ⊎ RefusesCommands book limit frame scene TooManyCommands;
+}) cause
 
 -- a number of frames, each as `frames` gives it by its number from 1, take a scene to the one after, with these skips
 abbrev pub Reaches : Book → ℕ → (ℕ → PlainFrame) → ℕ → PlainScene → PlainScene → List Skip → Type 0

@@ -15,7 +15,7 @@ use Rattle.scene_rules.specs.Scenes.{PlainScene, IsProper}
 use Rattle.scene_draft.specs.Drafts.{Draft}
 use Rattle.scene_document.specs.Documents.{document_of}
 use Rattle.scene_draft.specs.Texts.{scene_json, text_of, ReadsBack}
-use Rattle.scene.specs.Runs.{Ran}
+use Rattle.scene.specs.Runs.{CanBegin, Ran}
 
 -- the limits that a run is under: how many entities a document may list, and how many commands a frame may have
 pub record Bounds : Type 0 where
@@ -29,12 +29,13 @@ bounds_of limits = record { indices = limits.indices; commands = limits.commands
 abbrev pub full_bounds : Bounds
 full_bounds = record { indices = 16777216; commands = 1048576 }
 
--- a text is that of a scene which the frames of the document in these bytes reach, with this report; the scene is proper, and the
--- text reads as its JSON, and as no other
+-- a text is that of a scene which the frames of the document in these bytes reach, with this report; the document can begin, the
+-- scene is proper, and the text reads as its JSON, and as no other
 pub record IsRunOf (book : Book) (bounds : Bounds) (input : List ℕ) (report : Report) (text : List ℕ) : Type 0 where
   pub draft : Draft
   pub scene : PlainScene
   pub document : document_of book bounds.indices input ≡ Ok draft
+  pub begins : CanBegin book draft
   pub ran : Ran book bounds.commands draft report scene
   pub proper : IsProper book scene
   pub written : text ≡ text_of book scene
@@ -49,55 +50,19 @@ IsNoDocument book bounds input Memory = Unit {0}
 abbrev pub OfInput : Option (List ℕ) → (List ℕ → Type 0) → Type 0
 OfInput known holds = (input : List ℕ) × IfSome known (λ bytes. input ≡ bytes) × holds input
 
--- what is told of a document: the refusal that stands
-abbrev pub TellsDocument : Book → Bounds → Option (List ℕ) → RunError → Type 0
-TellsDocument book bounds known (run.Document refusal) = OfInput known (λ input. document_of book bounds.indices input ≡ Err refusal)
-TellsDocument book bounds known run.Read = Unit {0}
-TellsDocument book bounds known (run.Write sent) = Unit {0}
-TellsDocument book bounds known run.Memory = Unit {0}
+-- what each error of a run says
+pub record Errors : Type 1 where
+  pub document : DocRefusal → Type 0
+  pub read : Type 0
+  pub write : ℕ → Type 0
+  pub memory : Type 0
 
--- where this refusal stands, it is the one that is told, but for a failed read and want of memory
-abbrev pub TellsOnly : {A : Type 0} → DocRefusal → Result A RunError → Type 0
-TellsOnly refusal (Ok report) = ⊥
-TellsOnly refusal (Err (run.Document told)) = told ≡ refusal
-TellsOnly refusal (Err run.Read) = Unit {0}
-TellsOnly refusal (Err (run.Write sent)) = ⊥
-TellsOnly refusal (Err run.Memory) = Unit {0}
-
--- this holds where a failed read is told
-abbrev pub OnRead : Type 0 → RunError → Type 0
-OnRead fact (run.Document refusal) = Unit {0}
-OnRead fact run.Read = fact
-OnRead fact (run.Write sent) = Unit {0}
-OnRead fact run.Memory = Unit {0}
-
--- this holds of the bytes that went out where a failed write is told
-abbrev pub OnWrite : (ℕ → Type 0) → RunError → Type 0
-OnWrite fact (run.Document refusal) = Unit {0}
-OnWrite fact run.Read = Unit {0}
-OnWrite fact (run.Write sent) = fact sent
-OnWrite fact run.Memory = Unit {0}
-
--- this holds where what is told came before any byte was written
-abbrev pub BeforeWriting : Type 0 → RunError → Type 0
-BeforeWriting fact (run.Document refusal) = fact
-BeforeWriting fact run.Read = fact
-BeforeWriting fact (run.Write sent) = Unit {0}
-BeforeWriting fact run.Memory = fact
-
--- this holds where what is told doesn't come from the reader
-abbrev pub NotOnRead : Type 0 → RunError → Type 0
-NotOnRead fact (run.Document refusal) = fact
-NotOnRead fact run.Read = Unit {0}
-NotOnRead fact (run.Write sent) = fact
-NotOnRead fact run.Memory = fact
-
--- this holds where what is told came after the whole document
-abbrev pub OnWhole : Type 0 → RunError → Type 0
-OnWhole fact (run.Document refusal) = fact
-OnWhole fact run.Read = Unit {0}
-OnWhole fact (run.Write sent) = fact
-OnWhole fact run.Memory = Unit {0}
+-- what the error says
+abbrev pub Means : Errors → RunError → Type 0
+Means errors (run.Document refusal) = errors.document refusal
+Means errors run.Read = errors.read
+Means errors (run.Write sent) = errors.write sent
+Means errors run.Memory = errors.memory
 
 -- what a call did to its reader: the bytes that were left and are left, where the reader tells them, and its failures
 pub record Reading : Type 0 where
@@ -115,25 +80,62 @@ pub record Writing : Type 1 where
   pub untouched : Type 0
   pub flushed : Type 0
 
+-- of a reader before and after, by what is told of one
+abbrev pub reading : {I : Type 0} → (I → Option (List ℕ)) → (I → ℕ) → I → I → Reading
+reading left failures old new = record { left_before = left old; left_after = left new; failures_before = failures old; failures_after = failures new }
+
+-- so of a writer
+abbrev pub writing : {O : Type 0} → (O → Option (List ℕ)) → (O → ℕ) → (O → Type 0) → O → O → Writing
+writing held failures flushed old new = record { held_before = held old; held_after = held new; failures_before = failures old; failures_after = failures new; untouched = new ≡ old; flushed = flushed new }
+
+-- the reader had no failure, and is at its end
+pub record ReadWhole (reading : Reading) : Type 0 where
+  pub sound : reading.failures_after ≡ reading.failures_before
+  pub at_end : IsAtEnd reading.left_after
+
+-- The bytes written are the text of a scene that the frames of the document reach, and no others, and are flushed; the report is of
+-- those frames. No device failed, and the whole document was read, and nothing after it.
+pub record Reports (book : Book) (bounds : Bounds) (reading : Reading) (writing : Writing) (report : Report) : Type 0 where
+  pub scene : OfInput reading.left_before (λ input. (text : List ℕ) × IsRunOf book bounds input report text × Appends writing.held_before writing.held_after text)
+  pub flushed : writing.flushed
+  pub sound_writer : writing.failures_after ≡ writing.failures_before
+  pub whole : ReadWhole reading
+
+-- The document is refused by the name of the least refusal that stands, and nothing was written; the whole document was read.
+pub record RefusesDocument (book : Book) (bounds : Bounds) (reading : Reading) (writing : Writing) (refusal : DocRefusal) : Type 0 where
+  pub stands : OfInput reading.left_before (λ input. document_of book bounds.indices input ≡ Err refusal)
+  pub untouched : writing.untouched
+  pub whole : ReadWhole reading
+
+-- The reader failed in the call, or gave bytes without end, and nothing was written.
+pub record FailsRead (reading : Reading) (writing : Writing) : Type 0 where
+  pub failed : HasFailed reading.failures_before reading.failures_after ⊎ GivesAtLeast 4294967295 reading.left_before reading.left_after
+  pub untouched : writing.untouched
+
+-- The writer failed in the call, and just the first bytes of a text went out, as it would have been written; the whole document was read.
+pub record FailsWrite (book : Book) (bounds : Bounds) (reading : Reading) (writing : Writing) (sent : ℕ) : Type 0 where
+  pub failed : HasFailed writing.failures_before writing.failures_after
+  pub first : OfInput reading.left_before (λ input. (report : Report) × (text : List ℕ) × IsRunOf book bounds input report text × (sent ≤ length text) × Appends writing.held_before writing.held_after (take sent text))
+  pub whole : ReadWhole reading
+
+-- Nothing was written, and the reader had no failure.
+pub record WantsMemory (reading : Reading) (writing : Writing) : Type 0 where
+  pub untouched : writing.untouched
+  pub sound : reading.failures_after ≡ reading.failures_before
+
+-- where this refusal stands, it is the one that is told, but for a failed read and want of memory
+abbrev pub TellsOnly : {A : Type 0} → DocRefusal → Result A RunError → Type 0
+TellsOnly refusal (Ok report) = ⊥
+TellsOnly refusal (Err error) = Means (record { document = λ told. told ≡ refusal; read = Unit {0}; write = λ sent. ⊥; memory = Unit {0} }) error
+
 -- a run of the document that a reader gives, to a writer
 pub record RunsDocument (book : Book) (bounds : Bounds) (result : Result Report RunError) (reading : Reading) (writing : Writing) : Type 0 where
-  -- The bytes written are the text of a scene that the frames of the document reach, and no others; the report is of those frames.
-  pub scene : IfOk result (λ report. OfInput reading.left_before (λ input. (text : List ℕ) × IsRunOf book bounds input report text × Appends writing.held_before writing.held_after text))
-  pub flushed : OnOk result writing.flushed
-  -- A document that is no scene is refused by the name of the least refusal that stands, and only then.
-  pub document : IfErr result (TellsDocument book bounds reading.left_before)
+  pub reports : IfOk result (Reports book bounds reading writing)
+  pub error : IfErr result (Means (record {
+    document = RefusesDocument book bounds reading writing;
+    read = FailsRead reading writing;
+    write = FailsWrite book bounds reading writing;
+    memory = WantsMemory reading writing;
+  }))
+  -- A document that is no scene is refused by its name, and only then.
   pub only_that : IfSome reading.left_before (λ input. (refusal : DocRefusal) → document_of book bounds.indices input ≡ Err refusal → TellsOnly refusal result)
-  -- Nothing is written but where the text goes out.
-  pub before : IfErr result (BeforeWriting writing.untouched)
-  -- A failed read is told where the reader failed in the call, or gave bytes without end.
-  pub read : IfErr result (OnRead (HasFailed reading.failures_before reading.failures_after ⊎ GivesAtLeast 4294967295 reading.left_before reading.left_after))
-  -- A failed write is told where the writer failed in the call, and just the first bytes of such a text went out.
-  pub write : IfErr result (OnWrite (λ sent. HasFailed writing.failures_before writing.failures_after))
-  pub sent : IfErr result (OnWrite (λ sent. OfInput reading.left_before (λ input. (report : Report) × (text : List ℕ) × IsRunOf book bounds input report text × (sent ≤ length text) × Appends writing.held_before writing.held_after (take sent text))))
-  -- No failure is passed over: a report says that reader and writer had none, and the reader had none but where a failed read is told.
-  pub sound_writer : OnOk result (writing.failures_after ≡ writing.failures_before)
-  pub sound_reader : OnOk result (reading.failures_after ≡ reading.failures_before)
-  pub sound_else : IfErr result (NotOnRead (reading.failures_after ≡ reading.failures_before))
-  -- The whole document was read, and nothing after it: a report, a refused document and a failed write leave the reader at its end.
-  pub to_the_end : OnOk result (IsAtEnd reading.left_after)
-  pub refused_at_the_end : IfErr result (OnWhole (IsAtEnd reading.left_after))

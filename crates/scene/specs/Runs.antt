@@ -1,11 +1,20 @@
 -- A run: from a document to the scene that its frames reach.
-use Rattle.std.specs.Prelude.{ℕ}
+use Rattle.std.specs.Prelude.{ℕ, All}
 use Rattle.scene_rules.specs.declared.refusals.Report.{Report}
 use Rattle.scene_rules.specs.Rulebook.{Book}
-use Rattle.scene_rules.specs.Scenes.{PlainScene}
+use Rattle.scene_rules.specs.Scenes.{PlainScene, IsProper, PartsStand, IsDescribed}
+use Rattle.scene_rules.specs.Lawful.{IsLawful}
 use Rattle.scene_draft.specs.Drafts.{Draft}
 use Rattle.scene_document.specs.Openings.{first_scene, frames_of}
 use Rattle.scene.specs.Frames.{Reaches, Ended}
+
+-- a document can begin: the scene that it gives is proper, its parts stand under the rules' kinds, and in each frame the systems are
+-- as the rules describe them, and the document's commands are ones that they know
+pub record CanBegin (book : Book) (draft : Draft) : Type 0 where
+  pub proper : IsProper book (first_scene draft)
+  pub stand : PartsStand book.part_names (first_scene draft).part
+  pub described : (number : ℕ) → All (IsDescribed book) (frames_of draft number).order
+  pub lawful : (number : ℕ) → All (IsLawful book) (frames_of draft number).commands
 
 -- a document's frames reach a scene, with this report, where a frame may have so many commands
 abbrev pub Ran : Book → ℕ → Draft → Report → PlainScene → Type 0

@@ -168,6 +168,19 @@ impl<R: Rules + Drop> Scene<R> {
         &self.report
     }
 
+    /// The rules and the report, for whom the scene has ended.
+    pub fn into_parts(self) -> (R, Report)
+        ensures rules { result.0 ≡ rules_of self }
+        ensures report { result.1 ≡ (shown_of R.part_of R.global_of R.kind_of R.config_of R.book self).report }
+    {
+        let Scene {
+            rules: kept,
+            report: told,
+            ..
+        } = self;
+        (kept, told)
+    }
+
     /// The report, for whom the scene has ended.
     pub fn into_report(self) -> Report
         ensures { result ≡ (shown_of R.part_of R.global_of R.kind_of R.config_of R.book self).report }

@@ -11,7 +11,7 @@ mod runner;
 mod turns;
 
 pub use frame::{Refused, Scene};
-pub use runner::{RunError, run, run_with};
+pub use runner::{RunError, run, run_to_end, run_with};
 pub use scene_devices::{Counted, CountedRead, CountedWrite, Faults};
 pub use scene_document::{Limits, LoadError};
 pub use scene_rules::{

@@ -8,7 +8,7 @@ ghost use Rattle.scene_rules.specs.declared.refusals.Report.{Report};
 ghost use Rattle.scene_document.specs.Documents.{document_of};
 ghost use Rattle.scene.specs.Turns.{shown_of, rules_of, IsReady, RunsOut, nothing_yet};
 ghost use Rattle.scene.specs.Limits.{AreLimits};
-ghost use Rattle.scene.specs.Outcomes.{IsRunOf, IsNoDocument, RunsDocument, bounds_of, full_bounds};
+ghost use Rattle.scene.specs.Outcomes.{IsRunOf, IsNoDocument, RunsDocument, reading, writing, bounds_of, full_bounds};
 
 use crate::frame::Scene;
 use scene_devices::{CountedRead, CountedWrite, ReadFailure, read_document, write_text};
@@ -55,7 +55,9 @@ fn play<R: Rules + Drop, H: AllocGlobal>(
 }
 
 /// Runs the frames of a scene to their end: all that were asked for, or up to the first that is refused.
-fn run_to_end<R: Rules + Drop, H: AllocGlobal>(rt: &H, scene: &mut Scene<R>)
+///
+/// Asked for is that none has run yet.
+pub fn run_to_end<R: Rules + Drop, H: AllocGlobal>(rt: &H, scene: &mut Scene<R>)
     requires ready { IsReady R.part_of R.global_of R.kind_of R.config_of R.book scene.old }
     requires start { (shown_of R.part_of R.global_of R.kind_of R.config_of R.book scene.old).report ≡ nothing_yet }
     ensures rules { rules_of scene.new ≡ rules_of scene.old }
@@ -93,20 +95,8 @@ pub fn run_with<R: Rules + Drop, H: AllocGlobal, I: CountedRead, O: CountedWrite
 ) -> Result<Report, RunError>
     requires { AreLimits limits }
     ensures { RunsDocument (R.book rules) (bounds_of limits) result
-        (record {
-          left_before = I.remaining reader.old;
-          left_after = I.remaining reader.new;
-          failures_before = I.fault_count reader.old;
-          failures_after = I.fault_count reader.new;
-        })
-        (record {
-          held_before = O.contents writer.old;
-          held_after = O.contents writer.new;
-          failures_before = O.fault_count writer.old;
-          failures_after = O.fault_count writer.new;
-          untouched = writer.new ≡ writer.old;
-          flushed = O.flushed writer.new;
-        }) }
+        (reading I.remaining I.fault_count reader.old reader.new)
+        (writing O.contents O.fault_count O.flushed writer.old writer.new) }
 {
     let bytes = match read_document(rt.alloc(), reader) {
         Ok(bytes) => bytes,
@@ -133,20 +123,8 @@ pub fn run<R: Rules + Drop, H: AllocGlobal, I: CountedRead, O: CountedWrite>(
     writer: &mut O,
 ) -> Result<Report, RunError>
     ensures { RunsDocument (R.book rules) full_bounds result
-        (record {
-          left_before = I.remaining reader.old;
-          left_after = I.remaining reader.new;
-          failures_before = I.fault_count reader.old;
-          failures_after = I.fault_count reader.new;
-        })
-        (record {
-          held_before = O.contents writer.old;
-          held_after = O.contents writer.new;
-          failures_before = O.fault_count writer.old;
-          failures_after = O.fault_count writer.new;
-          untouched = writer.new ≡ writer.old;
-          flushed = O.flushed writer.new;
-        }) }
+        (reading I.remaining I.fault_count reader.old reader.new)
+        (writing O.contents O.fault_count O.flushed writer.old writer.new) }
 {
     run_with(rt, rules, Limits::FULL, reader, writer)
 }

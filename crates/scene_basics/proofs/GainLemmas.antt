@@ -8,8 +8,8 @@ use Rattle.std.proofs.lemmas.List.Elements.{All-nil, All-cons}
 use Rattle.std.proofs.lemmas.List.Kept.{AllPairs-cons}
 use Rattle.std.specs.List.{filter_map, cons_option}
 use Rattle.scene_rules.specs.Parts.{Name, Part, is_among}
-use Rattle.scene_rules.specs.Rulebook.{Fragment, leaves, refuses, fills, queue_room, Command, kill}
-use Rattle.scene_rules.specs.Scenes.{lives, RefLives, RefsLive, PartsAdmitted, KeepsValues}
+use Rattle.scene_rules.specs.Rulebook.{Access, Fragment, leaves, refuses, fills, queue_room, Command, kill}
+use Rattle.scene_rules.specs.Scenes.{lives, RefLives, RefsLive, PartsAdmitted, GlobalsReadable, KeepsValues}
 use Rattle.scene_basics.specs.declared.data.BasicSystem.{BasicSystem}
 use Rattle.scene_basics.specs.declared.data.BasicSystem.TheVariants.{Drift, Pull, Decay, Reap, Bud}
 use Rattle.scene_basics.specs.declared.data.Ask.TheVariants.{Deaths, Births}
@@ -18,7 +18,7 @@ use Rattle.scene_rules.specs.Lawful.{IsKnownPart, IsLawful}
 use Rattle.scene_basics.specs.Names.{number_kinds, pos_kind, vel_kind, hp_kind, g_name}
 use Rattle.scene_basics.specs.Numbers.{counting, admits}
 use Rattle.scene_basics.specs.Gains.{Gains, sum_at, number_at, global_number, Overflows}
-use Rattle.scene_laws.specs.OneOutcome.{SameFragment}
+use Rattle.scene_laws.specs.OneOutcome.{SameLeft}
 use Rattle.scene_basics.specs.Systems.{basics, Makes}
 use Rattle.scene_basics.specs.RuleLaws.{admits-counting}
 
@@ -69,6 +69,13 @@ Makes-valued Decay old new commands made name there = ap is_some (made.0.globals
 Makes-valued Reap old new commands made name there = ap (λ left. is_some (left.global name)) made.0 ∙ there
 Makes-valued Bud old new commands made name there = ap (λ left. is_some (left.global name)) made.0 ∙ there
 
+pub Makes-readable : (system : BasicSystem) (old new : Fragment) (commands : List Command) → Makes (Some system) old (leaves new commands) → GlobalsReadable basics old.global → GlobalsReadable basics new.global
+Makes-readable Drift old new commands made readable name value is = readable name value (sym (made.0.globals name) ∙ is)
+Makes-readable Pull old new commands made readable name value is = readable name value (sym (made.0.globals name) ∙ is)
+Makes-readable Decay old new commands made readable name value is = readable name value (sym (made.0.globals name) ∙ is)
+Makes-readable Reap old new commands made readable name value is = subst (λ left. GlobalsReadable basics left.global) (sym made.0) readable name value is
+Makes-readable Bud old new commands made readable name value is = subst (λ left. GlobalsReadable basics left.global) (sym made.0) readable name value is
+
 -- what each of a list gives that gives something has a property that all of them have
 filter_map-all : {X : Type 0} (P : X → Type 0) (f : ℕ → Option X) → ((id : ℕ) (x : X) → f id ≡ Some x → P x) → (ids : List ℕ) → All P (filter_map f ids)
 filter_map-all P f each [] = All-nil P
@@ -117,11 +124,10 @@ of_turn (Ok value) Left Stopped Then follows left = follows left
 of_turn (Err error) Left Stopped Then follows left = tt
 
 -- a gain leaves one fragment
-pub Gains-one : (kind : Name) (gain : ℕ → Option ℤ) (old one other : Fragment) → Gains kind gain old one → Gains kind gain old other → SameFragment one other
-Gains-one kind gain old one other first second = record {
-  ids = first.ids ∙ sym second.ids;
-  parts = λ id name. named id name (bytes_eq name kind) refl;
-  globals = λ name. first.globals name ∙ sym (second.globals name);
+pub Gains-one : (access : Access) (kind : Name) (gain : ℕ → Option ℤ) (old one other : Fragment) → Gains kind gain old one → Gains kind gain old other → SameLeft access one other
+Gains-one access kind gain old one other first second = record {
+  parts = λ id name written. named id name (bytes_eq name kind) refl;
+  globals = λ name written. first.globals name ∙ sym (second.globals name);
 }
   where
     under : (id : ℕ) (l : Bool) → lives id old.ids ≡ l → (o : Option ℤ) → sum_at old kind gain id ≡ o → one.part id kind ≡ other.part id kind
@@ -138,17 +144,17 @@ pub Gains-fit : (kind : Name) (gain : ℕ → Option ℤ) (old new : Fragment) �
 Gains-fit kind gain old new gains over = over.4 (gains.fit over.0 over.1 over.2 over.3)
 
 -- two fragments that are one hold the same
-pub same_of : (old one other : Fragment) → one ≡ old → other ≡ old → SameFragment one other
-same_of old one other first second = let same : one ≡ other = first ∙ sym second in record { ids = ap (λ f. f.ids) same; parts = λ id kind. ap (λ f. f.part id kind) same; globals = λ name. ap (λ f. f.global name) same }
+same_of : (access : Access) (old one other : Fragment) → one ≡ old → other ≡ old → SameLeft access one other
+same_of access old one other first second = let same : one ≡ other = first ∙ sym second in record { parts = λ id kind written. ap (λ f. f.part id kind) same; globals = λ name written. ap (λ f. f.global name) same }
 
 -- a system's turn leaves one fragment and one list of commands, and does not both leave one and refuse or fill its queue
-pub Makes-one : (found : Option BasicSystem) (old one other : Fragment) (commands more : List Command) → Makes found old (leaves one commands) → Makes found old (leaves other more) → SameFragment one other
-Makes-one None old one other commands more first second = absurd first
-Makes-one (Some Drift) old one other commands more first second = Gains-one pos_kind (λ id. number_at old vel_kind id) old one other first.0 second.0
-Makes-one (Some Pull) old one other commands more first second = Gains-one vel_kind (λ id. global_number old g_name) old one other first.0 second.0
-Makes-one (Some Decay) old one other commands more first second = Gains-one hp_kind (λ id. Some (negsuc 0)) old one other first.0 second.0
-Makes-one (Some Reap) old one other commands more first second = same_of old one other first.0 second.0
-Makes-one (Some Bud) old one other commands more first second = same_of old one other first.0 second.0
+pub Makes-one : (access : Access) (found : Option BasicSystem) (old one other : Fragment) (commands more : List Command) → Makes found old (leaves one commands) → Makes found old (leaves other more) → SameLeft access one other
+Makes-one access None old one other commands more first second = absurd first
+Makes-one access (Some Drift) old one other commands more first second = Gains-one access pos_kind (λ id. number_at old vel_kind id) old one other first.0 second.0
+Makes-one access (Some Pull) old one other commands more first second = Gains-one access vel_kind (λ id. global_number old g_name) old one other first.0 second.0
+Makes-one access (Some Decay) old one other commands more first second = Gains-one access hp_kind (λ id. Some (negsuc 0)) old one other first.0 second.0
+Makes-one access (Some Reap) old one other commands more first second = same_of access old one other first.0 second.0
+Makes-one access (Some Bud) old one other commands more first second = same_of access old one other first.0 second.0
 
 pub Makes-asks : (found : Option BasicSystem) (old one other : Fragment) (commands more : List Command) → Makes found old (leaves one commands) → Makes found old (leaves other more) → commands ≡ more
 Makes-asks None old one other commands more first second = absurd first

@@ -3,7 +3,7 @@ use Rattle.std.proofs.Common.{◌≡◌, ℕ, ℤ, negsuc, List, Option, Some, N
 use Rattle.std.proofs.lemmas.Option.{same_Some}
 use Rattle.std.proofs.lemmas.List.Elements.{All-nil}
 use Rattle.scene_rules.specs.Parts.{Name, Part}
-use Rattle.scene_rules.specs.Rulebook.{Fragment, Outcome, leaves, refuses, fills, Command}
+use Rattle.scene_rules.specs.Rulebook.{Access, Fragment, Outcome, leaves, refuses, fills, Command}
 use Rattle.scene_rules.specs.Scenes.{RefLives}
 use Rattle.scene_laws.specs.OneOutcome.{SameOutcome}
 use Rattle.scene_laws.specs.References.{RefsLiveUnder}
@@ -33,16 +33,16 @@ same-filling (Some Reap) old commands more first second = first.1 ∙ sym second
 same-filling (Some Bud) old commands more first second = first.1 ∙ sym second.1
 
 -- two outcomes of a turn are one
-pub Makes-same : (found : Option BasicSystem) (old : Fragment) (one other : Outcome) → Makes found old one → Makes found old other → SameOutcome one other
-Makes-same found old (leaves one commands) (leaves other more) first second = (Makes-one found old one other commands more first second, Makes-asks found old one other commands more first second)
-Makes-same found old (leaves one commands) (refuses text) first second = Makes-either found old one commands text first second
-Makes-same found old (leaves one commands) (fills more) first second = Makes-fits found old one commands more first second
-Makes-same found old (refuses text) (leaves other more) first second = Makes-either found old other more text second first
-Makes-same found old (refuses text) (refuses other) first second = same-refusal found old text other first second
-Makes-same found old (refuses text) (fills more) first second = Makes-refuses found old text more first second
-Makes-same found old (fills commands) (leaves other more) first second = Makes-fits found old other more commands second first
-Makes-same found old (fills commands) (refuses text) first second = Makes-refuses found old text commands second first
-Makes-same found old (fills commands) (fills more) first second = same-filling found old commands more first second
+pub Makes-same : (access : Access) (found : Option BasicSystem) (old : Fragment) (one other : Outcome) → Makes found old one → Makes found old other → SameOutcome access one other
+Makes-same access found old (leaves one commands) (leaves other more) first second = (Makes-one access found old one other commands more first second, Makes-asks found old one other commands more first second)
+Makes-same access found old (leaves one commands) (refuses text) first second = Makes-either found old one commands text first second
+Makes-same access found old (leaves one commands) (fills more) first second = Makes-fits found old one commands more first second
+Makes-same access found old (refuses text) (leaves other more) first second = Makes-either found old other more text second first
+Makes-same access found old (refuses text) (refuses other) first second = same-refusal found old text other first second
+Makes-same access found old (refuses text) (fills more) first second = Makes-refuses found old text more first second
+Makes-same access found old (fills commands) (leaves other more) first second = Makes-fits found old other more commands second first
+Makes-same access found old (fills commands) (refuses text) first second = Makes-refuses found old text commands second first
+Makes-same access found old (fills commands) (fills more) first second = same-filling found old commands more first second
 
 -- a gain leaves references to ids that live, under the rules' kinds
 gain-keeps : (kind : Name) (gain : ℕ → Option ℤ) (old left : Fragment) → Gains kind gain old left → RefsLiveUnder part_kinds old.ids old.part → RefsLiveUnder part_kinds old.ids left.part

@@ -1,5 +1,5 @@
 -- The status of the program and the line on standard error, by what a run came to.
-use Rattle.std.specs.Prelude.{◌≤◌, ℕ, codes, decimal, List, [], ◌∷◌, length, take, Option, Some, None, Result, Ok, Err, ◌⊎◌}
+use Rattle.std.specs.Prelude.{◌≤◌, ℕ, codes, decimal, List, [], ◌∷◌, ◌++◌, length, take, Option, Some, None, Result, Ok, Err, ◌⊎◌}
 use Rattle.std.specs.List.{flat_map}
 use Rattle.std.specs.Io.KnownBytes.{Appends}
 use Rattle.scene_devices.specs.Faults.{HasFailed}
@@ -41,16 +41,31 @@ piece_text (Number number) = decimal number
 abbrev pub joined : List (List ℕ) → List ℕ
 joined texts = flat_map (λ text. text) texts
 
+-- the name of a frame's refusal
+abbrev pub cause_name : FrameRefusal → List ℕ
+cause_name (System position text) = codes "System"
+cause_name (GoneReference id) = codes "GoneReference"
+cause_name IdsSpent = codes "IdsSpent"
+cause_name IndicesSpent = codes "IndicesSpent"
+cause_name GenerationsSpent = codes "GenerationsSpent"
+cause_name TooManyCommands = codes "TooManyCommands"
+cause_name Memory = codes "Memory"
+cause_name Threads = codes "Threads"
+
+-- what is told beside the name
+abbrev pub cause_detail : FrameRefusal → List (List ℕ)
+cause_detail (System position text) = codes " " ∷ decimal position ∷ codes ": " ∷ text ∷ []
+cause_detail (GoneReference id) = codes " " ∷ decimal id ∷ []
+cause_detail IdsSpent = []
+cause_detail IndicesSpent = []
+cause_detail GenerationsSpent = []
+cause_detail TooManyCommands = []
+cause_detail Memory = []
+cause_detail Threads = []
+
 -- the line of a frame that is refused
 abbrev pub frame_line : ℕ → FrameRefusal → List ℕ
-frame_line frame (System position text) = joined (codes "frame " ∷ decimal frame ∷ codes " refused: System " ∷ decimal position ∷ codes ": " ∷ text ∷ codes "\n" ∷ [])
-frame_line frame (GoneReference id) = joined (codes "frame " ∷ decimal frame ∷ codes " refused: GoneReference " ∷ decimal id ∷ codes "\n" ∷ [])
-frame_line frame IdsSpent = joined (codes "frame " ∷ decimal frame ∷ codes " refused: IdsSpent\n" ∷ [])
-frame_line frame IndicesSpent = joined (codes "frame " ∷ decimal frame ∷ codes " refused: IndicesSpent\n" ∷ [])
-frame_line frame GenerationsSpent = joined (codes "frame " ∷ decimal frame ∷ codes " refused: GenerationsSpent\n" ∷ [])
-frame_line frame TooManyCommands = joined (codes "frame " ∷ decimal frame ∷ codes " refused: TooManyCommands\n" ∷ [])
-frame_line frame Memory = joined (codes "frame " ∷ decimal frame ∷ codes " refused: Memory\n" ∷ [])
-frame_line frame Threads = joined (codes "frame " ∷ decimal frame ∷ codes " refused: Threads\n" ∷ [])
+frame_line frame refusal = joined (codes "frame " ∷ decimal frame ∷ codes " refused: " ∷ cause_name refusal ∷ (cause_detail refusal ++ codes "\n" ∷ []))
 
 -- the line of a run that gave no report
 abbrev pub error_line : RunError → List ℕ

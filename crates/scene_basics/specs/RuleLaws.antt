@@ -15,7 +15,7 @@ use Rattle.serde_json.specs.Data.{unsigned, negative, float, null, boolean, numb
 use Rattle.serde_json.specs.Find.{as_number, as_i64, as_null}
 use Rattle.serde_json.specs.Written.{has_float}
 use Rattle.scene_rules.specs.Parts.{Json, Name, Part, is_among}
-use Rattle.scene_rules.specs.Rulebook.{Facts}
+use Rattle.scene_rules.specs.Rulebook.{Facts, unknown, known, misshapen}
 use Rattle.scene_rules.specs.Laws.{Ascend, DeclaresKnown}
 use Rattle.scene_basics.specs.declared.data.Datum.{Datum}
 use Rattle.scene_basics.specs.declared.data.Datum.TheVariants.{Whole, Owner}
@@ -23,7 +23,7 @@ use Rattle.scene_basics.specs.declared.data.BasicSystem.{BasicSystem}
 use Rattle.scene_basics.specs.declared.data.BasicSystem.TheVariants.{Drift, Pull, Decay, Reap, Bud}
 use Rattle.scene_basics.specs.Names.{hp_kind, owner_kind, pos_kind, vel_kind, g_name, drift_kind, pull_kind, decay_kind, reap_kind, bud_kind, part_kinds, number_kinds}
 use Rattle.scene_basics.specs.Numbers.{json_of, counting, referring, part_of, whole_in, is_signed, if_signed, signed_in, id_in, refers_once, refers_never, read_part, read_global, admits}
-use Rattle.scene_basics.specs.Systems.{kind_of, system_named, access_of, facts_of, configured, basics}
+use Rattle.scene_basics.specs.Systems.{kind_of, system_named, declared_access, facts_of, configured, basics}
 
 -- a whole number is read back as it was written
 pub whole_in-json_of : (z : ℤ) → whole_in (json_of z) ≡ Some z
@@ -136,13 +136,15 @@ law-reads_back kind (Owner id) admitted = here (bytes_eq kind owner_kind) (is_am
     here false true false e = absurd (false≢true e)
     here false false d e = absurd (false≢true e)
 
--- a global's value is read back as it was written, where it is read
-pub law-global_reads_back : (name : Name) (z : ℤ) (read : Json) → read_global name (json_of z) ≡ Some read → read ≡ json_of z
-law-global_reads_back name z read e = found (signed_in (json_of z)) (λ other is. (if_signed-some z other (sym (ap (option_and_then if_signed) (whole_in-json_of z)) ∙ is)).1) e
+-- what is read for a global is read back as it was
+pub law-global_reads_back : (name : Name) (json value : Json) → read_global name json ≡ Some value → read_global name value ≡ Some value
+law-global_reads_back name json value e = found (signed_in json) refl e
   where
-    found : (o : Option ℤ) → ((other : ℤ) → o ≡ Some other → z ≡ other) → option_map json_of o ≡ Some read → read ≡ json_of z
-    found None same is = absurd (none-some read is)
-    found (Some other) same is = sym (same_Some (json_of other) read is) ∙ ap json_of (sym (same other refl))
+    found : (o : Option ℤ) → signed_in json ≡ o → option_map json_of o ≡ Some value → read_global name value ≡ Some value
+    found None is f = absurd (none-some value f)
+    found (Some z) is f =
+        let back : signed_in (json_of z) ≡ Some z = signed_in-json_of z (signed_in-some (whole_in json) z is) in
+        subst (λ (other : Json). read_global name other ≡ Some other) (same_Some (json_of z) value f) (ap (option_map json_of) back)
 
 -- no float is written for a whole number, and none for a datum
 pub law-no_global_float : (z : ℤ) → has_float (json_of z) ≡ false
@@ -197,12 +199,12 @@ null-as_null (array _) e = absurd (false≢true e)
 null-as_null (object _) e = absurd (false≢true e)
 
 -- what is known of a configured system is known of the system
-pub configured-facts : (system : BasicSystem) (config : Json) (facts : Facts) → configured (Some system) config ≡ Some (Some facts) → facts_of system ≡ facts
+pub configured-facts : (system : BasicSystem) (config : Json) (facts : Facts) → configured (Some system) config ≡ known facts → facts_of system ≡ facts
 configured-facts system config facts e = here (is_some (as_null config)) e
   where
-    here : (b : Bool) → cond b (Some (Some (facts_of system))) None ≡ Some (Some facts) → facts_of system ≡ facts
-    here true f = same_Some (facts_of system) facts (same_Some (Some (facts_of system)) (Some facts) f)
-    here false f = absurd (none-some (Some facts) f)
+    here : (b : Bool) → cond b (known (facts_of system)) misshapen ≡ known facts → facts_of system ≡ facts
+    here true f = cc
+    here false f = absurd cc
 
 abbrev KindKnown : Name → Type 0
 KindKnown kind = is_among kind part_kinds ≡ true
@@ -218,16 +220,16 @@ global-known : All GlobalKnown (g_name ∷ [])
 global-known = All-cons GlobalKnown g_name [] refl (All-nil GlobalKnown)
 
 -- what a system declares is the rules'
-pub declares-known : (system : BasicSystem) → DeclaresKnown basics (access_of system)
+pub declares-known : (system : BasicSystem) → DeclaresKnown basics (declared_access system)
 declares-known Drift = record { reads = kind-known vel_kind refl; writes = kind-known pos_kind refl; read_globals = All-nil GlobalKnown; written_globals = All-nil GlobalKnown }
 declares-known Pull = record { reads = All-nil KindKnown; writes = kind-known vel_kind refl; read_globals = global-known; written_globals = All-nil GlobalKnown }
 declares-known Decay = record { reads = All-nil KindKnown; writes = kind-known hp_kind refl; read_globals = All-nil GlobalKnown; written_globals = All-nil GlobalKnown }
 declares-known Reap = record { reads = kind-known hp_kind refl; writes = All-nil KindKnown; read_globals = All-nil GlobalKnown; written_globals = All-nil GlobalKnown }
 declares-known Bud = record { reads = All-cons KindKnown hp_kind (pos_kind ∷ []) refl (kind-known pos_kind refl); writes = All-nil KindKnown; read_globals = All-nil GlobalKnown; written_globals = All-nil GlobalKnown }
 
-pub law-declares_known : (kind : Name) (config : Json) (facts : Facts) → configured (system_named kind) config ≡ Some (Some facts) → DeclaresKnown basics facts.access
+pub law-declares_known : (kind : Name) (config : Json) (facts : Facts) → configured (system_named kind) config ≡ known facts → DeclaresKnown basics facts.access
 law-declares_known kind config facts e = here (system_named kind) e
   where
-    here : (found : Option BasicSystem) → configured found config ≡ Some (Some facts) → DeclaresKnown basics facts.access
-    here None f = absurd (none-some facts (same_Some None (Some facts) f))
+    here : (found : Option BasicSystem) → configured found config ≡ known facts → DeclaresKnown basics facts.access
+    here None f = absurd cc
     here (Some system) f = subst (λ (some : Facts). DeclaresKnown basics some.access) (configured-facts system config facts f) (declares-known system)

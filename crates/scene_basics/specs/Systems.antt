@@ -3,7 +3,7 @@ use Rattle.std.specs.Prelude.{negsuc, false, [], ◌∷◌, Option, Some, None, 
 use Rattle.std.specs.Str.{bytes_eq}
 use Rattle.serde_json.specs.Find.{as_null}
 use Rattle.scene_rules.specs.Parts.{Json, Name}
-use Rattle.scene_rules.specs.Rulebook.{Access, Facts, Fragment, Outcome, Book}
+use Rattle.scene_rules.specs.Rulebook.{Access, Facts, Described, misshapen, unknown, known, Fragment, Outcome, Book}
 use Rattle.scene_basics.specs.declared.data.BasicSystem.{BasicSystem}
 use Rattle.scene_basics.specs.declared.data.BasicSystem.TheVariants.{Drift, Pull, Decay, Reap, Bud}
 use Rattle.scene_basics.specs.declared.data.Ask.TheVariants.{Deaths, Births}
@@ -25,21 +25,21 @@ abbrev pub system_named : Name → Option BasicSystem
 system_named kind = if bytes_eq kind drift_kind then Some Drift else (if bytes_eq kind pull_kind then Some Pull else (if bytes_eq kind decay_kind then Some Decay else (if bytes_eq kind reap_kind then Some Reap else (if bytes_eq kind bud_kind then Some Bud else None))))
 
 -- what a system reads and writes
-abbrev pub access_of : BasicSystem → Access
-access_of Drift = record { reads = vel_kind ∷ []; writes = pos_kind ∷ []; read_globals = []; written_globals = []; reserved = false }
-access_of Pull = record { reads = []; writes = vel_kind ∷ []; read_globals = g_name ∷ []; written_globals = []; reserved = false }
-access_of Decay = record { reads = []; writes = hp_kind ∷ []; read_globals = []; written_globals = []; reserved = false }
-access_of Reap = record { reads = hp_kind ∷ []; writes = []; read_globals = []; written_globals = []; reserved = false }
-access_of Bud = record { reads = hp_kind ∷ pos_kind ∷ []; writes = []; read_globals = []; written_globals = []; reserved = false }
+abbrev pub declared_access : BasicSystem → Access
+declared_access Drift = record { reads = vel_kind ∷ []; writes = pos_kind ∷ []; read_globals = []; written_globals = []; reserved = false }
+declared_access Pull = record { reads = []; writes = vel_kind ∷ []; read_globals = g_name ∷ []; written_globals = []; reserved = false }
+declared_access Decay = record { reads = []; writes = hp_kind ∷ []; read_globals = []; written_globals = []; reserved = false }
+declared_access Reap = record { reads = hp_kind ∷ []; writes = []; read_globals = []; written_globals = []; reserved = false }
+declared_access Bud = record { reads = hp_kind ∷ pos_kind ∷ []; writes = []; read_globals = []; written_globals = []; reserved = false }
 
 -- what the rules know of a system: all have the time `Average`
 abbrev pub facts_of : BasicSystem → Facts
-facts_of system = record { access = access_of system; time = 3 }
+facts_of system = record { access = declared_access system; time = 3 }
 
 -- a system with a configuration, which is null
-abbrev pub configured : Option BasicSystem → Json → Option (Option Facts)
-configured None config = Some None
-configured (Some system) config = if is_some (as_null config) then Some (Some (facts_of system)) else None
+abbrev pub configured : Option BasicSystem → Json → Described
+configured None config = unknown
+configured (Some system) config = if is_some (as_null config) then known (facts_of system) else misshapen
 
 -- `drift`: pos gains vel where both are
 abbrev pub Drifts : Fragment → Outcome → Type 0

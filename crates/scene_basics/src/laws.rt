@@ -6,7 +6,7 @@ ghost use Rattle.scene_rules.specs.declared.refusals.Skip.{Skip};
 ghost use Rattle.scene_draft.specs.Drafts.{Draft};
 ghost use Rattle.scene_document.specs.Documents.{document_of};
 ghost use Rattle.scene.specs.Frames.{Reaches};
-ghost use Rattle.scene.specs.Runs.{Ran};
+ghost use Rattle.scene.specs.Runs.{CanBegin, Ran};
 ghost use Rattle.scene.specs.Outcomes.{Bounds, IsRunOf};
 ghost use Rattle.scene_laws.specs.OneOutcome.{OneOutcome, HadMemory, SameButPlace};
 ghost use Rattle.scene_laws.specs.References.{KeepsReferences, RefsLiveUnder};
@@ -27,14 +27,14 @@ pub fn a_turn_keeps_references()
     ensures { KeepsReferences basics }
 {}
 
-/// A document has one report and reaches one scene, but for a want of memory.
+/// A document that can begin has one report and reaches one scene, but for a want of memory.
 pub fn a_document_has_one_outcome()
     ensures report { (limit : ℕ) (draft : Draft) (one other : Report) (scene after : PlainScene)
-        → HadMemory one → HadMemory other → Ran basics limit draft one scene → Ran basics limit draft other after
-        → one ≡ other }
+        → CanBegin basics draft → HadMemory one → HadMemory other → Ran basics limit draft one scene
+        → Ran basics limit draft other after → one ≡ other }
     ensures scene { (limit : ℕ) (draft : Draft) (one other : Report) (scene after : PlainScene)
-        → HadMemory one → HadMemory other → Ran basics limit draft one scene → Ran basics limit draft other after
-        → scene ≡ after }
+        → CanBegin basics draft → HadMemory one → HadMemory other → Ran basics limit draft one scene
+        → Ran basics limit draft other after → scene ≡ after }
 {
     one_outcome(&Basics);
 }

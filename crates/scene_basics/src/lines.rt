@@ -3,7 +3,7 @@ ghost use Rattle.std.specs.Prelude.{◌≡◌, OnOk, ◌≤◌, length, OnErr, I
 ghost use Rattle.std.specs.List.{flat_map};
 ghost use Rattle.std.specs.Io.KnownBytes.{Appends};
 ghost use Rattle.scene_devices.specs.Faults.{HasFailed};
-ghost use Rattle.scene_basics.specs.Lines.{name_of, piece_text, frame_line, error_line, line_of, status_of, Tells};
+ghost use Rattle.scene_basics.specs.Lines.{name_of, piece_text, cause_name, frame_line, error_line, line_of, status_of, Tells};
 
 use itoa::Buffer;
 use scene::{DocRefusal, FrameRefusal, Report, RunError};
@@ -87,66 +87,50 @@ fn write_pieces<E: CountedWrite>(err: &mut E, pieces: &[Piece<'_>])
     }
 }
 
+/// The name of a frame's refusal.
+fn refusal_name(refusal: &FrameRefusal) -> &str
+    ensures { result.now ≡ cause_name refusal.now }
+{
+    match refusal {
+        FrameRefusal::System(_, _) => "System",
+        FrameRefusal::GoneReference(_) => "GoneReference",
+        FrameRefusal::IdsSpent => "IdsSpent",
+        FrameRefusal::IndicesSpent => "IndicesSpent",
+        FrameRefusal::GenerationsSpent => "GenerationsSpent",
+        FrameRefusal::TooManyCommands => "TooManyCommands",
+        FrameRefusal::Memory => "Memory",
+        FrameRefusal::Threads => "Threads",
+    }
+}
+
 /// Writes the line of a frame that is refused.
 fn write_frame_line<E: CountedWrite>(err: &mut E, frame: u32, refusal: &FrameRefusal)
     ensures { Tells (frame_line frame refusal.now) (E.contents err.old) (E.contents err.new)
         (E.fault_count err.old) (E.fault_count err.new) }
 {
-    let frame = Piece::Number(frame as u64);
     let start = Piece::Text("frame ");
+    let frame = Piece::Number(frame as u64);
+    let refused = Piece::Text(" refused: ");
+    let name = Piece::Text(refusal_name(refusal));
+    let space = Piece::Text(" ");
+    let end = Piece::Text("\n");
     match refusal {
         FrameRefusal::System(position, text) => {
             let position = Piece::Number(*position as u64);
             let text = Piece::Text(text.as_str());
-            let refused = Piece::Text(" refused: System ");
+            let colon = Piece::Text(": ");
             write_pieces(
                 err,
                 &[
-                    start,
-                    frame,
-                    refused,
-                    position,
-                    Piece::Text(": "),
-                    text,
-                    Piece::Text("\n"),
+                    start, frame, refused, name, space, position, colon, text, end,
                 ],
             )
         }
         FrameRefusal::GoneReference(id) => {
-            let refused = Piece::Text(" refused: GoneReference ");
-            write_pieces(
-                err,
-                &[start, frame, refused, Piece::Number(*id), Piece::Text("\n")],
-            )
+            let id = Piece::Number(*id);
+            write_pieces(err, &[start, frame, refused, name, space, id, end])
         }
-        FrameRefusal::IdsSpent => write_pieces(
-            err,
-            &[start, frame, Piece::Text(" refused: IdsSpent\n")],
-        ),
-        FrameRefusal::IndicesSpent => write_pieces(
-            err,
-            &[start, frame, Piece::Text(" refused: IndicesSpent\n")],
-        ),
-        FrameRefusal::GenerationsSpent => {
-            write_pieces(
-                err,
-                &[start, frame, Piece::Text(" refused: GenerationsSpent\n")],
-            )
-        }
-        FrameRefusal::TooManyCommands => {
-            write_pieces(
-                err,
-                &[start, frame, Piece::Text(" refused: TooManyCommands\n")],
-            )
-        }
-        FrameRefusal::Memory => write_pieces(
-            err,
-            &[start, frame, Piece::Text(" refused: Memory\n")],
-        ),
-        FrameRefusal::Threads => write_pieces(
-            err,
-            &[start, frame, Piece::Text(" refused: Threads\n")],
-        ),
+        _ => write_pieces(err, &[start, frame, refused, name, end]),
     }
 }
 

@@ -1,5 +1,5 @@
 //! The program, over any reader and writers.
-ghost use Rattle.std.specs.Prelude.{◌≡◌};
+ghost use Rattle.scene.specs.Outcomes.{reading, writing};
 ghost use Rattle.scene_basics.specs.Program.{RunsProgram};
 
 use crate::lines::{status, write_line};
@@ -18,20 +18,8 @@ pub fn program<H: AllocGlobal, R: CountedRead, O: CountedWrite, E: CountedWrite>
     err: &mut E,
 ) -> u8
     ensures { RunsProgram result
-        (record {
-          left_before = R.remaining reader.old;
-          left_after = R.remaining reader.new;
-          failures_before = R.fault_count reader.old;
-          failures_after = R.fault_count reader.new;
-        })
-        (record {
-          held_before = O.contents out.old;
-          held_after = O.contents out.new;
-          failures_before = O.fault_count out.old;
-          failures_after = O.fault_count out.new;
-          untouched = out.new ≡ out.old;
-          flushed = O.flushed out.new;
-        })
+        (reading R.remaining R.fault_count reader.old reader.new)
+        (writing O.contents O.fault_count O.flushed out.old out.new)
         (E.contents err.old) (E.contents err.new) (E.fault_count err.old) (E.fault_count err.new) }
 {
     let outcome = run(rt, Basics, reader, out);

@@ -12,7 +12,7 @@ ghost use Rattle.std.specs.Option.{option_to_list};
 ghost use Rattle.scene_basics.specs.Asks.{asked_for, Asking, IsNotAsked};
 ghost use Rattle.scene_basics.specs.Gains.{fragment_of, number_at, global_number, sum_at, gain_in, Gaining};
 ghost use Rattle.scene_basics.specs.Turns.{IsDeclared, IsOverflow, IsOverflowOf, IsOverflowAmong, Fit, PutsIn};
-ghost use Rattle.scene_basics.specs.Systems.{Drifts, Pulls, Decays, Makes, access_of};
+ghost use Rattle.scene_basics.specs.Systems.{Drifts, Pulls, Decays, Makes, declared_access};
 ghost use Rattle.scene_basics.specs.Names.{pos_kind, vel_kind, hp_kind, g_name, part_kinds};
 
 use crate::data::{Ask, BasicSystem, Datum, G, Gain, HP, POS, VEL};
@@ -314,7 +314,7 @@ pub fn turn<H: AllocGlobal>(
     queue: &mut Queue<Datum>,
 ) -> Result<(), Stop>
     requires kinds { kinds view.old ≡ part_kinds }
-    requires access { declared_by view.old ≡ access_of system }
+    requires access { declared_by view.old ≡ declared_access system }
     requires empty { waiting queue.old ≡ [] }
     ensures turn { MatchResult result
         (λ _. Makes (Some system) (fragment_of view.old)

@@ -11,9 +11,9 @@ use Rattle.std.specs.Map.{lookup}
 use Rattle.std.specs.Ordering.{nat_cmp}
 use Rattle.std.specs.BTreeMap.{BTreeMap, get, is_at}
 use Rattle.scene_rules.specs.Parts.{Name, place_of, is_among}
-use Rattle.scene_rules.specs.Slots.{in_column, filled}
+use Rattle.scene_rules.specs.Slots.{in_column, filled, slot_in}
 use Rattle.scene_rules.proofs.CallerLemmas.{slice_get-set_same, slice_get-set_other, under_name, under_name-set}
-use Rattle.scene_commands.specs.Over.{slot, slot_in}
+use Rattle.scene_commands.specs.Over.{slot}
 
 -- a column that was updated at an id has this slot there, and what it had elsewhere
 pub slot_in-new : {D : Type 0} (id : ℕ) (old new : BTreeMap ℕ (Option D)) (set_to : Option (Option D)) → ((q : ℕ) → get nat_cmp new q ≡ cond (is_at (nat_cmp id) q) set_to (get nat_cmp old q)) → (other : ℕ) → get nat_cmp new other ≡ cond (other == id) set_to (get nat_cmp old other)

@@ -7,8 +7,8 @@ use Rattle.std.specs.Option.{ForSome, IsSome}
 use Rattle.std.specs.List.{slice_get}
 use Rattle.std.specs.Ordering.{nat_cmp}
 use Rattle.std.specs.BTreeMap.{BTreeMap, get, is_at}
-use Rattle.scene_rules.specs.Slots.{in_column, filled}
-use Rattle.scene_commands.specs.Over.{slot_in, put_over, HasRoom}
+use Rattle.scene_rules.specs.Slots.{in_column, filled, slot_in}
+use Rattle.scene_commands.specs.Over.{put_over, HasRoom}
 use Rattle.scene_rules.proofs.CallerLemmas.{slice_get-set_same, slice_get-set_other}
 use Rattle.scene_commands.proofs.ColumnLemmas.{slot_in-new}
 

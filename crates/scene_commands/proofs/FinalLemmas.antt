@@ -12,12 +12,12 @@ use Rattle.scene_rules.specs.declared.view.Columns.{Columns}
 use Rattle.scene_commands.specs.declared.changes.Changes.{Changes}
 use Rattle.scene_rules.specs.Parts.{Json, Name, Part, Ref, living, gone, place_of}
 use Rattle.scene_rules.specs.Rulebook.{Book}
-use Rattle.scene_rules.specs.Scenes.{lives, RefLives}
+use Rattle.scene_rules.specs.Scenes.{lives, RefLives, GlobalsReadable}
 use Rattle.scene_rules.specs.Commands.{is_gone, holds_gone, first_gone}
-use Rattle.scene_rules.specs.Slots.{in_column, filled}
+use Rattle.scene_rules.specs.Slots.{in_column, filled, slot_in}
 use Rattle.scene_rules.specs.Lent.{datum}
 use Rattle.scene_rules.specs.Lending.{IsSound, scene_in}
-use Rattle.scene_commands.specs.Over.{cut, cut_ref, dead, given, left, slot, slot_in, put_over, datum_over, scene_over, IsOver, SameColumns, PutIn}
+use Rattle.scene_commands.specs.Over.{cut, cut_ref, dead, given, left, slot, put_over, datum_over, scene_over, IsOver, SameColumns, PutIn}
 use Rattle.scene_commands.proofs.CutLemmas.{cut-none}
 use Rattle.scene_commands.proofs.LivingLemmas.{lives-filter, lives-front}
 use Rattle.scene_rules.proofs.CallerLemmas.{under_name, cond_same}
@@ -76,6 +76,7 @@ module _ {D G : Type 0} (part_of : D → Part) (global_of : G → Json) (book : 
     own = λ place id none. same.parts place id ∙ sound.own place id none;
     admitted = λ id kind held e. sound.admitted id kind held (sym (ap (λ scene. scene.part id kind) (scene-same next ids old new same)) ∙ e);
     living = λ id kind held alive e. sound.living id kind held alive (sym (ap (λ scene. scene.part id kind) (scene-same next ids old new same)) ∙ e);
+    readable = subst (λ scene. GlobalsReadable book scene.global) (sym (scene-same next ids old new same)) sound.readable;
   }
 
   module _ (first : ℕ) (ids : List ℕ) (old new : Columns D G) (changes : Changes D) (over : IsOver part_of global_of book first ids old changes) (put : PutIn changes old new) (none : first_gone book (scene_over part_of global_of book ids old changes) ≡ None) where
@@ -148,6 +149,7 @@ module _ {D G : Type 0} (part_of : D → Part) (global_of : G → Json) (book : 
       own = λ place id gone_id. put.parts place id ∙ own place id (dead changes id) (sym (lives-filter id (dead changes) (given ids changes)) ∙ gone_id);
       admitted = λ id kind held e. let h = held_put id kind held e in subst (λ p. book.admits kind p ≡ true) h.1 (either (λ p. book.admits kind p ≡ true) id kind h.0 (λ d f. over.above.admitted id kind (part_of d) (ap (option_map part_of) f)) (λ d f. over.below.admitted id kind (part_of d) (ap (option_map part_of) f)) h.3);
       living = λ id kind held alive e. let h = held_put id kind held e in subst (λ p. All (RefLives (left ids changes)) p.refs) h.1 (refs_left (dead changes) (given ids changes) (part_of h.0).refs (either (λ p. All (RefLives (given ids changes)) p.refs) id kind h.0 (λ d f. live_datum part_of global_of book changes.next (given ids changes) (record { parts = changes.parts; globals = old.globals }) over.above id kind d f) (λ d f k x below. ref-append ids changes.born.items (get_or (part_of d).refs k x) (live_datum part_of global_of book first ids old over.below id kind d f k x below)) h.3) (stays id kind h.0 h.2 h.3));
+      readable = subst (λ some. GlobalsReadable book (scene_in part_of global_of book first ids (record { parts = old.parts; globals = some })).global) (sym put.globals) over.below.readable;
     }
       where
         own : (place id : ℕ) (b : Bool) → (lives id (given ids changes) && not b) ≡ false → cond b None (put_over (slot_in (slice_get changes.parts.items place) id) (in_column (slice_get old.parts.items place) id)) ≡ None

@@ -12,11 +12,11 @@ use Rattle.scene_rules.specs.Parts.{Json, Name, Part, Ref, living, gone, place_o
 use Rattle.scene_rules.specs.Rulebook.{Book}
 use Rattle.scene_rules.specs.Scenes.{lives, RefLives, IdsFit}
 use Rattle.scene_rules.specs.Commands.{is_gone, holds_gone, first_gone}
-use Rattle.scene_rules.specs.Slots.{filled}
+use Rattle.scene_rules.specs.Slots.{filled, slot_in}
 use Rattle.scene_rules.specs.Lent.{datum}
 use Rattle.scene_rules.specs.Lending.{IsSound, scene_in}
-use Rattle.scene_commands.specs.Over.{cut, cut_ref, dead, given, left, slot, slot_in, put_over, datum_over, scene_over, IsOver}
-use Rattle.scene_commands.proofs.CutLemmas.{dead_holds}
+use Rattle.scene_commands.specs.Over.{cut, cut_ref, dead, given, left, slot, put_over, datum_over, scene_over, IsOver}
+use Rattle.scene_commands.proofs.CutLemmas.{refs_cut-nobody, cut-nobody, dead_holds}
 use Rattle.scene_commands.proofs.WalkLemmas.{find-filter, find_none, any_none}
 use Rattle.scene_rules.proofs.CallerLemmas.{under_name}
 use Rattle.scene_commands.proofs.ColumnLemmas.{in_column-slot}
@@ -30,12 +30,6 @@ or_some (Some y) x e = refl
 pub or_none : {X : Type 0} (o x : Option X) → is_some o ≡ false → option_or o x ≡ x
 or_none None x e = refl
 or_none (Some y) x e = absurd (false≢true (sym e))
-
--- where nobody is dead no reference is cut
-pub refs_cut-undead : (is_dead : ℕ → Bool) → ((id : ℕ) → is_dead id ≡ false) → (refs : List Ref) → map (cut_ref is_dead) refs ≡ refs
-refs_cut-undead is_dead none [] = refl
-refs_cut-undead is_dead none (gone ∷ refs) = ap (λ later. gone ∷ later) (refs_cut-undead is_dead none refs)
-refs_cut-undead is_dead none (living id ∷ refs) = rw (none id) (ap (λ later. living id ∷ later) (refs_cut-undead is_dead none refs))
 
 -- references that live are not gone
 live_refs : (ids : List ℕ) (refs : List Ref) → All (RefLives ids) refs → list_any is_gone refs ≡ false
@@ -63,7 +57,7 @@ module _ {D G : Type 0} (part_of : D → Part) (global_of : G → Json) (book : 
     nothing_gone none id kind = ap (λ b. holds_gone (cond b None (option_map (cut (dead changes)) (option_map part_of (datum_over part_of global_of book changes.parts.items columns id kind))))) (none id) ∙ here (slot book.part_names changes.parts.items id kind) refl (datum book.part_names columns id kind) refl
       where
         whole : (d : D) (some : List ℕ) → All (RefLives some) (part_of d).refs → list_any is_gone (map (cut_ref (dead changes)) (part_of d).refs) ≡ false
-        whole d some h = ap (list_any is_gone) (refs_cut-undead (dead changes) none (part_of d).refs) ∙ live_refs some (part_of d).refs h
+        whole d some h = ap (list_any is_gone) (refs_cut-nobody (dead changes) none (part_of d).refs) ∙ live_refs some (part_of d).refs h
 
         above : (s : Option (Option D)) → slot book.part_names changes.parts.items id kind ≡ s → datum book.part_names (record { parts = changes.parts; globals = columns.globals }) id kind ≡ filled s
         above s e = in_column-slot (under_name book.part_names changes.parts.items kind) id ∙ ap filled e
@@ -110,7 +104,7 @@ module _ {D G : Type 0} (part_of : D → Part) (global_of : G → Json) (book : 
       where
         uncut : (o : Option Part) → option_map (cut (dead changes)) o ≡ o
         uncut None = refl
-        uncut (Some part) = ap (λ refs. Some (record { json = part.json; refs = refs })) (refs_cut-undead (dead changes) nobody part.refs)
+        uncut (Some part) = ap (λ one. Some one) (cut-nobody (dead changes) nobody part)
 
     -- and are sound
     pub over-start : IsSound part_of global_of book changes.next ids columns → IsOver part_of global_of book changes.next ids columns changes
@@ -122,6 +116,7 @@ module _ {D G : Type 0} (part_of : D → Part) (global_of : G → Json) (book : 
         own = λ place id gone_id. in_column-slot (slice_get changes.parts.items place) id ∙ ap filled (none place id);
         admitted = λ id kind held e. absurd (none-some held (sym (empty id kind) ∙ e));
         living = λ id kind held alive e. absurd (none-some held (sym (empty id kind) ∙ e));
+        readable = sound.readable;
       };
       killed = λ id e. absurd (false≢true (sym (nobody id) ∙ e));
     }

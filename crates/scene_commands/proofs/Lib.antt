@@ -1,6 +1,6 @@
 pub mod LivingLemmas
 pub mod CutLemmas
-pub mod RanLemmas
+pub mod LeadLemmas
 pub mod ColumnLemmas
 pub mod OverLemmas
 pub mod ChangeLemmas

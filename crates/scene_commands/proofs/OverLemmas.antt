@@ -1,5 +1,5 @@
 -- Lemmas on the scene that changes make: what it is before the first command, and what each change does to it.
-use Rattle.std.proofs.Common.{◌≡◌, ◌+◌, ℕ, zero, suc, get_or, option_and_then, ◌==◌, ◌&&◌, ◌||◌, not, Bool, true, false, cond, List, [], ◌∷◌, ◌++◌, Option, Some, None, option_map, refl, sym, ◌∙◌, ap, ⊎_elim, slice_set, arith, All, vec_len}
+use Rattle.std.proofs.Common.{◌≡◌, ◌+◌, ℕ, zero, suc, get_or, option_and_then, ◌==◌, ◌&&◌, ◌||◌, not, Bool, true, false, cond, List, [], ◌∷◌, ◌++◌, Option, Some, None, option_map, refl, sym, ◌∙◌, ap, subst, ⊎_elim, slice_set, arith, All, vec_len}
 use Rattle.std.proofs.lemmas.Bool.{cases_Bool, false≢true}
 use Rattle.std.proofs.lemmas.Bool.Decides.{Decides-eqb}
 use Rattle.std.proofs.lemmas.Option.{none-some}
@@ -13,11 +13,11 @@ use Rattle.std.specs.BTreeMap.{BTreeMap, get, is_at}
 use Rattle.scene_rules.specs.declared.view.Columns.{Columns}
 use Rattle.scene_rules.specs.Parts.{Json, Name, Part, Ref, living, gone, place_of}
 use Rattle.scene_rules.specs.Rulebook.{Book}
-use Rattle.scene_rules.specs.Scenes.{PlainScene, lives, RefLives}
+use Rattle.scene_rules.specs.Scenes.{PlainScene, lives, RefLives, GlobalsReadable}
 use Rattle.scene_rules.specs.Commands.{ref_lives, part_without}
 use Rattle.scene_rules.specs.Slots.{in_column, filled, HoldsOnly}
 use Rattle.scene_rules.specs.Lent.{datum, value}
-use Rattle.scene_rules.specs.Lending.{IsSound}
+use Rattle.scene_rules.specs.Lending.{IsSound, scene_in}
 use Rattle.scene_commands.specs.Over.{cut, slot, put_over, datum_over, scene_from, set_part, with_spawned}
 use Rattle.scene_commands.proofs.LivingLemmas.{lives-append, lives-front, fit-push}
 use Rattle.scene_commands.proofs.CutLemmas.{option_cut-kill}
@@ -78,13 +78,14 @@ module _ {D G : Type 0} (part_of : D → Part) (global_of : G → Json) (book : 
       here other name false same b = refl
 
   -- sound columns of which a slot was set at an id that lives, to what is of its kind and refers to living ids, or to nothing
-  pub sound-set : (next : ℕ) (ids : List ℕ) (old new : Columns D G) (kind : Name) (place id : ℕ) (column changed : BTreeMap ℕ (Option D)) (set_to : Option D) → vec_len new.parts ≡ vec_len old.parts → vec_len new.globals ≡ vec_len old.globals → new.parts.items ≡ slice_set old.parts.items place changed → place_of kind book.part_names ≡ Some place → slice_get old.parts.items place ≡ Some column → ((q : ℕ) → get nat_cmp changed q ≡ cond (is_at (nat_cmp id) q) (Some set_to) (get nat_cmp column q)) → lives id ids ≡ true → ((part : Part) → option_map part_of set_to ≡ Some part → (book.admits kind part ≡ true) × All (RefLives ids) part.refs) → IsSound part_of global_of book next ids old → IsSound part_of global_of book next ids new
+  pub sound-set : (next : ℕ) (ids : List ℕ) (old new : Columns D G) (kind : Name) (place id : ℕ) (column changed : BTreeMap ℕ (Option D)) (set_to : Option D) → vec_len new.parts ≡ vec_len old.parts → new.globals ≡ old.globals → new.parts.items ≡ slice_set old.parts.items place changed → place_of kind book.part_names ≡ Some place → slice_get old.parts.items place ≡ Some column → ((q : ℕ) → get nat_cmp changed q ≡ cond (is_at (nat_cmp id) q) (Some set_to) (get nat_cmp column q)) → lives id ids ≡ true → ((part : Part) → option_map part_of set_to ≡ Some part → (book.admits kind part ≡ true) × All (RefLives ids) part.refs) → IsSound part_of global_of book next ids old → IsSound part_of global_of book next ids new
   sound-set next ids old new kind place id column changed set_to len globals items found stands updates alive good sound = record {
-    fits = record { kinds = len ∙ sound.fits.kinds; globals = globals ∙ sound.fits.globals };
+    fits = record { kinds = len ∙ sound.fits.kinds; globals = ap (λ some. vec_len some) globals ∙ sound.fits.globals };
     ids_fit = sound.ids_fit;
     own = λ at other none. rw items (place-set old.parts.items place id column changed set_to stands updates at other (apart other none) ∙ sound.own at other none);
     admitted = λ other name held e. here other name (other == id) (bytes_eq name kind) (λ t. (bytes_eq-Decides name kind).0 t) held (λ p. book.admits name p ≡ true) (λ same p is. rw same (good p is).0) (λ p is. sound.admitted other name p is) (sym (parts other name) ∙ e);
     living = λ other name held lives_now e. here other name (other == id) (bytes_eq name kind) (λ t. (bytes_eq-Decides name kind).0 t) held (λ p. All (RefLives ids) p.refs) (λ same p is. (good p is).1) (λ p is. sound.living other name p lives_now is) (sym (parts other name) ∙ e);
+    readable = subst (λ some. GlobalsReadable book (scene_in part_of global_of book next ids (record { parts = old.parts; globals = some })).global) (sym globals) sound.readable;
   }
     where
       apart : (other : ℕ) → lives other ids ≡ false → (other == id) ≡ false
@@ -148,6 +149,7 @@ module _ {D G : Type 0} (part_of : D → Part) (global_of : G → Json) (book : 
     own = λ place id none. sound.own place id (lives-front id ids (next ∷ []) none);
     admitted = sound.admitted;
     living = λ id kind held alive e k d below. ref-append ids (next ∷ []) (get_or held.refs k d) (sound.living id kind held (given id kind held e) e k d below);
+    readable = sound.readable;
   }
     where
       given : (id : ℕ) (kind : Name) (held : Part) → option_map part_of (datum book.part_names columns id kind) ≡ Some held → lives id ids ≡ true

@@ -1,10 +1,11 @@
 -- The scene that changes make of ids and columns that stay as they are meanwhile: the layout, for private contracts.
-use Rattle.std.specs.Prelude.{◌≡◌, ◌==◌, ◌+◌, [], ◌∷◌, ℕ, Bool, true, not, List, ◌++◌, map, Option, Some, None, option_map, option_and_then, slice_get, vec_len, if◌then◌else◌}
-use Rattle.std.specs.List.{filter, All}
+use Rattle.std.specs.Prelude.{◌≡◌, ◌==◌, ◌+◌, [], ◌∷◌, ℕ, Bool, true, false, not, List, ◌++◌, map, Option, Some, None, option_map, option_and_then, slice_get, vec_len, if◌then◌else◌}
+use Rattle.std.specs.List.{filter, list_any, All}
 use Rattle.std.specs.Ordering.{nat_cmp}
 use Rattle.std.specs.BTreeMap.{BTreeMap, get, keys}
 use Rattle.std.specs.Option.{ForSome, IsSome}
 use Rattle.std.specs.BTreeSet.{contains}
+use Rattle.serde_json.specs.Data.{null}
 use Rattle.scene_rules.specs.declared.view.Columns.{Columns}
 use Rattle.scene_commands.specs.declared.changes.Changes.{Changes}
 use Rattle.scene_commands.specs.declared.changes.Done.{Done}
@@ -13,7 +14,7 @@ use Rattle.scene_rules.specs.Parts.{Json, Name, Part, Ref, living, gone, place_o
 use Rattle.scene_rules.specs.Rulebook.{Book}
 use Rattle.scene_rules.specs.Scenes.{PlainScene, lives}
 use Rattle.scene_rules.specs.Commands.{Applied, changed, skipped, ids_spent, with_part, refs_live}
-use Rattle.scene_rules.specs.Slots.{in_column}
+use Rattle.scene_rules.specs.Slots.{in_column, slot_in}
 use Rattle.scene_rules.specs.Lent.{datum, value}
 use Rattle.scene_rules.specs.Lending.{IsSound}
 
@@ -22,14 +23,17 @@ abbrev pub cut_ref : (ℕ → Bool) → Ref → Ref
 cut_ref dead (living id) = if dead id then gone else living id
 cut_ref dead gone = gone
 
--- a part whose references to dead ids are gone
-abbrev pub cut : (ℕ → Bool) → Part → Part
-cut dead part = record { json = part.json; refs = map (cut_ref dead) part.refs }
+-- whether a reference is to a dead id
+abbrev pub names_dead : (ℕ → Bool) → Ref → Bool
+names_dead dead (living id) = dead id
+names_dead dead gone = false
 
--- the slot of an id in a column, if there is a column
-abbrev pub slot_in : {D : Type 0} → Option (BTreeMap ℕ (Option D)) → ℕ → Option (Option D)
-slot_in None id = None
-slot_in (Some column) id = get nat_cmp column id
+-- a part whose references to dead ids are gone, with what was written for it where it has none
+abbrev pub cut : (ℕ → Bool) → Part → Part
+cut dead part = record {
+  json = if list_any (names_dead dead) part.refs then null else part.json;
+  refs = map (cut_ref dead) part.refs;
+}
 
 -- the slot of an id under a kind, where the columns are those of the names
 abbrev pub slot : {D : Type 0} → List Name → List (BTreeMap ℕ (Option D)) → ℕ → Name → Option (Option D)

@@ -4,8 +4,8 @@ ghost use Rattle.std.specs.List.{filter};
 ghost use Rattle.std.specs.Ordering.{nat_cmp};
 ghost use Rattle.std.specs.BTreeMap.{get};
 ghost use Rattle.std.specs.BTreeSet.{contains};
-ghost use Rattle.scene_rules.specs.Slots.{in_column};
-ghost use Rattle.scene_commands.specs.Over.{slot_in, put_over, HasRoom, RoomFor};
+ghost use Rattle.scene_rules.specs.Slots.{in_column, slot_in};
+ghost use Rattle.scene_commands.specs.Over.{put_over, HasRoom, RoomFor};
 
 use std::alloc::AllocError;
 use std::collections::{BTreeMap, BTreeSet};

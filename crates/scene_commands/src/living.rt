@@ -10,7 +10,7 @@ use scene_rules::Rules;
 use std::alloc::{AllocError, Global};
 
 /// Whether an id stands in an ascending list of ids.
-fn stands_in(ids: &[u64], id: u64) -> bool
+fn is_among_ids(ids: &[u64], id: u64) -> bool
     requires { AllPairs (λ one other. one < other) ids.now }
     ensures { result ≡ lives id ids.now }
 {
@@ -25,10 +25,10 @@ pub(crate) fn is_alive<D>(ids: &[u64], changes: &Changes<D>, id: u64) -> bool
     if changes.killed.contains(&id) {
         return false;
     }
-    if stands_in(ids, id) {
+    if is_among_ids(ids, id) {
         return true;
     }
-    stands_in(changes.born.as_slice(), id)
+    is_among_ids(changes.born.as_slice(), id)
 }
 
 /// Whether all of some ids live.

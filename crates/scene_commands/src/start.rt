@@ -1,28 +1,13 @@
 //! Changes before the first command.
 ghost use Rattle.std.specs.Prelude.{◌≡◌, ℕ, IfOk, length, slice_get, None, vec_len};
-ghost use Rattle.scene_rules.specs.Slots.{in_column};
+ghost use Rattle.scene_rules.specs.Slots.{in_column, slot_in};
 ghost use Rattle.scene_rules.specs.Lending.{IsSound, scene_in};
-ghost use Rattle.scene_commands.specs.Over.{scene_over, slot_in, IsOver};
+ghost use Rattle.scene_commands.specs.Over.{scene_over, IsOver};
 
 use crate::changes::{Base, Changes};
-use scene_rules::Rules;
+use scene_rules::{Rules, empty_columns};
 use std::alloc::{AllocError, Global};
 use std::collections::{BTreeMap, BTreeSet};
-
-/// Columns without slots.
-fn empty_columns<D: Drop>(
-    alloc: Global,
-    count: usize,
-) -> Result<Vec<BTreeMap<u64, Option<D>>>, AllocError>
-    ensures len { IfOk result (λ columns. vec_len columns ≡ count) }
-    ensures none { IfOk result (λ columns. (place id : ℕ) → slot_in (slice_get columns.items place) id ≡ None) }
-{
-    let mut columns = Vec::new(alloc);
-    for _ in 0..count {
-        columns.push(BTreeMap::new(alloc))?;
-    }
-    Ok(columns)
-}
 
 /// Changes that leave a scene as it is.
 pub(crate) fn no_changes<R: Rules>(

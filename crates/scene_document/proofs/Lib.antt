@@ -7,3 +7,4 @@ pub mod OrderLemmas
 pub mod PlacingLemmas
 pub mod CommandLemmas
 pub mod LoadedLemmas
+pub mod CallerLemmas

@@ -14,6 +14,7 @@ use Rattle.std.proofs.lemmas.Bool.Decides.{nat_tests}
 use Rattle.std.proofs.lemmas.Option.{slice_get-map}
 use Rattle.std.proofs.lemmas.List.{map-append, length-map}
 use Rattle.std.proofs.lemmas.List.Kept.{AllPairs-cons}
+use Rattle.std.proofs.lemmas.Map.Views.{All-insert_key}
 use Rattle.scene_document.proofs.IdLemmas.{lives-ascending}
 use Rattle.std.proofs.Math.Path.{fun_ext}
 use Rattle.std.proofs.lemmas.Slice.Eq.{bytes_eq-Decides}
@@ -29,18 +30,19 @@ use Rattle.scene_document.specs.declared.loaded.Loaded.{Loaded}
 use Rattle.scene_rules.specs.declared.view.Columns.{Columns}
 use Rattle.scene_rules.specs.declared.placed.Placed.{Placed}
 use Rattle.scene_rules.specs.declared.command.Command.{Command}
-use Rattle.scene_rules.specs.Parts.{Json, Name, Ref, living, gone, Part, place_of}
+use Rattle.scene_rules.specs.Parts.{Json, Name, Ref, living, gone, Part, place_of, name_at}
 use Rattle.scene_rules.specs.Rulebook.{Book, Facts}
 use Rattle.scene_rules.specs.Rulebook as plain
 use Rattle.scene_rules.specs.Lent.{access_of}
 use Rattle.scene_rules.specs.Queues.{plain_commands}
-use Rattle.scene_rules.specs.Scenes.{PlainScene, PlainSystem, lives, RefLives, RefsLive, PartsAdmitted}
+use Rattle.scene_rules.specs.Scenes.{PlainScene, PlainSystem, lives, RefLives, RefsLive, PartsAdmitted, GlobalsReadable}
+use Rattle.scene_rules.proofs.CallerLemmas.{same_scene}
 use Rattle.scene_rules.specs.Commands.{ref_lives}
 use Rattle.scene_rules.specs.Laws.{Ascend}
 use Rattle.scene_rules.specs.Lawful.{IsKnownPart, IsLawful}
 use Rattle.scene_draft.specs.Drafts.{Draft, DraftPart, DraftEntity, DraftEntry, DraftCommand, spawn, kill, put, take}
 use Rattle.scene_document.specs.Documents.{listed_ids, systems_of, has_unknown_kind, has_double, has_id_past_next, dangles, part_dangles, has_unknown_system, has_taken_name, has_unknown_dependency, lacks_global, writes_reserved, refusal_of}
-use Rattle.scene_draft.specs.DraftViews.{name_at, named, plain_entity, plain_system, plain_entry, plain_asked, plain_list, facts_of, seen, config_seen, IsPlaced, IsAdmitted, IsDraft, IsMadeOf, IsMadeAs, IsOfBook, IsKnownDraft, Differ, AreApart, IsLawfulDraft}
+use Rattle.scene_draft.specs.DraftViews.{named, plain_entity, plain_system, plain_draft, plain_asked, plain_list, facts_of, seen, config_seen, IsPlaced, IsAdmitted, IsReadable, IsDraft, IsMadeOf, IsMadeAs, IsOfBook, IsKnownDraft, Differ, AreApart, IsLawfulDraft}
 use Rattle.scene_document.specs.Openings.{part_in, part_among, global_among, ascending, first_scene, Resource, same_resource, staged, with_facts, systems_at, staged_systems, local_systems, command_of, commands_in, commands_for, frames_of}
 use Rattle.shred_plan.specs.Plan.{Added, order}
 use Rattle.shred_plan.specs.Laws.{systems_added}
@@ -53,14 +55,6 @@ use Rattle.scene_document.proofs.PlaceLemmas.{or_false, placed_within, part_amon
 use Rattle.scene_document.proofs.RefusalLemmas.{next-plain}
 use Rattle.scene_document.proofs.OrderLemmas.{times, order-times}
 use Rattle.scene_document.proofs.PlacingLemmas.{none_before, apart_above, staged_system, map-filter_map, filter_map_where}
-
--- two scenes that hold the same are the same
-pub same_scene : (one other : PlainScene) → one.next ≡ other.next → one.ids ≡ other.ids → ((id : ℕ) (kind : Name) → one.part id kind ≡ other.part id kind) → ((name : Name) → one.global name ≡ other.global name) → one ≡ other
-same_scene one other next ids part global =
-    ap (λ n. record { next = n; ids = one.ids; part = one.part; global = one.global }) next
-    ∙ ap (λ i. record { next = other.next; ids = i; part = one.part; global = one.global }) ids
-    ∙ ap (λ p. record { next = other.next; ids = other.ids; part = p; global = one.global }) (fun_ext (λ id. fun_ext (λ kind. part id kind)))
-    ∙ ap (λ g. record { next = other.next; ids = other.ids; part = other.part; global = g }) (fun_ext (λ name. global name))
 
 -- a fact holds of what a document gives, where it is known
 abbrev Holds : (Name → Part → Type 0) → DraftPart → Type 0
@@ -158,6 +152,20 @@ admitted-loaded part_of book entities h id kind held f =
     entities h))
     f
 
+-- the globals of a draft are readable
+readable_step : (book : Book) (name : Name) (b : Bool) (global : Name × Json) (later : Option Json) (value : Json) → bytes_eq name global.0 ≡ b → book.read_global global.0 global.1 ≡ Some global.1 → (later ≡ Some value → book.read_global name value ≡ Some value) → cond b (Some global.1) later ≡ Some value → book.read_global name value ≡ Some value
+readable_step book name true global later value same is rest e =
+    let equal : name ≡ global.0 = (bytes_eq-Decides name global.0).0 same in
+    let held : global.1 ≡ value = cc in
+    subst (λ other. book.read_global name other ≡ Some other) held (subst (λ other. book.read_global other global.1 ≡ Some global.1) (sym equal) is)
+readable_step book name false global later value same is rest e = rest e
+
+pub readable-loaded : (book : Book) (globals : List (Option (Name × Json))) → All (IsReadable book) globals → GlobalsReadable book (global_among globals)
+readable-loaded book [] h name value e = absurd cc
+readable-loaded book (None ∷ globals) h name value e = readable-loaded book globals (All-tail (IsReadable book) None globals h) name value e
+readable-loaded book (Some global ∷ globals) h name value e =
+    readable_step book name (bytes_eq name global.0) global (global_among globals name) value refl (All-head (IsReadable book) (Some global) globals h) (readable-loaded book globals (All-tail (IsReadable book) (Some global) globals h) name value) e
+
 module _ {D G : Type 0} (part_of : D → Part) (global_of : G → Json) (book : Book) (columns : Columns D G) where
   -- the part of an id that columns hold
   pub part-held : Ascend book.part_names → (entities : List (EntityDraft D)) → All (λ entity. All (IsPlaced (length book.part_names)) entity.parts.items) entities → has_double (map (λ entity. entity.id) entities) ≡ false
@@ -197,12 +205,12 @@ module _ {S : Type 0} (kind_of : S → Name) (config_of : S → Json) (book : Bo
   local_step place draft false (Some made) h rest others e = e
 
   -- the local systems in plain terms
-  locals-plain : (place : ℕ) (entries : List (EntryDraft S)) → All (IsOfBook kind_of config_of book) entries → systems_at (λ one. one.local) place (map plain_entry entries) ≡ map (system_in kind_of config_of) (locals_from place entries)
+  locals-plain : (place : ℕ) (entries : List (EntryDraft S)) → All (IsOfBook kind_of config_of book) entries → systems_at (λ one. one.local) place (map plain_draft entries) ≡ map (system_in kind_of config_of) (locals_from place entries)
   locals-plain place [] h = refl
   locals-plain place (entry.Barrier ∷ entries) h = locals-plain (suc place) entries (All-tail (IsOfBook kind_of config_of book) entry.Barrier entries h)
   locals-plain place (entry.System draft ∷ entries) h =
       local_step place draft draft.local draft.made (All-head (IsOfBook kind_of config_of book) (entry.System draft) entries h)
-      (systems_at (λ one. one.local) (suc place) (map plain_entry entries)) (locals_from (suc place) entries)
+      (systems_at (λ one. one.local) (suc place) (map plain_draft entries)) (locals_from (suc place) entries)
       (locals-plain (suc place) entries (All-tail (IsOfBook kind_of config_of book) (entry.System draft) entries h))
 
   -- a system behind one at an earlier place
@@ -225,32 +233,32 @@ module _ {S : Type 0} (kind_of : S → Name) (config_of : S → Json) (book : Bo
   slot_later all place number draft false (Some facts) later h some = subst (λ b. 1 ≤ cond b (suc (times number (systems_added later))) (times number (systems_added later))) (apart_above place number h) some
 
   -- the slot of a staged system holds that system
-  slots-plain : (all : List DraftEntry) (place index number : ℕ) (entries : List (EntryDraft S)) → number ≡ place + index → All (IsOfBook kind_of config_of book) entries → 1 ≤ times number (systems_added (staged all place (map plain_entry entries)))
-      → option_map (system_in kind_of config_of) (filled (slice_get (slots_from place entries) index)) ≡ find (λ one. eqb one.position number) (systems_at (λ one. true) place (map plain_entry entries))
+  slots-plain : (all : List DraftEntry) (place index number : ℕ) (entries : List (EntryDraft S)) → number ≡ place + index → All (IsOfBook kind_of config_of book) entries → 1 ≤ times number (systems_added (staged all place (map plain_draft entries)))
+      → option_map (system_in kind_of config_of) (filled (slice_get (slots_from place entries) index)) ≡ find (λ one. eqb one.position number) (systems_at (λ one. true) place (map plain_draft entries))
   slots-plain all place index number [] e h some = absurd (omega (arith, some))
   slots-plain all place zero number (entry.Barrier ∷ entries) e h some =
-      let none = none_before all (suc place) (map plain_entry entries) number (omega (arith, e)) in absurd (omega (arith, none, some))
+      let none = none_before all (suc place) (map plain_draft entries) number (omega (arith, e)) in absurd (omega (arith, none, some))
   slots-plain all place (suc index) number (entry.Barrier ∷ entries) e h some = slots-plain all (suc place) index number entries (omega (arith, e)) (All-tail (IsOfBook kind_of config_of book) entry.Barrier entries h) some
   slots-plain all place zero number (entry.System draft ∷ entries) e h some =
-      slot_here all place number draft draft.local draft.made (staged all (suc place) (map plain_entry entries)) (systems_at (λ one. true) (suc place) (map plain_entry entries)) (omega (arith, e))
-      (All-head (IsOfBook kind_of config_of book) (entry.System draft) entries h) (none_before all (suc place) (map plain_entry entries) number (omega (arith, e))) some
+      slot_here all place number draft draft.local draft.made (staged all (suc place) (map plain_draft entries)) (systems_at (λ one. true) (suc place) (map plain_draft entries)) (omega (arith, e))
+      (All-head (IsOfBook kind_of config_of book) (entry.System draft) entries h) (none_before all (suc place) (map plain_draft entries) number (omega (arith, e))) some
   slots-plain all place (suc index) number (entry.System draft ∷ entries) e h some =
       slots-plain all (suc place) index number entries (omega (arith, e)) (All-tail (IsOfBook kind_of config_of book) (entry.System draft) entries h)
-      (slot_later all place number draft draft.local (option_map facts_of draft.made) (staged all (suc place) (map plain_entry entries)) (omega (arith, e)) some)
-      ∙ sym (find_later place number draft draft.made (systems_at (λ one. true) (suc place) (map plain_entry entries)) (omega (arith, e)))
+      (slot_later all place number draft draft.local (option_map facts_of draft.made) (staged all (suc place) (map plain_draft entries)) (omega (arith, e)) some)
+      ∙ sym (find_later place number draft draft.made (systems_at (λ one. true) (suc place) (map plain_draft entries)) (omega (arith, e)))
 
-  slot-plain : (all : List DraftEntry) (entries : List (EntryDraft S)) (number : ℕ) → All (IsOfBook kind_of config_of book) entries → 1 ≤ times number (systems_added (staged all 1 (map plain_entry entries)))
-      → option_map (system_in kind_of config_of) (slot_at (slots_from 1 entries) number) ≡ find (λ one. eqb one.position number) (systems_at (λ one. true) 1 (map plain_entry entries))
-  slot-plain all entries zero h some = let none = none_before all 1 (map plain_entry entries) zero (omega arith) in absurd (omega (arith, none, some))
+  slot-plain : (all : List DraftEntry) (entries : List (EntryDraft S)) (number : ℕ) → All (IsOfBook kind_of config_of book) entries → 1 ≤ times number (systems_added (staged all 1 (map plain_draft entries)))
+      → option_map (system_in kind_of config_of) (slot_at (slots_from 1 entries) number) ≡ find (λ one. eqb one.position number) (systems_at (λ one. true) 1 (map plain_draft entries))
+  slot-plain all entries zero h some = let none = none_before all 1 (map plain_draft entries) zero (omega arith) in absurd (omega (arith, none, some))
   slot-plain all entries (suc index) h some = slots-plain all 1 index (suc index) entries (omega arith) h some
 
   -- all systems in the order in which they run
   pub order-plain : (entries : List (EntryDraft S)) (systems : List (Placed S)) → All (IsOfBook kind_of config_of book) entries
-      → systems ≡ filter_map (slot_at (slots_from 1 entries)) (order same_resource (staged (map plain_entry entries) 1 (map plain_entry entries))) ++ locals_from 1 entries
-      → filter_map (λ place. find (λ one. eqb one.position place) (systems_at (λ one. true) 1 (map plain_entry entries))) (order same_resource (staged (map plain_entry entries) 1 (map plain_entry entries))) ++ systems_at (λ one. one.local) 1 (map plain_entry entries)
+      → systems ≡ filter_map (slot_at (slots_from 1 entries)) (order same_resource (staged (map plain_draft entries) 1 (map plain_draft entries))) ++ locals_from 1 entries
+      → filter_map (λ place. find (λ one. eqb one.position place) (systems_at (λ one. true) 1 (map plain_draft entries))) (order same_resource (staged (map plain_draft entries) 1 (map plain_draft entries))) ++ systems_at (λ one. one.local) 1 (map plain_draft entries)
       ≡ map (system_in kind_of config_of) systems
   order-plain entries systems h is =
-      let all = map plain_entry entries in
+      let all = map plain_draft entries in
       let numbers : List ℕ = order same_resource (staged all 1 all) in
       sym (ap (map (system_in kind_of config_of)) is
       ∙ map-append (system_in kind_of config_of) (filter_map (slot_at (slots_from 1 entries)) numbers) (locals_from 1 entries)
@@ -304,10 +312,10 @@ module _ {S : Type 0} (kind_of : S → Name) (config_of : S → Json) (book : Bo
 
   -- all systems that run are the rules'
   pub made-right : (entries : List (EntryDraft S)) (systems : List (Placed S)) → All (IsOfBook kind_of config_of book) entries
-      → systems ≡ filter_map (slot_at (slots_from 1 entries)) (order same_resource (staged (map plain_entry entries) 1 (map plain_entry entries))) ++ locals_from 1 entries
+      → systems ≡ filter_map (slot_at (slots_from 1 entries)) (order same_resource (staged (map plain_draft entries) 1 (map plain_draft entries))) ++ locals_from 1 entries
       → All (IsOfRules kind_of config_of book) systems
   made-right entries systems h is =
-      let numbers : List ℕ = order same_resource (staged (map plain_entry entries) 1 (map plain_entry entries)) in
+      let numbers : List ℕ = order same_resource (staged (map plain_draft entries) 1 (map plain_draft entries)) in
       All-same (IsOfRules kind_of config_of book) systems (filter_map (slot_at (slots_from 1 entries)) numbers ++ locals_from 1 entries) is
       (All-append (IsOfRules kind_of config_of book) (filter_map (slot_at (slots_from 1 entries)) numbers) (locals_from 1 entries) (picked-right entries numbers h) (locals-right 1 entries h))
 
@@ -385,21 +393,12 @@ unfolding IsStrictlySortedBy
 ids-ascend [] h = λ i j d below inside. absurd (omega arith)
 ids-ascend (id ∷ ids) h = AllPairs-cons (λ one other. one < other) id ids (above-ascending id ids h.0) (ids-ascend ids h.1)
 
-below_step : (next key other : ℕ) (keys inserted : List ℕ) (o : Ordering) → key < next → All (λ id. id < next) (other ∷ keys) → All (λ id. id < next) inserted → All (λ id. id < next) (match_ordering o (key ∷ other ∷ keys) (other ∷ keys) (other ∷ inserted))
-below_step next key other keys inserted Less h all rest = All-cons (λ id. id < next) key (other ∷ keys) h all
-below_step next key other keys inserted Equal h all rest = all
-below_step next key other keys inserted Greater h all rest = All-cons (λ id. id < next) other inserted (All-head (λ id. id < next) other keys all) rest
-
-below-insert : (next key : ℕ) (keys : List ℕ) → key < next → All (λ id. id < next) keys → All (λ id. id < next) (insert_key nat_cmp keys key)
-below-insert next key [] h all = All-cons (λ id. id < next) key [] h all
-below-insert next key (other ∷ keys) h all = below_step next key other keys (insert_key nat_cmp keys key) (nat_cmp key other) h all (below-insert next key keys h (All-tail (λ id. id < next) other keys all))
-
 -- ids that are below the next one are so in order
-pub ids-below : {D : Type 0} (next : ℕ) (entities : List (EntityDraft D)) → list_any (λ entity. not (ltb entity.id next)) entities ≡ false → All (λ id. id < next) (ascending (map (λ entity. entity.id) entities))
-ids-below next [] h = All-nil (λ id. id < next)
-ids-below next (entity ∷ entities) h =
-    let apart = or_false (not (ltb entity.id next)) (list_any (λ entity. not (ltb entity.id next)) entities) h in
-    below-insert next entity.id (ascending (map (λ entity. entity.id) entities)) (ltb-below entity.id next (not-false (ltb entity.id next) apart.0)) (ids-below next entities apart.1)
+pub ids-below : {X : Type 0} (id_of : X → ℕ) (next : ℕ) (xs : List X) → list_any (λ x. not (ltb (id_of x) next)) xs ≡ false → All (λ id. id < next) (ascending (map id_of xs))
+ids-below id_of next [] h = All-nil (λ id. id < next)
+ids-below id_of next (x ∷ xs) h =
+    let apart = or_false (not (ltb (id_of x) next)) (list_any (λ one. not (ltb (id_of one) next)) xs) h in
+    All-insert_key nat_cmp (id_of x) (λ id. id < next) (ascending (map id_of xs)) (ids-below id_of next xs apart.1) (ltb-below (id_of x) next (not-false (ltb (id_of x) next) apart.0))
   where
     ltb-below : (one other : ℕ) → ltb one other ≡ true → one < other
     ltb-below one other e = grind (arith, nat_tests)
@@ -419,7 +418,7 @@ holds-listed part_of names entities columns held place id unlisted = ⊎_elim
 -- what is made of a draft's parts is loaded of it
 module _ {D G S : Type 0} (part_of : D → Part) (global_of : G → Json) (kind_of : S → Name) (config_of : S → Json) (book : Book) (kinds : Ascend book.part_names) (names : Ascend book.global_names) where
   frames-plain : (plain : Draft) (draft : DocumentDraft D G S) (loaded : Loaded D G S) → IsDraft part_of global_of kind_of config_of book plain draft
-      → loaded.systems.items ≡ filter_map (slot_at (slots_from 1 draft.entries.items)) (order same_resource (staged (map plain_entry draft.entries.items) 1 (map plain_entry draft.entries.items))) ++ locals_from 1 draft.entries.items
+      → loaded.systems.items ≡ filter_map (slot_at (slots_from 1 draft.entries.items)) (order same_resource (staged (map plain_draft draft.entries.items) 1 (map plain_draft draft.entries.items))) ++ locals_from 1 draft.entries.items
       → map (λ list. plain_commands part_of list.items) loaded.commands.items ≡ map (λ list. filter_map command_of (plain_list part_of list)) draft.commands.items
       → (number : ℕ) → frames_of plain number ≡ frames_in part_of kind_of config_of loaded number
   frames-plain plain draft loaded is systems commands number =
@@ -445,7 +444,7 @@ module _ {D G S : Type 0} (part_of : D → Part) (global_of : G → Json) (kind_
       → ((place id : ℕ) → place < length book.part_names → stored loaded.columns.parts.items place id ≡ datum_among draft.entities.items place id)
       → vec_len loaded.columns.globals ≡ length book.global_names
       → ((place : ℕ) → place < length book.global_names → filled (slice_get loaded.columns.globals.items place) ≡ first_at draft.globals.items place None)
-      → loaded.systems.items ≡ filter_map (slot_at (slots_from 1 draft.entries.items)) (order same_resource (staged (map plain_entry draft.entries.items) 1 (map plain_entry draft.entries.items))) ++ locals_from 1 draft.entries.items
+      → loaded.systems.items ≡ filter_map (slot_at (slots_from 1 draft.entries.items)) (order same_resource (staged (map plain_draft draft.entries.items) 1 (map plain_draft draft.entries.items))) ++ locals_from 1 draft.entries.items
       → map (λ list. plain_commands part_of list.items) loaded.commands.items ≡ map (λ list. filter_map command_of (plain_list part_of list)) draft.commands.items
       → loaded.frames ≡ draft.frames
       → IsLoaded part_of global_of kind_of config_of book plain loaded
@@ -472,11 +471,12 @@ module _ {D G S : Type 0} (part_of : D → Part) (global_of : G → Json) (kind_
             fits = record { kinds = parts_len; globals = globals_len };
             ids_fit = record {
               ascend = ids-ascend loaded.ids.items ordered;
-              below = subst (λ all. All (λ id. id < loaded.next) all) (sym ids) (subst (λ last. All (λ id. id < last) (ascending (map (λ entity. entity.id) entities))) (sym next) (ids-below draft.next entities past));
+              below = subst (λ all. All (λ id. id < loaded.next) all) (sym ids) (subst (λ last. All (λ id. id < last) (ascending (map (λ entity. entity.id) entities))) (sym next) (ids-below (λ entity. entity.id) draft.next entities past));
             };
             own = subst (λ all. HoldsOnly all loaded.columns.parts.items) (sym ids) (holds-listed part_of book.part_names entities loaded.columns.parts.items (λ place id inside. parts place id (subst (λ count. place < count) (sym loaded.columns.parts.ok.0 ∙ parts_len) inside)));
             admitted = subst (λ (scene : PlainScene). PartsAdmitted book scene.part) same admitted;
             living = subst (λ (scene : PlainScene). RefsLive scene.ids scene.part) same living;
+            readable = subst (λ (scene : PlainScene). GlobalsReadable book scene.global) same (readable-loaded book plain.globals is.readable);
           };
           made = made-right kind_of config_of book draft.entries.items loaded.systems.items is.made systems;
           lawful = lawful-loaded draft loaded is.lawful commands;
@@ -497,7 +497,7 @@ few-entries part_of global_of kind_of config_of book indices plain draft is e =
     let k = (passed_over (writes_reserved plain) _ _ j).1 in
     let l = (passed_over (ltb 64 plain.workers) _ _ k).1 in
     let few : ltb 4096 (length plain.entries) ≡ false = (passed_over (ltb 4096 (length plain.entries)) _ _ l).0 in
-    let count : length plain.entries ≡ vec_len draft.entries = ap length is.entries ∙ length-map draft.entries.items plain_entry ∙ sym draft.entries.ok.0 in
+    let count : length plain.entries ≡ vec_len draft.entries = ap length is.entries ∙ length-map draft.entries.items plain_draft ∙ sym draft.entries.ok.0 in
     let within : length plain.entries ≤ 4096 = not_more (length plain.entries) few in omega (arith, within, count)
   where
     not_more : (count : ℕ) → ltb 4096 count ≡ false → count ≤ 4096

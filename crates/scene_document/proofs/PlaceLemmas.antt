@@ -11,11 +11,11 @@ use Rattle.std.proofs.lemmas.Slice.Eq.{bytes_eq-Decides}
 use Rattle.std.proofs.lemmas.Map.Text.{is_eq-slice_cmp}
 use Rattle.std.proofs.lemmas.List.Elements.{All-head, All-tail}
 use Rattle.scene_draft.specs.declared.draft.EntityDraft.{EntityDraft}
-use Rattle.scene_rules.specs.Parts.{Json, Name, Part, place_of}
+use Rattle.scene_rules.specs.Parts.{Json, Name, Part, place_of, name_at}
 use Rattle.scene_rules.specs.Scenes.{lives}
 use Rattle.scene_rules.specs.Laws.{Ascend}
 use Rattle.scene_document.specs.Documents.{has_double}
-use Rattle.scene_draft.specs.DraftViews.{name_at, named, plain_entity, IsPlaced}
+use Rattle.scene_draft.specs.DraftViews.{named, plain_entity, IsPlaced}
 use Rattle.scene_document.specs.Openings.{part_in, part_among, global_among}
 use Rattle.scene_document.specs.Columns.{first_at, datum_among}
 

@@ -14,7 +14,7 @@ use Rattle.scene_draft.specs.declared.draft.EntryDraft.TheVariants as entry
 use Rattle.scene_draft.specs.declared.draft.MadeDraft.{MadeDraft}
 use Rattle.scene_draft.specs.declared.draft.SystemDraft.{SystemDraft}
 use Rattle.scene_draft.specs.Drafts.{DraftEntry, DraftSystem, barrier, system}
-use Rattle.scene_draft.specs.DraftViews.{plain_entry, facts_of, seen, config_seen}
+use Rattle.scene_draft.specs.DraftViews.{plain_draft, facts_of, seen, config_seen}
 use Rattle.scene_document.specs.Names.{has_name}
 use Rattle.scene_document.specs.Openings.{Resource, place_named, staged, staged_at}
 use Rattle.shred_plan.specs.Plan.{Added, fence, placing}
@@ -37,9 +37,9 @@ pub kept-updated : (place : ℕ) (other name : Name) (old new : BTreeMap (Bor Na
 kept-updated place other name old new e = e ∙ ap (λ b. cond b (Some place) (kept_place old other)) (is_eq-slice_cmp name other ∙ bytes_eq-symmetric name other)
 
 -- the place of a name among entries, of which one more stands in front
-pub named_more : {S : Type 0} (place : ℕ) (name : Name) (one : EntryDraft S) (entries : List (EntryDraft S)) → place_named place (map plain_entry (one ∷ entries)) name ≡ cond (has_name name one) (Some place) (place_named (suc place) (map plain_entry entries) name)
+pub named_more : {S : Type 0} (place : ℕ) (name : Name) (one : EntryDraft S) (entries : List (EntryDraft S)) → place_named place (map plain_draft (one ∷ entries)) name ≡ cond (has_name name one) (Some place) (place_named (suc place) (map plain_draft entries) name)
 named_more place name entry.Barrier entries = refl
-named_more place name (entry.System draft) entries = ap (λ b. cond b (Some place) (place_named (suc place) (map plain_entry entries) name)) (bytes_eq-symmetric draft.name.now name)
+named_more place name (entry.System draft) entries = ap (λ b. cond b (Some place) (place_named (suc place) (map plain_draft entries) name)) (bytes_eq-symmetric draft.name.now name)
 
 -- what the planner is told of entries, of which one more stands at the end
 pub staged-append : (all : List DraftEntry) (place : ℕ) (entries others : List DraftEntry) → staged all place (entries ++ others) ≡ staged all place entries ++ staged all (place + length entries) others
@@ -189,7 +189,7 @@ told_step all place kind name after config false made (Some one) e f = let same 
 
 -- a staged system as the planner is told it
 pub told-plain : {S : Type 0} (all : List DraftEntry) (place : ℕ) (lookup : Name → Option ℕ) (draft : SystemDraft S) (made : MadeDraft S) → draft.local ≡ false → draft.made ≡ Some made → ((name : Name) → lookup name ≡ place_named 1 all name)
-    → staged all place (plain_entry (entry.System draft) ∷ []) ≡ placing (told_of place (filter_map lookup (texts draft.after.items)) made) ∷ []
+    → staged all place (plain_draft (entry.System draft) ∷ []) ≡ placing (told_of place (filter_map lookup (texts draft.after.items)) made) ∷ []
 told-plain all place lookup draft made e f h =
     told_step all place draft.kind.now draft.name.now (texts draft.after.items) (config_seen (seen draft.config)) draft.local made draft.made e f
     ∙ ap (λ after. placing (told_of place after made) ∷ []) (sym (filter_map_alike lookup (place_named 1 all) h (texts draft.after.items)))

@@ -20,14 +20,14 @@ use Rattle.scene_draft.specs.declared.draft.CommandDraft.{CommandDraft}
 use Rattle.scene_draft.specs.declared.draft.CommandDraft.TheVariants as asked
 use Rattle.std.specs.Global.{Vec}
 use Rattle.scene_rules.specs.declared.access.Accessor.{Accessor}
-use Rattle.scene_rules.specs.Parts.{Json, Name, Ref, living, gone, Part, is_among}
+use Rattle.scene_rules.specs.Parts.{Json, Name, Ref, living, gone, Part, is_among, name_at}
 use Rattle.scene_rules.specs.Rulebook.{Book, Access}
 use Rattle.scene_rules.specs.Scenes.{lives}
 use Rattle.scene_rules.specs.Commands.{ref_lives}
 use Rattle.scene_rules.specs.Laws.{refs_to}
 use Rattle.scene_draft.specs.Drafts.{Draft, system_of_entry, stores}
 use Rattle.scene_document.specs.Documents.{listed_ids, systems_of, declares_that, names_unknown, has_unknown_kind, has_double, has_id_past_next, dangles, part_dangles, has_unknown_system, has_taken_name, has_unknown_dependency, is_named, lacks_global, writes_reserved, refusal_of}
-use Rattle.scene_draft.specs.DraftViews.{name_at, named, plain_entity, plain_entry, systems_in, plain_part, plain_asked, plain_list, facts_of, IsPlaced, IsDraft}
+use Rattle.scene_draft.specs.DraftViews.{named, plain_entity, plain_draft, systems_in, plain_part, plain_asked, plain_list, facts_of, IsPlaced, IsDraft}
 use Rattle.scene_document.specs.Openings.{ascending}
 use Rattle.scene_rules.specs.Lent.{texts, access_of}
 use Rattle.scene_document.specs.Refusals.{datum_dangles, entity_dangles, asks_unknown, stands_for, lacks_one, lacks_declared, is_unmade, made_that, entry_that, has_unknown, number_refusal, draft_refusal}
@@ -251,7 +251,7 @@ module _ {D G S : Type 0} (part_of : D → Part) (global_of : G → Json) (kind_
       ap (list_any (λ one. declares_that (λ access. access.reserved) one.facts)) systems ∙ that-plain (λ access. access.reserved) entries in
       alike_tests _ _ _ _ _ _ _ _ _ _ _ _ _ _ _ _ _ _ kinds (ap has_double listed) next dangling unknown (ap has_taken_name systems) (ap (has_unknown_dependency []) systems) lacking reserved _ _
       (sizes plain.workers draft.workers (length plain.entries) (length entries) (length plain.entities) (length entities) indices (is_among plain.store stores) draft.store_is_known
-      is.workers (ap length is.entries ∙ length-map entries plain_entry) is.store (ap length is.entities ∙ length-map entities (plain_entity part_of names)))
+      is.workers (ap length is.entries ∙ length-map entries plain_draft) is.store (ap length is.entities ∙ length-map entities (plain_entity part_of names)))
       ∙ in_parts (has_unknown draft) (has_double (map (λ entity. entity.id) entities)) (list_any (λ entity. not (ltb entity.id draft.next)) entities)
       (list_any (entity_dangles part_of (ascending (map (λ entity. entity.id) entities))) entities) (list_any is_unmade entries) (has_taken_name (systems_in entries)) (has_unknown_dependency [] (systems_in entries))
       (list_any (entry_that (λ accessor. lacks_declared book.global_names globals (access_of accessor))) entries) (list_any (entry_that (λ accessor. accessor.writes_reserved)) entries) (number_refusal indices draft)

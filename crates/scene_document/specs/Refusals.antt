@@ -13,12 +13,12 @@ use Rattle.scene_draft.specs.declared.draft.EntryDraft.TheVariants as entry
 use Rattle.scene_draft.specs.declared.draft.CommandDraft.{CommandDraft}
 use Rattle.scene_draft.specs.declared.draft.CommandDraft.TheVariants as asked
 use Rattle.scene_draft.specs.declared.draft.DocumentDraft.{DocumentDraft}
-use Rattle.scene_rules.specs.Parts.{Name, Part}
+use Rattle.scene_rules.specs.Parts.{Name, Part, name_at}
 use Rattle.scene_rules.specs.Rulebook.{Access}
 use Rattle.scene_rules.specs.Lent.{access_of}
 use Rattle.scene_rules.specs.Commands.{ref_lives}
 use Rattle.scene_document.specs.Documents.{has_double, has_taken_name, has_unknown_dependency}
-use Rattle.scene_draft.specs.DraftViews.{name_at, systems_in}
+use Rattle.scene_draft.specs.DraftViews.{systems_in}
 use Rattle.scene_document.specs.Openings.{ascending}
 
 -- a reference of a datum names none of the ids

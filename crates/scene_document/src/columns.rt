@@ -14,7 +14,7 @@ use crate::commands::commands_of;
 use crate::loaded::Loaded;
 use crate::order::order_systems;
 use scene_draft::{DocumentDraft, EntityDraft};
-use scene_rules::{Columns, Rules};
+use scene_rules::{Columns, Rules, empty_columns, empty_places};
 use std::alloc::{AllocError, Global};
 use std::collections::{BTreeMap, BTreeSet};
 
@@ -39,20 +39,6 @@ fn in_order(alloc: Global, ids: BTreeSet<u64>) -> Result<Vec<u64>, AllocError>
     ensures ordered { IfOk result (λ list. IsOrdered nat_cmp ids) }
 {
     ids.into_iter().collect(alloc)
-}
-
-fn empty_columns<D: Drop>(
-    alloc: Global,
-    count: usize,
-) -> Result<Vec<BTreeMap<u64, Option<D>>>, AllocError>
-    ensures { IfOk result (λ columns. (vec_len columns ≡ count)
-        × ((place id : ℕ) → stored columns.items place id ≡ None)) }
-{
-    let mut columns = Vec::new(alloc);
-    for _ in 0..count {
-        columns.push(BTreeMap::new(alloc))?;
-    }
-    Ok(columns)
 }
 
 /// Puts a datum at an id into the column at a place, if there is one.
@@ -107,17 +93,6 @@ fn columns_of<D: Drop>(
         put_parts(&mut columns, id, parts)?;
     }
     Ok(columns)
-}
-
-fn empty_places<G: Drop>(alloc: Global, count: usize) -> Result<Vec<Option<G>>, AllocError>
-    ensures { IfOk result (λ places. (vec_len places ≡ count)
-        × ((place : ℕ) → filled (slice_get places.items place) ≡ None)) }
-{
-    let mut places = Vec::new(alloc);
-    for _ in 0..count {
-        places.push(None)?;
-    }
-    Ok(places)
 }
 
 /// The globals at their places: of two at one place the first stands.

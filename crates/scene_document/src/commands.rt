@@ -1,7 +1,7 @@
 //! The commands of a document that is not refused.
 ghost use Rattle.std.specs.Prelude.{◌≡◌, ◌++◌, [], map, option_map, IfOk, OnOk};
 ghost use Rattle.std.specs.List.{filter_map, cons_option};
-ghost use Rattle.scene_rules.specs.Queues.{plain_entry as plain_pair, plain_command, plain_commands};
+ghost use Rattle.scene_rules.specs.Queues.{plain_entry, plain_command, plain_commands};
 ghost use Rattle.scene_draft.specs.DraftViews.{plain_part, plain_asked, plain_list};
 ghost use Rattle.scene_document.specs.Openings.{command_of};
 
@@ -24,7 +24,7 @@ fn known_parts<R: Rules>(
     alloc: Global,
     parts: Vec<Option<(&'static str, R::Data)>>,
 ) -> Result<Vec<(&'static str, R::Data)>, AllocError>
-    ensures { IfOk result (λ known. map (plain_pair R.part_of) known.items
+    ensures { IfOk result (λ known. map (plain_entry R.part_of) known.items
         ≡ filter_map (λ part. part) (map (plain_part R.part_of) parts.entry.items)) }
 {
     let mut known = Vec::new(alloc);

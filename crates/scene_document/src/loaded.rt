@@ -7,9 +7,10 @@ use std::alloc::{AllocError, AllocFailed};
 /// Bounds on what a run may use; tests hand in smaller ones.
 #[derive(Clone, Copy, Debug, PartialEq, Eq)]
 pub struct Limits {
-    /// How many entities there may be at once, at most 16,777,216.
+    /// How many entities a document may list, at most 16,777,216. Frames over plain maps have no indices, so what spawns add is
+    /// not bounded by it.
     pub indices: u32,
-    /// The greatest generation of an index, from 1 to 2,147,483,647.
+    /// The greatest generation of an index, from 1 to 2,147,483,647. Frames over plain maps have none, so it bounds nothing.
     pub generation: i32,
     /// How many commands a frame may have, at most 1,048,576.
     pub commands: usize,

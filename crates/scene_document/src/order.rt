@@ -4,7 +4,7 @@ ghost use Rattle.std.specs.List.{filter_map, fold, cons_option};
 ghost use Rattle.scene_rules.specs.Parts.{Name};
 ghost use Rattle.scene_rules.specs.Lent.{texts, access_of};
 ghost use Rattle.scene_draft.specs.Drafts.{DraftEntry};
-ghost use Rattle.scene_draft.specs.DraftViews.{plain_entry};
+ghost use Rattle.scene_draft.specs.DraftViews.{plain_draft};
 ghost use Rattle.scene_document.specs.Names.{has_name};
 ghost use Rattle.scene_document.specs.Openings.{same_resource, place_named, staged};
 ghost use Rattle.scene_document.specs.Placing.{kept_place, resource_of, told_of, local_of, staged_of, locals_from, slots_from, slot_at, times_in};
@@ -38,7 +38,7 @@ fn places_of_names<'a, S: Drop>(
 ) -> Result<BTreeMap<&'a str, u32>, AllocError>
     requires { length entries.now ≤ 4096 }
     ensures { IfOk result (λ places. (name : Name)
-        → kept_place places name ≡ place_named 1 (map plain_entry entries.now) name) }
+        → kept_place places name ≡ place_named 1 (map plain_draft entries.now) name) }
 {
     let mut places = BTreeMap::new(alloc);
     for index in (0..entries.len()).rev() {
@@ -127,7 +127,7 @@ fn add_entry<S: Drop>(
     entry: &EntryDraft<'_, S>,
 ) -> Result<(), AllocError>
     ensures { OnOk result ((all : List DraftEntry) → ((name : Name) → kept_place places.now name ≡ place_named 1 all name)
-        → planner.new ≡ fold (added same_resource) planner.old (staged all place (plain_entry entry.now ∷ []))) }
+        → planner.new ≡ fold (added same_resource) planner.old (staged all place (plain_draft entry.now ∷ []))) }
 {
     let EntryDraft::System(system) = entry else {
         planner.add_barrier();
@@ -148,7 +148,7 @@ fn add_entry<S: Drop>(
 fn plan_of<S: Drop>(alloc: Global, entries: &[EntryDraft<'_, S>]) -> Result<Vec<u32>, AllocError>
     requires { length entries.now ≤ 4096 }
     ensures { IfOk result (λ list. list.items
-        ≡ order same_resource (staged (map plain_entry entries.now) 1 (map plain_entry entries.now))) }
+        ≡ order same_resource (staged (map plain_draft entries.now) 1 (map plain_draft entries.now))) }
 {
     let places = places_of_names(alloc, entries)?;
     let mut planner = Planner::new(alloc);
@@ -283,7 +283,7 @@ pub(crate) fn order_systems<S: Drop>(
     requires { vec_len entries ≤ 4096 }
     ensures { IfOk result (λ systems. systems.items
         ≡ filter_map (slot_at (slots_from 1 entries.entry.items))
-        (order same_resource (staged (map plain_entry entries.entry.items) 1 (map plain_entry entries.entry.items)))
+        (order same_resource (staged (map plain_draft entries.entry.items) 1 (map plain_draft entries.entry.items)))
         ++ locals_from 1 entries.entry.items) }
 {
     let places = plan_of(alloc, &entries)?;

@@ -13,16 +13,16 @@ use Rattle.std.proofs.lemmas.List.Elements.{All-nil, All-cons, All-push, All-wea
 use Rattle.std.proofs.lemmas.Bool.Decides.{same_from_decides}
 use Rattle.std.proofs.lemmas.List.{map-append}
 use Rattle.scene_draft.specs.declared.draft.DocumentDraft.{DocumentDraft}
-use Rattle.scene_rules.specs.Parts.{Json, Name, Part, is_among, place_of}
+use Rattle.scene_rules.specs.Parts.{Json, Name, Part, is_among, place_of, name_at}
 use Rattle.scene_rules.specs.Rulebook.{Book, Facts}
-use Rattle.scene_draft.specs.Drafts.{Draft, DraftPart, DraftEntity, DraftEntry, system, DraftCommand, only_member, each, part_under, read_or, names_from, anything, members_list, keys_within, document_keys, whole, whole_32, entities_from, globals_from, entries_from, commands_from, draft_from}
+use Rattle.scene_draft.specs.Drafts.{Draft, DraftPart, DraftEntity, DraftEntry, system, DraftCommand, only_member, each, part_under, read_or, names_from, anything, members_list, keys_within, document_keys, whole, whole_32, entities_from, globals_from, entries_from, commands_from, global_under, facts_in_shape, system_found, draft_found, draft_from}
 use Rattle.scene_draft.specs.Drafts.{stores}
-use Rattle.scene_draft.specs.DraftViews.{config_seen, name_at, named, plain_entity, plain_entry, plain_list, IsPlaced, IsAdmitted, IsOfBook, IsOther, Differ, AreApart, IsDraft}
+use Rattle.scene_draft.specs.DraftViews.{config_seen, named, plain_entity, plain_draft, plain_list, IsPlaced, IsAdmitted, IsOfBook, IsOther, Differ, AreApart, IsReadable, IsDraft}
 use Rattle.serde_json.specs.declared.value.Value.{Value}
 use Rattle.serde_json.specs.Data.{null, boolean, number, string, array, object, Members}
 use Rattle.serde_json.specs.Find.{as_str, as_bool, as_object}
 use Rattle.serde_json.specs.View.{view}
-use Rattle.scene_draft.specs.ShapeWords.{items_seen, members_seen, system_found, draft_found, draft_in, IsPart, IsEntity, IsAsked, IsKnownAt, IsReadUpTo, IsOtherKey, KeysDiffer}
+use Rattle.scene_draft.specs.ShapeWords.{items_seen, members_seen, draft_in, IsPart, IsEntity, IsAsked, IsKnownAt, IsReadUpTo, IsOtherKey, KeysDiffer}
 
 -- ---- names
 
@@ -203,7 +203,7 @@ config_found (Some config) = refl
 -- a system of what was found
 pub reads_system : (book : Book) (kind name after config local : Option Json) (text called : Name) (follows : List Name) (told : Bool) (facts : Option Facts)
     → Some text ≡ option_and_then as_str kind → Some called ≡ read_or [] as_str name → read_or [] names_from after ≡ Some follows → Some told ≡ read_or false as_bool local
-    → book.system text (config_seen config) ≡ Some facts
+    → facts_in_shape (book.system text (config_seen config)) ≡ Some facts
     → system_found book kind name after config local ≡ Some (system (record { kind = text; name = called; after = follows; config = config_seen config; local = told; facts = facts }))
 reads_system book kind name after config local text called follows told facts is_kind is_name is_after is_local is_made = rw (← is_kind, ← is_name, is_after, config_found config, ← is_local, is_made)
 
@@ -298,6 +298,31 @@ pub none_of_map : {X Y : Type 0} (f : X → Y) (o : Option X) → None ≡ optio
 none_of_map f None is = refl
 none_of_map f (Some x) is = cc
 
+-- what is read for a global is readable, where what was read is read back as it was
+global_readable : (book : Book) → ((name : Name) (json value : Json) → book.read_global name json ≡ Some value → book.read_global name value ≡ Some value) → (entry : Name × Json) (one : Option (Name × Json)) → global_under book entry ≡ Some one → IsReadable book one
+global_readable book back entry None is = tt
+global_readable book back entry (Some global) is = here (is_among entry.0 book.global_names) (book.read_global entry.0 entry.1) refl is
+  where
+    here : (b : Bool) (o : Option Json) → book.read_global entry.0 entry.1 ≡ o → cond b (option_map (λ value. Some (entry.0, value)) o) (Some None) ≡ Some (Some global) → book.read_global global.0 global.1 ≡ Some global.1
+    here true None e is = absurd cc
+    here true (Some value) e is = let same : (entry.0, value) ≡ global = cc in subst (λ (one : Name × Json). book.read_global one.0 one.1 ≡ Some one.1) same (back entry.0 entry.1 value e)
+    here false o e is = absurd cc
+
+each_readable : (book : Book) → ((name : Name) (json value : Json) → book.read_global name json ≡ Some value → book.read_global name value ≡ Some value) → (members : List (Name × Json)) (list : List (Option (Name × Json))) → each (global_under book) members ≡ Some list → All (IsReadable book) list
+each_readable book back [] list is = let none : list ≡ [] = cc in subst (λ all. All (IsReadable book) all) (sym none) (All-nil (IsReadable book))
+each_readable book back (first ∷ members) list is =
+    let made = each_cons (global_under book) first members list is in
+    subst (λ all. All (IsReadable book) all) (sym made.4) (All-cons (IsReadable book) made.0 made.1 (global_readable book back first made.0 made.2) (each_readable book back members made.1 made.3))
+
+-- so are all globals of a document
+globals_readable : (book : Book) → ((name : Name) (json value : Json) → book.read_global name json ≡ Some value → book.read_global name value ≡ Some value) → (globals : Option Json) (list : List (Option (Name × Json))) → read_or [] (globals_from book) globals ≡ Some list → All (IsReadable book) list
+globals_readable book back None list is = let none : list ≡ [] = cc in subst (λ all. All (IsReadable book) all) (sym none) (All-nil (IsReadable book))
+globals_readable book back (Some json) list is = here (as_object json) is
+  where
+    here : (o : Option Members) → option_and_then (λ members. each (global_under book) (members_list members)) o ≡ Some list → All (IsReadable book) list
+    here None is = absurd cc
+    here (Some members) is = each_readable book back (members_list members) list is
+
 -- the document
 reads_draft : (book : Book) (next entities globals systems frames commands workers store : Option Json) (count asked hands : ℕ) (listed : List DraftEntity) (valued : List (Option (Name × Json))) (entries : List DraftEntry) (lists : List (List DraftCommand)) (kept : Name)
     → Some count ≡ option_and_then whole next → option_and_then (entities_from book) entities ≡ Some listed → read_or [] (globals_from book) globals ≡ Some valued → read_or [] (entries_from book) systems ≡ Some entries
@@ -305,13 +330,13 @@ reads_draft : (book : Book) (next entities globals systems frames commands worke
     → draft_found book next entities globals systems frames commands workers store ≡ Some (record { next = count; entities = listed; globals = valued; entries = entries; frames = asked; commands = lists; workers = hands; store = kept })
 reads_draft book next entities globals systems frames commands workers store count asked hands listed valued entries lists kept a b d e f g h i = rw (← a, b, d, e, ← f, g, ← h, i)
 
-module _ {D G S : Type 0} (part_of : D → Part) (global_of : G → Json) (kind_of : S → Name) (config_of : S → Json) (book : Book) where
+module _ {D G S : Type 0} (part_of : D → Part) (global_of : G → Json) (kind_of : S → Name) (config_of : S → Json) (book : Book) (back : (name : Name) (json value : Json) → book.read_global name json ≡ Some value → book.read_global name value ≡ Some value) where
   -- the code's draft is the one of what was found
   pub draft_made : (next entities globals systems frames commands workers store : Option Json) (draft : DocumentDraft D G S)
       → Some draft.next ≡ option_and_then whole next
       → ((option_and_then (entities_from book) entities ≡ Some (map (plain_entity part_of book.part_names) draft.entities.items)) × All (IsEntity part_of book) draft.entities.items)
       → ((read_or [] (globals_from book) globals ≡ Some (map (named global_of book.global_names) draft.globals.items)) × All (IsPlaced (length book.global_names)) draft.globals.items)
-      → ((read_or [] (entries_from book) systems ≡ Some (map plain_entry draft.entries.items)) × All (IsOfBook kind_of config_of book) draft.entries.items)
+      → ((read_or [] (entries_from book) systems ≡ Some (map plain_draft draft.entries.items)) × All (IsOfBook kind_of config_of book) draft.entries.items)
       → Some draft.frames ≡ read_or 0 whole_32 frames
       → ((read_or [] (commands_from book) commands ≡ Some (map (plain_list part_of) draft.commands.items)) × All (λ list. All (IsAsked part_of book) list.items) draft.commands.items)
       → Some draft.workers ≡ read_or 1 whole workers
@@ -319,7 +344,7 @@ module _ {D G S : Type 0} (part_of : D → Part) (global_of : G → Json) (kind_
       → (plain : Draft) × (draft_found book next entities globals systems frames commands workers store ≡ Some plain) × IsDraft part_of global_of kind_of config_of book plain draft
   draft_made next entities globals systems frames commands workers store draft is_next are_entities are_globals are_entries are_frames are_commands are_workers is_store =
       let kept = some_of_map (λ kind. is_among kind stores) (read_or (codes "vec") as_str store) draft.store_is_known is_store in
-      let plain : Draft = record { next = draft.next; entities = map (plain_entity part_of book.part_names) draft.entities.items; globals = map (named global_of book.global_names) draft.globals.items; entries = map plain_entry draft.entries.items; frames = draft.frames; commands = map (plain_list part_of) draft.commands.items; workers = draft.workers; store = kept.0 } in (
+      let plain : Draft = record { next = draft.next; entities = map (plain_entity part_of book.part_names) draft.entities.items; globals = map (named global_of book.global_names) draft.globals.items; entries = map plain_draft draft.entries.items; frames = draft.frames; commands = map (plain_list part_of) draft.commands.items; workers = draft.workers; store = kept.0 } in (
         plain,
         reads_draft book next entities globals systems frames commands workers store _ _ _ _ _ _ _ _ is_next are_entities.0 are_globals.0 are_entries.0 are_frames are_commands.0 are_workers kept.1,
         record {
@@ -334,6 +359,7 @@ module _ {D G S : Type 0} (part_of : D → Part) (global_of : G → Json) (kind_
           kinds_placed = All-weaker (IsEntity part_of book) (λ entity. All (IsPlaced (length book.part_names)) entity.parts.items) (λ entity parts. All-weaker (IsPart part_of book) (IsPlaced (length book.part_names)) (λ part is. is.placed) entity.parts.items parts) draft.entities.items are_entities.1;
           globals_placed = are_globals.1;
           admitted = All-weaker (IsEntity part_of book) (λ entity. All (IsAdmitted part_of book) entity.parts.items) (λ entity parts. All-weaker (IsPart part_of book) (IsAdmitted part_of book) (λ part is. is.admitted) entity.parts.items parts) draft.entities.items are_entities.1;
+          readable = globals_readable book back globals (map (named global_of book.global_names) draft.globals.items) are_globals.0;
           made = are_entries.1;
           lawful = are_commands.1;
         },

@@ -1,6 +1,6 @@
 -- What the code's draft says in plain terms.
 use Rattle.std.specs.Prelude.{◌≡◌, ◌<◌, ℕ, true, false, List, [], ◌∷◌, length, map, Option, Some, None, option_map, unwrap_or}
-use Rattle.std.specs.List.{slice_index_or, filter_map, All}
+use Rattle.std.specs.List.{filter_map, All}
 use Rattle.std.specs.Global.{Vec}
 use Rattle.std.specs.Str.{bytes_eq}
 use denote.Ref.{Bor}
@@ -15,10 +15,10 @@ use Rattle.scene_draft.specs.declared.draft.EntryDraft.TheVariants as entry
 use Rattle.scene_draft.specs.declared.draft.CommandDraft.{CommandDraft}
 use Rattle.scene_draft.specs.declared.draft.CommandDraft.TheVariants as asked
 use Rattle.scene_draft.specs.declared.draft.DocumentDraft.{DocumentDraft}
-use Rattle.scene_rules.specs.Parts.{Json, Name, Part, is_among}
-use Rattle.scene_rules.specs.Rulebook.{Book, Facts}
+use Rattle.scene_rules.specs.Parts.{Json, Name, Part, is_among, name_at}
+use Rattle.scene_rules.specs.Rulebook.{Book, Facts, known}
 use Rattle.scene_rules.specs.Lawful.{IsKnownPart}
-use Rattle.scene_rules.specs.Queues.{plain_entry as plain_pair}
+use Rattle.scene_rules.specs.Queues.{plain_entry}
 use Rattle.scene_rules.specs.Lent.{texts, access_of}
 use Rattle.shred_plan.specs.Plan.{units_of}
 use Rattle.scene_draft.specs.Drafts.{Draft, DraftPart, DraftEntity, DraftSystem, DraftEntry, barrier, system, system_of_entry, DraftCommand, spawn, kill, put, take, stores}
@@ -30,10 +30,6 @@ seen found = option_map (λ value. view value.now) found
 -- the configuration that was found, or null
 abbrev pub config_seen : Option Json → Json
 config_seen config = unwrap_or config null
-
--- the name at a place
-abbrev pub name_at : List Name → ℕ → Name
-name_at names place = slice_index_or names place []
 
 -- something at a place, as something under the name there
 abbrev pub named : {D X : Type 0} → (D → X) → List Name → Option (ℕ × D) → Option (Name × X)
@@ -62,17 +58,17 @@ abbrev pub plain_system : {S : Type 0} → SystemDraft S → DraftSystem
 plain_system draft = record { kind = draft.kind.now; name = draft.name.now; after = texts draft.after.items; config = config_seen (seen draft.config); local = draft.local; facts = option_map facts_of draft.made }
 
 -- an entry in plain terms
-abbrev pub plain_entry : {S : Type 0} → EntryDraft S → DraftEntry
-plain_entry entry.Barrier = barrier
-plain_entry (entry.System draft) = system (plain_system draft)
+abbrev pub plain_draft : {S : Type 0} → EntryDraft S → DraftEntry
+plain_draft entry.Barrier = barrier
+plain_draft (entry.System draft) = system (plain_system draft)
 
 -- the systems among entries
 abbrev pub systems_in : {S : Type 0} → List (EntryDraft S) → List DraftSystem
-systems_in entries = filter_map system_of_entry (map plain_entry entries)
+systems_in entries = filter_map system_of_entry (map plain_draft entries)
 
 -- a made system is the rules' of a kind with a configuration, and they know of it what is declared
 pub record IsMadeOf {S : Type 0} (kind_of : S → Name) (config_of : S → Json) (book : Book) (kind : Name) (config : Json) (made : MadeDraft S) : Type 0 where
-  pub known : book.system kind config ≡ Some (Some (facts_of made))
+  pub known : book.system kind config ≡ known (facts_of made)
   pub of_kind : kind_of made.system ≡ kind
   pub with_config : config_of made.system ≡ config
 
@@ -88,7 +84,7 @@ IsOfBook kind_of config_of book (entry.System draft) = IsMadeAs kind_of config_o
 
 -- a part under its kind, where that is known
 abbrev pub plain_part : {D : Type 0} → (D → Part) → Option (Bor Name × D) → DraftPart
-plain_part part_of part = option_map (plain_pair part_of) part
+plain_part part_of part = option_map (plain_entry part_of) part
 
 -- a command in plain terms
 abbrev pub plain_asked : {D : Type 0} → (D → Part) → CommandDraft D → DraftCommand
@@ -129,12 +125,17 @@ IsLawfulDraft book (put id part) = IsKnownDraft book part
 IsLawfulDraft book (take id None) = Unit {0}
 IsLawfulDraft book (take id (Some kind)) = is_among kind book.part_names ≡ true
 
+-- the value of a global is what the rules read for it, where its name is known
+abbrev pub IsReadable : Book → Option (Name × Json) → Type 0
+IsReadable book None = Unit {0}
+IsReadable book (Some global) = book.read_global global.0 global.1 ≡ Some global.1
+
 -- the code's draft is a draft in plain terms
 pub record IsDraft {D G S : Type 0} (part_of : D → Part) (global_of : G → Json) (kind_of : S → Name) (config_of : S → Json) (book : Book) (plain : Draft) (draft : DocumentDraft D G S) : Type 0 where
   pub next : plain.next ≡ draft.next
   pub entities : plain.entities ≡ map (plain_entity part_of book.part_names) draft.entities.items
   pub globals : plain.globals ≡ map (named global_of book.global_names) draft.globals.items
-  pub entries : plain.entries ≡ map plain_entry draft.entries.items
+  pub entries : plain.entries ≡ map plain_draft draft.entries.items
   pub frames : plain.frames ≡ draft.frames
   pub commands : plain.commands ≡ map (plain_list part_of) draft.commands.items
   pub workers : plain.workers ≡ draft.workers
@@ -142,5 +143,6 @@ pub record IsDraft {D G S : Type 0} (part_of : D → Part) (global_of : G → Js
   pub kinds_placed : All (λ entity. All (IsPlaced (length book.part_names)) entity.parts.items) draft.entities.items
   pub globals_placed : All (IsPlaced (length book.global_names)) draft.globals.items
   pub admitted : All (λ entity. All (IsAdmitted part_of book) entity.parts.items) draft.entities.items
+  pub readable : All (IsReadable book) plain.globals
   pub made : All (IsOfBook kind_of config_of book) draft.entries.items
   pub lawful : All (λ list. All (λ draft. IsLawfulDraft book (plain_asked part_of draft)) list.items) draft.commands.items

@@ -4,7 +4,7 @@ use Rattle.serde_json.specs.Data.{null, Items, no_items, item, Members, no_membe
 use Rattle.serde_json.specs.Find.{get_member, as_number, as_u64, as_str, as_bool, as_array, as_object}
 use Rattle.std.specs.Str.{bytes_eq}
 use Rattle.scene_rules.specs.Parts.{Json, Name, Part, is_among}
-use Rattle.scene_rules.specs.Rulebook.{Book, Facts}
+use Rattle.scene_rules.specs.Rulebook.{Book, Facts, Described, misshapen, unknown, known}
 
 -- a part under a kind of the rules, or none where the kind is unknown
 abbrev pub DraftPart : Type 0
@@ -133,9 +133,19 @@ names_from json = option_and_then (λ items. each as_str (items_list items)) (as
 abbrev pub anything : Json → Option Json
 anything json = Some json
 
+-- the facts of a system whose configuration has its shape, none of them where its kind is unknown
+abbrev pub facts_in_shape : Described → Option (Option Facts)
+facts_in_shape misshapen = None
+facts_in_shape unknown = Some None
+facts_in_shape (known facts) = Some (Some facts)
+
+-- the entry of a system, of what was found under each of its keys
+abbrev pub system_found : Book → Option Json → Option Json → Option Json → Option Json → Option Json → Option DraftEntry
+system_found book kind name after config local = option_and_then (λ kind. option_and_then (λ name. option_and_then (λ after. option_and_then (λ config. option_and_then (λ local. option_map (λ facts. system (record { kind = kind; name = name; after = after; config = config; local = local; facts = facts })) (facts_in_shape (book.system kind config))) (read_or false as_bool local)) (read_or null anything config)) (read_or [] names_from after)) (read_or [] as_str name)) (option_and_then as_str kind)
+
 -- a system of an entry whose keys are known
 abbrev pub system_from : Book → Members → Option DraftEntry
-system_from book members = option_and_then (λ kind. option_and_then (λ name. option_and_then (λ after. option_and_then (λ config. option_and_then (λ local. option_map (λ facts. system (record { kind = kind; name = name; after = after; config = config; local = local; facts = facts })) (book.system kind config)) (optional (codes "local") false as_bool members)) (optional (codes "config") null anything members)) (optional (codes "after") [] names_from members)) (optional (codes "name") [] as_str members)) (required (codes "kind") as_str members)
+system_from book members = system_found book (get_member (codes "kind") members) (get_member (codes "name") members) (get_member (codes "after") members) (get_member (codes "config") members) (get_member (codes "local") members)
 
 -- the keys that an entry of a system may have; a local one has neither a name nor names that it comes after
 abbrev pub entry_keys : Bool → List Name
@@ -205,9 +215,9 @@ commands_from book json = option_and_then (λ items. each (command_list_from boo
 abbrev pub document_keys : List Name
 document_keys = codes "next" ∷ codes "entities" ∷ codes "globals" ∷ codes "systems" ∷ codes "frames" ∷ codes "commands" ∷ codes "workers" ∷ codes "store" ∷ []
 
--- the document that a JSON is
-abbrev pub draft_from : Book → Json → Option Draft
-draft_from book json = option_and_then (λ members.
+-- a document, of what was found under each of its keys
+abbrev pub draft_found : Book → Option Json → Option Json → Option Json → Option Json → Option Json → Option Json → Option Json → Option Json → Option Draft
+draft_found book next entities globals systems frames commands workers store =
     option_and_then (λ next.
     option_and_then (λ entities.
     option_and_then (λ globals.
@@ -216,12 +226,15 @@ draft_from book json = option_and_then (λ members.
     option_and_then (λ commands.
     option_and_then (λ workers.
     option_map (λ store. record { next = next; entities = entities; globals = globals; entries = entries; frames = frames; commands = commands; workers = workers; store = store })
-    (optional (codes "store") (codes "vec") as_str members))
-    (optional (codes "workers") 1 whole members))
-    (optional (codes "commands") [] (commands_from book) members))
-    (optional (codes "frames") 0 whole_32 members))
-    (optional (codes "systems") [] (entries_from book) members))
-    (optional (codes "globals") [] (globals_from book) members))
-    (required (codes "entities") (entities_from book) members))
-    (required (codes "next") whole members))
-    (object_with document_keys json)
+    (read_or (codes "vec") as_str store))
+    (read_or 1 whole workers))
+    (read_or [] (commands_from book) commands))
+    (read_or 0 whole_32 frames))
+    (read_or [] (entries_from book) systems))
+    (read_or [] (globals_from book) globals))
+    (option_and_then (entities_from book) entities))
+    (option_and_then whole next)
+
+-- the document that a JSON is
+abbrev pub draft_from : Book → Json → Option Draft
+draft_from book json = option_and_then (λ members. draft_found book (get_member (codes "next") members) (get_member (codes "entities") members) (get_member (codes "globals") members) (get_member (codes "systems") members) (get_member (codes "frames") members) (get_member (codes "commands") members) (get_member (codes "workers") members) (get_member (codes "store") members)) (object_with document_keys json)

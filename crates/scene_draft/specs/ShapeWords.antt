@@ -10,10 +10,10 @@ use Rattle.scene_rules.specs.declared.rules.ReadError.{ReadError}
 use Rattle.scene_rules.specs.declared.rules.ReadError.TheVariants.{Shape}
 use Rattle.scene_draft.specs.declared.draft.EntityDraft.{EntityDraft}
 use Rattle.scene_draft.specs.declared.draft.CommandDraft.{CommandDraft}
-use Rattle.scene_rules.specs.Parts.{Json, Name, Part, is_among}
+use Rattle.scene_rules.specs.Parts.{Json, Name, Part, is_among, name_at}
 use Rattle.scene_rules.specs.Rulebook.{Book}
-use Rattle.scene_draft.specs.Drafts.{Draft, DraftEntry, system, DraftCommand, put, part_under, items_list, members_list, each, read_or, names_from, anything, whole, whole_32, entities_from, globals_from, entries_from, commands_from}
-use Rattle.scene_draft.specs.DraftViews.{name_at, IsPlaced, IsAdmitted, plain_asked, IsLawfulDraft}
+use Rattle.scene_draft.specs.Drafts.{Draft, DraftEntry, items_list, members_list, each, system_found, draft_found}
+use Rattle.scene_draft.specs.DraftViews.{IsPlaced, IsAdmitted, plain_asked, IsLawfulDraft}
 
 -- the items of a list of values
 abbrev pub items_seen : List Value → List Json
@@ -65,37 +65,9 @@ abbrev pub KeysDiffer : List (Name × Json) → Type 0
 KeysDiffer [] = Unit {0}
 KeysDiffer (first ∷ members) = IsOtherKey first.0 members × KeysDiffer members
 
--- the entry of a system, of what was found under each of its keys
-abbrev pub system_found : Book → Option Json → Option Json → Option Json → Option Json → Option Json → Option DraftEntry
-system_found book kind name after config local = option_and_then (λ kind. option_and_then (λ name. option_and_then (λ after. option_and_then (λ config. option_and_then (λ local. option_map (λ facts. system (record { kind = kind; name = name; after = after; config = config; local = local; facts = facts })) (book.system kind config)) (read_or false as_bool local)) (read_or null anything config)) (read_or [] names_from after)) (read_or [] as_str name)) (option_and_then as_str kind)
-
 -- the entry of a system, of an object's members
-abbrev pub system_in : Book → Json → Option DraftEntry
-system_in book json = system_found book (get (codes "kind") json) (get (codes "name") json) (get (codes "after") json) (get (codes "config") json) (get (codes "local") json)
-
--- a put, of what was found under each of its keys
-abbrev pub put_found : Book → Option Json → Option Json → Option Json → Option DraftCommand
-put_found book id kind value = option_and_then (λ id. option_and_then (λ kind. option_map (λ part. put id part) (option_and_then (λ value. part_under book (kind, value)) value)) (option_and_then as_str kind)) (option_and_then whole id)
-
--- a document, of what was found under each of its keys
-abbrev pub draft_found : Book → Option Json → Option Json → Option Json → Option Json → Option Json → Option Json → Option Json → Option Json → Option Draft
-draft_found book next entities globals systems frames commands workers store =
-    option_and_then (λ next.
-    option_and_then (λ entities.
-    option_and_then (λ globals.
-    option_and_then (λ entries.
-    option_and_then (λ frames.
-    option_and_then (λ commands.
-    option_and_then (λ workers.
-    option_map (λ store. record { next = next; entities = entities; globals = globals; entries = entries; frames = frames; commands = commands; workers = workers; store = store })
-    (read_or (codes "vec") as_str store))
-    (read_or 1 whole workers))
-    (read_or [] (commands_from book) commands))
-    (read_or 0 whole_32 frames))
-    (read_or [] (entries_from book) systems))
-    (read_or [] (globals_from book) globals))
-    (option_and_then (entities_from book) entities))
-    (option_and_then whole next)
+abbrev pub entry_in : Book → Json → Option DraftEntry
+entry_in book json = system_found book (get (codes "kind") json) (get (codes "name") json) (get (codes "after") json) (get (codes "config") json) (get (codes "local") json)
 
 -- a document, of an object's members
 abbrev pub draft_in : Book → Json → Option Draft

@@ -3,7 +3,7 @@ use Rattle.std.proofs.Common.{◌≡◌, ◌≢◌, ◌<◌, ◌≤◌, ◌+◌,
 use Rattle.std.specs.List.{All, list_all, filter}
 use Rattle.std.proofs.lemmas.Bool.{false≢true, or_parts, cases_Bool}
 use Rattle.std.proofs.lemmas.Bool.Decides.{Decides-eqb}
-use Rattle.std.proofs.lemmas.List.Elements.{All-cons, All-filter}
+use Rattle.std.proofs.lemmas.List.Elements.{All-cons, All-head, All-tail, All-filter}
 use Rattle.std.proofs.lemmas.List.Kept.{AllPairs-filter}
 use Rattle.std.proofs.lemmas.List.Quantifiers.{all_pairs_push}
 use Rattle.std.proofs.lemmas.List.Folds.{list_any-append}
@@ -82,6 +82,15 @@ go_on-then scene mid after early late = record {
   fresh = λ id alive dead. ⊎_elim (λ t. early.fresh id t dead) (λ f. omega (arith, late.fresh id alive f, early.next)) (cases_Bool (lives id mid.ids));
 }
 
+-- the last id lives
+pub lives-last : (ids : List ℕ) (next : ℕ) → lives next (ids ++ next ∷ []) ≡ true
+lives-last ids next = list_any-append (λ other. eqb other next) ids (next ∷ []) ∙ here (lives next ids) (eqb next next) ((Decides-eqb next next).1 refl)
+  where
+    here : (a b : Bool) → b ≡ true → (a || (b || false)) ≡ true
+    here true b is = refl
+    here false true is = refl
+    here false false is = absurd (false≢true is)
+
 -- one more id behind others
 lives-push : (id next : ℕ) (ids : List ℕ) → lives id (ids ++ next ∷ []) ≡ (lives id ids || (eqb next id || false))
 lives-push id next ids = list_any-append (λ other. eqb other id) ids (next ∷ [])
@@ -148,19 +157,23 @@ apply-goes-on (kill id) scene after fit e = subst (λ s. IdsGoOn scene s) (teste
 apply-goes-on (put id kind part) scene after fit e = subst (λ s. IdsGoOn scene s) (tested-makes _ scene _ after e).1 (stays scene _ fit refl refl)
 apply-goes-on (take id kind) scene after fit e = subst (λ s. IdsGoOn scene s) (tested-makes (lives id scene.ids) scene _ after e).1 (stays scene _ fit refl refl)
 
--- what holds of a scene and goes on over each command goes on over all
-pub play-keeps : (R : PlainScene → PlainScene → Type 0) → ((scene : PlainScene) → R scene scene) → ((scene mid after : PlainScene) → R scene mid → R mid after → R scene after) → (Good : PlainScene → Type 0) → ((command : Command) (scene after : PlainScene) → Good scene → apply command scene ≡ changed after → R scene after × Good after) → (place : ℕ) (commands : List Command) (scene after : PlainScene) (places : List ℕ) → Good scene → play place commands scene ≡ played after places → R scene after × Good after
-play-keeps R same then Good step place [] scene after places good e = subst (λ s. R scene s × Good s) (ap (led_to scene) e) (same scene, good)
-play-keeps R same then Good step place (command ∷ commands) scene after places good e = here (λ mid some. play-keeps R same then Good step (place + 1) commands mid after some) (apply command scene) refl e
+-- what holds of a scene and goes on over each command of a kind goes on over all
+pub play-keeps : (R : PlainScene → PlainScene → Type 0) → ((scene : PlainScene) → R scene scene) → ((scene mid after : PlainScene) → R scene mid → R mid after → R scene after) → (Kind : Command → Type 0) (Good : PlainScene → Type 0) → ((command : Command) (scene after : PlainScene) → Kind command → Good scene → apply command scene ≡ changed after → R scene after × Good after) → (place : ℕ) (commands : List Command) (scene after : PlainScene) (places : List ℕ) → All Kind commands → Good scene → play place commands scene ≡ played after places → R scene after × Good after
+play-keeps R same then Kind Good step place [] scene after places kinds good e = subst (λ s. R scene s × Good s) (ap (led_to scene) e) (same scene, good)
+play-keeps R same then Kind Good step place (command ∷ commands) scene after places kinds good e = here (λ mid some. play-keeps R same then Kind Good step (place + 1) commands mid after some (All-tail Kind command commands kinds)) (apply command scene) refl e
   where
     behind-one : ((mid : PlainScene) (some : List ℕ) → Good mid → play (place + 1) commands mid ≡ played after some → R mid after × Good after) → (p : Played) → play (place + 1) commands scene ≡ p → behind place p ≡ played after places → R scene after × Good after
     behind-one later (played s some) is e = later scene some good (is ∙ ap (λ end. played end some) (ap (led_to scene) e))
     behind-one later spent is e = absurd (false≢true (ap is_played e))
 
     here : ((mid : PlainScene) (some : List ℕ) → Good mid → play (place + 1) commands mid ≡ played after some → R mid after × Good after) → (a : Applied) → apply command scene ≡ a → go_on place (play (place + 1) commands) scene a ≡ played after places → R scene after × Good after
-    here later (changed mid) is e = let one = step command scene mid good is in let rest = later mid places one.1 e in (then scene mid after one.0 rest.0, rest.1)
+    here later (changed mid) is e = let one = step command scene mid (All-head Kind command commands kinds) good is in let rest = later mid places one.1 e in (then scene mid after one.0 rest.0, rest.1)
     here later skipped is e = behind-one later (play (place + 1) commands scene) refl e
     here later ids_spent is e = absurd (false≢true (ap is_played e))
+
+-- all commands are commands
+pub any-command : (commands : List Command) → All (λ command. Unit {0}) commands
+any-command commands = λ k d within. tt
 
 -- systems leave the next id and the ids
 pub systems-same : (book : Book) (order : List PlainSystem) (scene after : PlainScene) (queues : Queues) → SystemsRun book order scene after queues → (after.next ≡ scene.next) × (after.ids ≡ scene.ids)
@@ -178,9 +191,9 @@ accepts-goes-on book limit frame scene after places fit accepts =
     over mid commands good e = (play-keeps (λ one other. IdsFit one.next one.ids → IdsGoOn one other)
         (λ s f. stays s s f refl refl)
         (λ one two three first second f. go_on-then one two three (first f) (second (first f).fit))
-        (λ s. IdsFit s.next s.ids)
-        (λ command s t f made_it. ((λ g. apply-goes-on command s t g made_it), (apply-goes-on command s t f made_it).fit))
-        1 commands mid after places good e).0 good
+        (λ command. Unit {0}) (λ s. IdsFit s.next s.ids)
+        (λ command s t kind f made_it. ((λ g. apply-goes-on command s t g made_it), (apply-goes-on command s t f made_it).fit))
+        1 commands mid after places (any-command commands) good e).0 good
 
 -- ids go on over frames
 pub reaches-goes-on : (book : Book) (limit : ℕ) (frames : ℕ → PlainFrame) (count : ℕ) (scene after : PlainScene) (skips : List Skip) → IdsFit scene.next scene.ids → Reaches book limit frames count scene after skips → IdsGoOn scene after

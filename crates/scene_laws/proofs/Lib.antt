@@ -1,8 +1,12 @@
 pub mod IdLemmas
 pub mod ReferenceLemmas
+pub mod ChangeLemmas
+pub mod BeginLemmas
+pub mod SoundLemmas
 pub mod TurnLemmas
 pub mod OutcomeLemmas
 pub mod PartLemmas
 pub mod PrintLemmas
 pub mod LoadLemmas
 pub mod ReadyLemmas
+pub mod ResumeLemmas

@@ -10,12 +10,12 @@ use Rattle.std.proofs.lemmas.List.Elements.{All-cons}
 use Rattle.std.proofs.lemmas.List.Folds.{list_any-append}
 use Rattle.scene_rules.specs.declared.refusals.Skip.{Skip}
 use Rattle.scene_rules.specs.Parts.{Name, Ref, living, gone, Part, is_among, under}
-use Rattle.scene_rules.specs.Rulebook.{Book, declares, Command, spawn, kill, put, take}
-use Rattle.scene_rules.specs.Scenes.{PlainScene, PlainSystem, PlainFrame, RefLives, fragment, with_left, lives}
+use Rattle.scene_rules.specs.Rulebook.{Book, Command, spawn, kill, put, take}
+use Rattle.scene_rules.specs.Scenes.{PlainScene, PlainSystem, PlainFrame, RefLives, with_left, lives}
 use Rattle.scene_rules.specs.Commands.{apply, changed, ref_lives, refs_live, without_ref, part_without, is_gone, holds_gone, first_gone}
 use Rattle.scene.specs.Frames.{Queues, SystemsRun, all_commands, Accepts, Reaches}
 use Rattle.scene_laws.specs.References.{RefsLiveUnder}
-use Rattle.scene_laws.proofs.IdLemmas.{spawn-makes, tested-makes, lives-filter, play-keeps}
+use Rattle.scene_laws.proofs.IdLemmas.{spawn-makes, tested-makes, lives-filter, play-keeps, any-command}
 
 -- a reference names a living id, or is gone
 abbrev pub LivesOrGone : List ℕ → Ref → Type 0
@@ -64,7 +64,7 @@ under-live ids (entry ∷ parts) kind held test found = let tests = and_parts (r
     here later first false e = later e
 
 -- what lives in a list lives in it with one more
-lives-longer : (ids : List ℕ) (next id : ℕ) → lives id ids ≡ true → lives id (ids ++ next ∷ []) ≡ true
+pub lives-longer : (ids : List ℕ) (next id : ℕ) → lives id ids ≡ true → lives id (ids ++ next ∷ []) ≡ true
 lives-longer ids next id alive = list_any-append (λ other. eqb other id) ids (next ∷ []) ∙ ap (λ b. b || (eqb next id || false)) alive
 
 -- what lives in a list with one more, and is not the one, lives in the list
@@ -77,7 +77,7 @@ lives-shorter ids next id apart alive = here (lives id ids) (eqb next id) refl (
     here false false same e = absurd (false≢true e)
 
 -- an id that passes a test lives where others were taken out
-lives-kept : (test : ℕ → Bool) (id : ℕ) (ids : List ℕ) → test id ≡ true → lives id ids ≡ true → lives id (filter test ids) ≡ true
+pub lives-kept : (test : ℕ → Bool) (id : ℕ) (ids : List ℕ) → test id ≡ true → lives id ids ≡ true → lives id (filter test ids) ≡ true
 lives-kept test id [] passes alive = absurd (false≢true alive)
 lives-kept test id (x ∷ ids) passes alive = here (lives-kept test id ids passes) (eqb x id) refl (test x) refl alive
   where
@@ -132,7 +132,7 @@ module _ (names : List Name) where
       here other name held known alive false found = good other name held known alive found
 
 -- what no element passes, none of them passes
-find-none : {X : Type 0} (test : X → Bool) (xs : List X) → find test xs ≡ None → list_any test xs ≡ false
+pub find-none : {X : Type 0} (test : X → Bool) (xs : List X) → find test xs ≡ None → list_any test xs ≡ false
 find-none test [] none = refl
 find-none test (x ∷ xs) none = here (find-none test xs) (test x) none
   where
@@ -141,7 +141,7 @@ find-none test (x ∷ xs) none = here (find-none test xs) (test x) none
     here later false e = later e
 
 -- a test that no id passes is not passed by one that lives
-none-of-ids : (test : ℕ → Bool) (ids : List ℕ) (id : ℕ) → list_any test ids ≡ false → lives id ids ≡ true → test id ≡ false
+pub none-of-ids : (test : ℕ → Bool) (ids : List ℕ) (id : ℕ) → list_any test ids ≡ false → lives id ids ≡ true → test id ≡ false
 none-of-ids test [] id none alive = absurd (false≢true alive)
 none-of-ids test (x ∷ ids) id none alive = let parts = or_parts (test x) (list_any test ids) none in here (none-of-ids test ids id parts.1) parts.0 (eqb x id) refl alive
   where
@@ -150,7 +150,7 @@ none-of-ids test (x ∷ ids) id none alive = let parts = or_parts (test x) (list
     here later first false same e = later e
 
 -- nor one that no name passes by one of the names
-none-of-names : (test : Name → Bool) (names : List Name) (name : Name) → list_any test names ≡ false → is_among name names ≡ true → test name ≡ false
+pub none-of-names : (test : Name → Bool) (names : List Name) (name : Name) → list_any test names ≡ false → is_among name names ≡ true → test name ≡ false
 none-of-names test [] name none known = absurd (false≢true known)
 none-of-names test (x ∷ names) name none known = let parts = or_parts (test x) (list_any test names) none in here (none-of-names test names name parts.1) parts.0 (bytes_eq name x) refl known
   where
@@ -192,7 +192,7 @@ pub accepts-live : (book : Book) (limit : ℕ) (frame : PlainFrame) (scene after
 accepts-live book limit frame scene after places good accepts =
     let lived : RefsLiveUnder book.part_names accepts.0.ids accepts.0.part = systems-live book frame.order scene accepts.0 accepts.1 good accepts.2 in
     let either : LiveOrGoneUnder book.part_names accepts.0.ids accepts.0.part = λ id kind held known alive found. All-more (RefLives accepts.0.ids) (LivesOrGone accepts.0.ids) held.refs (lives-either accepts.0.ids) (lived id kind held known alive found) in
-    all-live book after accepts.3.none_gone (play-keeps (λ one other. Unit {0}) (λ s. tt) (λ one two three first second. tt) (λ s. LiveOrGoneUnder book.part_names s.ids s.part) (λ command s t g made. (tt, apply-live book.part_names command s t g made)) 1 (all_commands frame accepts.1) accepts.0 after places either accepts.3.played_on).1
+    all-live book after accepts.3.none_gone (play-keeps (λ one other. Unit {0}) (λ s. tt) (λ one two three first second. tt) (λ command. Unit {0}) (λ s. LiveOrGoneUnder book.part_names s.ids s.part) (λ command s t kind g made. (tt, apply-live book.part_names command s t g made)) 1 (all_commands frame accepts.1) accepts.0 after places (any-command (all_commands frame accepts.1)) either accepts.3.played_on).1
 
 -- references live after frames
 pub reaches-live : (book : Book) (limit : ℕ) (frames : ℕ → PlainFrame) (count : ℕ) (scene after : PlainScene) (skips : List Skip) → RefsLiveUnder book.part_names scene.ids scene.part → Reaches book limit frames count scene after skips → RefsLiveUnder book.part_names after.ids after.part

@@ -1,32 +1,40 @@
 -- One outcome: what a system is lent determines what becomes of its turn.
-use Rattle.std.specs.Prelude.{◌≡◌, ◌≢◌, ℕ, Some}
+use Rattle.std.specs.Prelude.{◌≡◌, ◌≢◌, ℕ, true, Some}
 use Rattle.scene_rules.specs.declared.refusals.FrameRefusal.TheVariants.{Memory}
 use Rattle.scene_rules.specs.declared.refusals.Report.{Report}
-use Rattle.scene_rules.specs.Parts.{Json, Name}
-use Rattle.scene_rules.specs.Rulebook.{Book, Fragment, Outcome, leaves, refuses, fills}
+use Rattle.scene_rules.specs.Parts.{Json, Name, is_among}
+use Rattle.scene_rules.specs.Rulebook.{Book, Access, Facts, known, Fragment, Outcome, leaves, refuses, fills}
+use Rattle.scene_rules.specs.Scenes.{IdsAscend, PartsAdmitted, RefsLive, GlobalsReadable}
 use Rattle.scene_draft.specs.Drafts.{Draft}
 
--- two fragments hold the same
-pub record SameFragment (one other : Fragment) : Type 0 where
-  pub ids : one.ids ≡ other.ids
-  pub parts : (id : ℕ) (kind : Name) → one.part id kind ≡ other.part id kind
-  pub globals : (name : Name) → one.global name ≡ other.global name
+-- two fragments that a system may leave are one under what it writes
+pub record SameLeft (access : Access) (one other : Fragment) : Type 0 where
+  pub parts : (id : ℕ) (kind : Name) → is_among kind access.writes ≡ true → one.part id kind ≡ other.part id kind
+  pub globals : (name : Name) → is_among name access.written_globals ≡ true → one.global name ≡ other.global name
 
--- two outcomes of a turn are one
-abbrev pub SameOutcome : Outcome → Outcome → Type 0
-SameOutcome (leaves one commands) (leaves other more) = SameFragment one other × (commands ≡ more)
-SameOutcome (leaves one commands) (refuses text) = ⊥
-SameOutcome (leaves one commands) (fills more) = ⊥
-SameOutcome (refuses text) (leaves other more) = ⊥
-SameOutcome (refuses one) (refuses other) = one ≡ other
-SameOutcome (refuses text) (fills more) = ⊥
-SameOutcome (fills commands) (leaves other more) = ⊥
-SameOutcome (fills commands) (refuses text) = ⊥
-SameOutcome (fills one) (fills other) = one ≡ other
+-- two outcomes of a turn are one, under what the system writes
+abbrev pub SameOutcome : Access → Outcome → Outcome → Type 0
+SameOutcome access (leaves one commands) (leaves other more) = SameLeft access one other × (commands ≡ more)
+SameOutcome access (leaves one commands) (refuses text) = ⊥
+SameOutcome access (leaves one commands) (fills more) = ⊥
+SameOutcome access (refuses text) (leaves other more) = ⊥
+SameOutcome access (refuses one) (refuses other) = one ≡ other
+SameOutcome access (refuses text) (fills more) = ⊥
+SameOutcome access (fills commands) (leaves other more) = ⊥
+SameOutcome access (fills commands) (refuses text) = ⊥
+SameOutcome access (fills one) (fills other) = one ≡ other
 
--- each system allows one outcome of what it is lent
+-- a fragment is one that a system may be lent: ids ascend, parts are of their kinds, references live, and globals have values that
+-- the rules read
+pub record IsSoundFragment (book : Book) (lent : Fragment) : Type 0 where
+  pub ascend : IdsAscend lent.ids
+  pub admitted : PartsAdmitted book lent.part
+  pub living : RefsLive lent.ids lent.part
+  pub readable : GlobalsReadable book lent.global
+
+-- each system that the rules know allows one outcome of what it may be lent
 abbrev pub OneOutcome : Book → Type 0
-OneOutcome book = (kind : Name) (config : Json) (old : Fragment) (one other : Outcome) → book.meets kind config old one → book.meets kind config old other → SameOutcome one other
+OneOutcome book = (kind : Name) (config : Json) (facts : Facts) → book.system kind config ≡ known facts → (old : Fragment) → IsSoundFragment book old → (one other : Outcome) → book.meets kind config old one → book.meets kind config old other → SameOutcome facts.access one other
 
 -- a report does not end in a want of memory
 abbrev pub HadMemory : Report → Type 0

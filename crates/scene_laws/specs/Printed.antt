@@ -24,10 +24,6 @@ pub record CanBeRead (book : Book) (scene : PlainScene) : Type 0 where
   pub named : (name : Name) (value : Json) → scene.global name ≡ Some value → is_among name book.global_names ≡ true
   pub globals : (name : Name) (value : Json) → scene.global name ≡ Some value → book.read_global name value ≡ Some value
 
--- the value of each global is read under its name
-abbrev pub GlobalsAreRead : Book → PlainScene → Type 0
-GlobalsAreRead book scene = (name : Name) (value : Json) → is_among name book.global_names ≡ true → scene.global name ≡ Some value → (found : Json) × (book.read_global name value ≡ Some found)
-
 -- no float is written for a scene, and its references live
 pub record CanBeLoaded (scene : PlainScene) : Type 0 where
   pub parts : (id : ℕ) (kind : Name) (held : Part) → scene.part id kind ≡ Some held → has_float held.json ≡ false
@@ -43,9 +39,13 @@ with_members change (string text) = string text
 with_members change (array items) = array items
 with_members change (object members) = object (change members)
 
+-- a JSON with systems, frames and commands put in, where it is an object
+abbrev pub with_course : Json → Json → Json → Json → Json
+with_course systems frames commands json = with_members (λ members. put (codes "systems") systems (put (codes "frames") frames (put (codes "commands") commands members))) json
+
 -- the JSON of a scene with systems, frames and commands put in
 abbrev pub document_json : Book → PlainScene → Json → Json → Json → Json
-document_json book scene systems frames commands = with_members (λ members. put (codes "systems") systems (put (codes "frames") frames (put (codes "commands") commands members))) (scene_json book scene)
+document_json book scene systems frames commands = with_course systems frames commands (scene_json book scene)
 
 -- a document has these systems, frames and commands
 pub record HasCourse (entries : List DraftEntry) (frames : ℕ) (commands : List (List DraftCommand)) (draft : Draft) : Type 0 where

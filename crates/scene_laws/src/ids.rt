@@ -1,22 +1,36 @@
 //! An id is given once.
-ghost use Rattle.std.specs.Prelude.{◌≡◌, ℕ, List};
+ghost use Rattle.std.specs.Prelude.{◌≡◌, ℕ, List, Ok};
 ghost use Rattle.scene_rules.specs.Scenes.{PlainScene, PlainFrame, IdsFit};
 ghost use Rattle.scene_rules.specs.Rulebook.{spawn, kill};
 ghost use Rattle.scene_rules.specs.Parts.{Name, Part};
 ghost use Rattle.scene_rules.specs.Commands.{apply, changed};
 ghost use Rattle.scene_rules.specs.declared.refusals.Skip.{Skip};
+ghost use Rattle.scene_rules.specs.declared.refusals.Report.{Report};
+ghost use Rattle.scene_draft.specs.Drafts.{Draft};
+ghost use Rattle.scene_document.specs.Documents.{document_of};
+ghost use Rattle.scene_document.specs.Openings.{first_scene, frames_of};
 ghost use Rattle.scene.specs.Frames.{Reaches};
+ghost use Rattle.scene.specs.Outcomes.{Bounds, IsRunOf};
+ghost use Rattle.scene_laws.specs.Parts.{frames_behind};
 ghost use Rattle.scene_laws.specs.Ids.{IdsGoOn, Gives, TakesAway};
 
 use scene_rules::Rules;
 
 /// No id is given twice: over any number of frames the next id does not fall, an id that was given and does not live
 /// stays dead, and each id that came is new; a spawn gives the next id, which no entity had; and a killed id
-/// is dead and below the next one, so that it stays dead.
+/// is dead and below the next one, so that it stays dead. So it is from the scene of each document on, over its frames,
+/// between any two of the scenes that they reach, and for each run.
 pub fn an_id_is_given_once<R: Rules>(rules: &R)
     ensures go_on { (limit : ℕ) (frames : ℕ → PlainFrame) (count : ℕ) (scene after : PlainScene)
         (skips : List Skip) → IdsFit scene.next scene.ids
         → Reaches (R.book rules.now) limit frames count scene after skips → IdsGoOn scene after }
+    ensures document { (indices limit : ℕ) (input : List ℕ) (draft : Draft) (count more : ℕ) (mid after : PlainScene)
+        (skips rest : List Skip) → document_of (R.book rules.now) indices input ≡ Ok draft
+        → Reaches (R.book rules.now) limit (frames_of draft) count (first_scene draft) mid skips
+        → Reaches (R.book rules.now) limit (frames_behind count (frames_of draft)) more mid after rest
+        → IdsGoOn (first_scene draft) mid × IdsGoOn mid after }
+    ensures run { (bounds : Bounds) (input : List ℕ) (report : Report) (text : List ℕ)
+        → (ran : IsRunOf (R.book rules.now) bounds input report text) → IdsGoOn (first_scene ran.draft) ran.scene }
     ensures spawned { (parts : List (Name × Part)) (scene after : PlainScene) → IdsFit scene.next scene.ids
         → apply (spawn parts) scene ≡ changed after → Gives scene.next scene after }
     ensures killed { (id : ℕ) (scene after : PlainScene) → IdsFit scene.next scene.ids

@@ -4,21 +4,21 @@ ghost use Rattle.scene_rules.specs.Scenes.{PlainScene};
 ghost use Rattle.scene_rules.specs.declared.refusals.Report.{Report};
 ghost use Rattle.scene_draft.specs.Drafts.{Draft};
 ghost use Rattle.scene_document.specs.Documents.{document_of};
-ghost use Rattle.scene.specs.Runs.{Ran};
+ghost use Rattle.scene.specs.Runs.{CanBegin, Ran};
 ghost use Rattle.scene.specs.Outcomes.{Bounds, IsRunOf};
 ghost use Rattle.scene_laws.specs.OneOutcome.{OneOutcome, HadMemory, SameButPlace};
 
 use scene_rules::Rules;
 
-/// Where each system allows one outcome, a document has one: two runs of it that do not end in a want of memory have the
-/// same report and reach the same scene.
+/// Where each system allows one outcome of what it may be lent, told by what it writes, a document that can begin has one: two
+/// runs of it that do not end in a want of memory have the same report and reach the same scene.
 pub fn one_outcome<R: Rules>(rules: &R)
     ensures report { (limit : ℕ) (draft : Draft) (one other : Report) (scene after : PlainScene)
-        → OneOutcome (R.book rules.now) → HadMemory one → HadMemory other
+        → OneOutcome (R.book rules.now) → CanBegin (R.book rules.now) draft → HadMemory one → HadMemory other
         → Ran (R.book rules.now) limit draft one scene → Ran (R.book rules.now) limit draft other after
         → one ≡ other }
     ensures scene { (limit : ℕ) (draft : Draft) (one other : Report) (scene after : PlainScene)
-        → OneOutcome (R.book rules.now) → HadMemory one → HadMemory other
+        → OneOutcome (R.book rules.now) → CanBegin (R.book rules.now) draft → HadMemory one → HadMemory other
         → Ran (R.book rules.now) limit draft one scene → Ran (R.book rules.now) limit draft other after
         → scene ≡ after }
 {}

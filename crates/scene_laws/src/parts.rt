@@ -7,7 +7,7 @@ ghost use Rattle.scene_draft.specs.Drafts.{Draft};
 ghost use Rattle.scene_document.specs.Openings.{first_scene};
 ghost use Rattle.scene_draft.specs.Texts.{text_of};
 ghost use Rattle.scene.specs.Frames.{Reaches};
-ghost use Rattle.scene.specs.Runs.{Ran};
+ghost use Rattle.scene.specs.Runs.{CanBegin, Ran};
 ghost use Rattle.scene_laws.specs.OneOutcome.{OneOutcome, HadMemory};
 ghost use Rattle.scene_laws.specs.Parts.{frames_behind, later_skips, joined, IsInTwoParts};
 
@@ -22,12 +22,14 @@ pub fn frames_in_two_parts<R: Rules>(rules: &R)
         → Reaches (R.book rules.now) limit (frames_behind count frames) more mid after rest
         → Reaches (R.book rules.now) limit frames (count + more) scene after (skips ++ later_skips count rest) }
     ensures report { (limit : ℕ) (whole first second : Draft) (all one other : Report) (mid after end : PlainScene)
-        → OneOutcome (R.book rules.now) → HadMemory all → HadMemory other → IsInTwoParts whole first second
+        → OneOutcome (R.book rules.now) → CanBegin (R.book rules.now) whole → HadMemory all → HadMemory other
+        → IsInTwoParts whole first second
         → Ran (R.book rules.now) limit first one mid → one.refused ≡ None → first_scene second ≡ mid
         → Ran (R.book rules.now) limit second other after → Ran (R.book rules.now) limit whole all end
         → all ≡ joined one other }
     ensures text { (limit : ℕ) (whole first second : Draft) (all one other : Report) (mid after end : PlainScene)
-        → OneOutcome (R.book rules.now) → HadMemory all → HadMemory other → IsInTwoParts whole first second
+        → OneOutcome (R.book rules.now) → CanBegin (R.book rules.now) whole → HadMemory all → HadMemory other
+        → IsInTwoParts whole first second
         → Ran (R.book rules.now) limit first one mid → one.refused ≡ None → first_scene second ≡ mid
         → Ran (R.book rules.now) limit second other after → Ran (R.book rules.now) limit whole all end
         → text_of (R.book rules.now) end ≡ text_of (R.book rules.now) after }

@@ -9,7 +9,7 @@ ghost use Rattle.scene_draft.specs.Texts.{scene_json, text_of, ReadsBack};
 ghost use Rattle.scene.specs.Limits.{AreLimits};
 ghost use Rattle.scene.specs.Outcomes.{IsNoDocument, bounds_of};
 ghost use Rattle.scene.specs.Turns.{shown_of, rules_of, IsReady};
-ghost use Rattle.scene_laws.specs.Printed.{ReadsAlike, CanBeRead, CanBeLoaded, GlobalsAreRead, document_json, HasCourse};
+ghost use Rattle.scene_laws.specs.Printed.{ReadsAlike, CanBeRead, CanBeLoaded, document_json, HasCourse};
 
 use scene::{Limits, LoadError, Rules, Scene};
 use std::alloc::Global;
@@ -36,12 +36,10 @@ pub fn a_printed_scene_is_read_again<R: Rules>(rules: &R)
         → document_of (R.book rules.now) indices text ≡ Ok draft → first_scene draft ≡ scene }
 {}
 
-/// A scene that can run can be read again from what is printed for it, where the values of its globals are read.
+/// A scene that can run can be read again from what is printed for it.
 pub fn a_ready_scene_can_be_read<R: Rules + Drop>(scene: &Scene<R>)
     requires { IsReady R.part_of R.global_of R.kind_of R.config_of R.book scene.now }
-    ensures { GlobalsAreRead (R.book (rules_of scene.now))
-        (shown_of R.part_of R.global_of R.kind_of R.config_of R.book scene.now).scene
-        → CanBeRead (R.book (rules_of scene.now))
+    ensures { CanBeRead (R.book (rules_of scene.now))
         (shown_of R.part_of R.global_of R.kind_of R.config_of R.book scene.now).scene }
 {}
 
@@ -50,8 +48,8 @@ pub fn a_ready_scene_can_be_read<R: Rules + Drop>(scene: &Scene<R>)
 ///
 /// The limits are at most the greatest ones, and `generation` is at least 1.
 ///
-/// Errors: `Document` where the text is refused, with the least refusal that stands: a part that nests deeper than the
-/// reader of JSON allows, the value of a global that the rules do not read, more entities than the limits allow; `Memory`.
+/// Errors: `Document` where the text is refused, with the least refusal that stands: a part or a global that nests deeper than the
+/// reader of JSON allows, more entities than the limits allow; `Memory`.
 pub fn print_and_load<R: Rules + Drop>(
     alloc: Global,
     scene: &Scene<R>,

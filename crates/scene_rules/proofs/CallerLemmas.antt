@@ -1,3 +1,3 @@
 -- What proofs of the crates above cite, and nothing else of these lemmas.
 pub use Rattle.scene_rules.proofs.ColumnsLemmas.{slice_get-set_other, slice_get-set_same, taken_last, under_name, under_name-set}
-pub use Rattle.scene_rules.proofs.FragmentLemmas.{cond_same, same_scene}
+pub use Rattle.scene_rules.proofs.FragmentLemmas.{cond_same, same_scene, admitted-fragment, living-fragment, readable-fragment, admitted-left, living-left, readable-left, owned-held}

@@ -1,19 +1,19 @@
 -- Lemmas on what a system is lent, and on the scene after it was put back.
-use Rattle.std.proofs.Common.{◌≡◌, ℕ, Bool, true, false, cond, List, Option, Some, None, option_map, option_and_then, refl, sym, subst, length}
+use Rattle.std.proofs.Common.{◌≡◌, ℕ, Bool, true, false, cond, List, Option, Some, None, option_map, option_and_then, refl, sym, ◌∙◌, ap, subst, length}
 use Rattle.std.specs.List.{slice_get, All}
 use Rattle.std.specs.BTreeMap.{BTreeMap}
 use Rattle.std.proofs.Math.Path.{fun_ext}
 use Rattle.scene_rules.specs.Parts.{Json, Name, Part, is_among, place_of}
 use Rattle.scene_rules.specs.Rulebook.{Access, declares, declares_global, Fragment, Book, refuses, fills, Command}
 use Rattle.std.proofs.lemmas.Option.{none-some}
-use Rattle.scene_rules.specs.Scenes.{PlainScene, PlainSystem, fragment, with_left, PartsAdmitted, RefsLive, RefLives}
+use Rattle.scene_rules.specs.Scenes.{PlainScene, PlainSystem, fragment, with_left, PartsAdmitted, PartsOwned, GlobalsReadable, RefsLive, RefLives, lives}
 use Rattle.std.specs.String.{string_bytes}
 use Rattle.scene_rules.specs.declared.view.Columns.{Columns}
 use Rattle.scene_rules.specs.declared.rules.Stop.{Stop}
 use Rattle.scene_rules.specs.declared.rules.Stop.TheVariants as stops
 use Rattle.scene_rules.specs.Laws.{IsStopOf}
 use Rattle.scene_rules.specs.Lent.{datum, value}
-use Rattle.scene_rules.specs.Slots.{in_column, filled}
+use Rattle.scene_rules.specs.Slots.{in_column, filled, HoldsOnly}
 use Rattle.scene_rules.specs.Lending.{LendsColumns, LendsGlobals, PutsBack, scene_in, told_as, StepIsRefused}
 use Rattle.scene_rules.proofs.NameLemmas.{place_of-bound, place_of-name}
 use Rattle.scene_rules.proofs.ColumnsLemmas.{under_name}
@@ -111,6 +111,22 @@ living-left access left scene living living_left id kind held alive e = here (is
     here true found = living_left id kind held alive found
     here false found = living id kind held alive found
 
+-- a global that has one of two values is readable where it is in both
+readable-cond : (book : Book) (name : Name) (b : Bool) (one other : Option Json) (json : Json) → ((found : Json) → one ≡ Some found → book.read_global name found ≡ Some found) → ((found : Json) → other ≡ Some found → book.read_global name found ≡ Some found) → cond b one other ≡ Some json → book.read_global name json ≡ Some json
+readable-cond book name true one other json first second found = first json found
+readable-cond book name false one other json first second found = second json found
+
+-- what is lent of a scene whose globals are readable has readable globals
+pub readable-fragment : (book : Book) (access : Access) (scene : PlainScene) → GlobalsReadable book scene.global → GlobalsReadable book (fragment access scene).global
+readable-fragment book access scene readable name json = readable-cond book name (declares_global access name) (scene.global name) None json (readable name) (λ found is. absurd (none-some found is))
+
+pub readable-lent : (book : Book) (access : Access) (scene : PlainScene) (f : Fragment) → f ≡ fragment access scene → GlobalsReadable book scene.global → GlobalsReadable book f.global
+readable-lent book access scene f same readable = subst (λ g. GlobalsReadable book g.global) (sym same) (readable-fragment book access scene readable)
+
+-- the scene after a system's turn has readable globals
+pub readable-left : (book : Book) (access : Access) (left : Fragment) (scene : PlainScene) → GlobalsReadable book scene.global → GlobalsReadable book left.global → GlobalsReadable book (with_left access left scene).global
+readable-left book access left scene readable readable_left name json = readable-cond book name (is_among name access.written_globals) (left.global name) (scene.global name) json (readable_left name) (readable name)
+
 module _ {D G : Type 0} (part_of : D → Part) (global_of : G → Json) (book : Book) where
   -- the scene after what was left was put back
   pub put_scene : (next : ℕ) (ids : List ℕ) (access : Access) (old new left : Columns D G) → PutsBack book.part_names access.writes left.parts.items old.parts.items new.parts.items → PutsBack book.global_names access.written_globals left.globals.items old.globals.items new.globals.items → (f : Fragment) → ((id : ℕ) (kind : Name) → f.part id kind ≡ option_map part_of (datum book.part_names left id kind)) → ((name : Name) → f.global name ≡ option_map global_of (value book.global_names left name)) → scene_in part_of global_of book next ids new ≡ with_left access f (scene_in part_of global_of book next ids old)
@@ -118,6 +134,15 @@ module _ {D G : Type 0} (part_of : D → Part) (global_of : G → Json) (book : 
       same_scene (scene_in part_of global_of book next ids new) (with_left access f (scene_in part_of global_of book next ids old)) refl refl
       (λ id kind. rw (held id kind) (put_part part_of book.part_names access.writes left.parts.items old.parts.items new.parts.items parts id kind))
       (λ name. rw (held_globals name) (put_value global_of book.global_names access.written_globals left.globals.items old.globals.items new.globals.items globals name))
+
+-- columns that hold nothing but at some ids have parts of these ids alone
+pub owned-held : {D G : Type 0} (part_of : D → Part) (names : List Name) (ids : List ℕ) (columns : Columns D G) → HoldsOnly ids columns.parts.items → PartsOwned ids (λ id kind. option_map part_of (datum names columns id kind))
+owned-held part_of names ids columns own id kind held found = here (lives id ids) refl (place_of kind names) found
+  where
+    here : (b : Bool) → lives id ids ≡ b → (o : Option ℕ) → option_map part_of (in_column (option_and_then (λ place. slice_get columns.parts.items place) o) id) ≡ Some held → b ≡ true
+    here true alive o some = refl
+    here false dead None some = absurd (none-some held some)
+    here false dead (Some place) some = absurd (none-some held (sym (ap (option_map part_of) (own place id dead)) ∙ some))
 
 -- what is lent of a scene with parts of their kinds has parts of their kinds
 pub admitted-lent : (book : Book) (access : Access) (scene : PlainScene) (f : Fragment) → f ≡ fragment access scene → PartsAdmitted book scene.part → PartsAdmitted book f.part

@@ -4,8 +4,7 @@ use Rattle.std.proofs.lemmas.Option.{none-some, same_Some}
 use Rattle.std.proofs.lemmas.Slice.Eq.{bytes_eq-Decides}
 use Rattle.std.specs.Str.{bytes_eq}
 use Rattle.std.specs.List.{position_from, list_any, slice_index_or}
-use Rattle.scene_rules.specs.Parts.{is_among, place_of}
-use Rattle.scene_rules.specs.Lending.{named_at}
+use Rattle.scene_rules.specs.Parts.{is_among, place_of, name_at}
 
 -- a place is found in a mapped list where it is found in the list
 pub position_from-map : {X Y : Type 0} (f : X → Y) (p : Y → Bool) (i : ℕ) (xs : List X) → position_from p i (map f xs) ≡ position_from (λ x. p (f x)) i xs
@@ -50,7 +49,7 @@ found_at name i place (x ∷ xs) e = here (bytes_eq x name) (λ t. (bytes_eq-Dec
 pub place_of-bound : (name : List ℕ) (place : ℕ) (names : List (List ℕ)) → place_of name names ≡ Some place → place < length names
 place_of-bound name place names e = let at : (k : ℕ) × (place ≡ 0 + k) × (k < length names) × (slice_index_or names k [] ≡ name) = found_at name 0 place names e in omega (arith, at.1, at.2)
 
-pub place_of-name : (name : List ℕ) (place : ℕ) (names : List (List ℕ)) → place_of name names ≡ Some place → named_at names place ≡ name
+pub place_of-name : (name : List ℕ) (place : ℕ) (names : List (List ℕ)) → place_of name names ≡ Some place → name_at names place ≡ name
 place_of-name name place names e =
     let at : (k : ℕ) × (place ≡ 0 + k) × (k < length names) × (slice_index_or names k [] ≡ name) = found_at name 0 place names e in
     let same : place ≡ at.0 = omega (arith, at.1) in

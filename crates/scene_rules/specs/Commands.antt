@@ -2,12 +2,13 @@
 use Rattle.std.specs.Prelude.{◌≡◌, ◌<◌, ◌≤◌, ℕ, ◌+◌, ◌==◌, Bool, true, false, not, ◌&&◌, List, length, [], ◌∷◌, ◌++◌, map, Option, Some, None, option_map, if◌then◌else◌}
 use Rattle.std.specs.List.{list_all, list_any, find, filter}
 use Rattle.std.specs.Str.{bytes_eq}
+use Rattle.serde_json.specs.Data.{null}
 use Rattle.scene_rules.specs.Parts.{Name, Ref, living, gone, Part, under}
 use Rattle.scene_rules.specs.declared.refusals.Skip.{Skip}
 use Rattle.scene_rules.specs.declared.refusals.FrameRefusal.{FrameRefusal}
-use Rattle.scene_rules.specs.declared.refusals.FrameRefusal.TheVariants.{System, GoneReference, IdsSpent, IndicesSpent, GenerationsSpent, TooManyCommands, Memory, Threads}
 use Rattle.scene_rules.specs.Rulebook.{Book, Command, spawn, kill, put, take}
 use Rattle.scene_rules.specs.Scenes.{PlainScene, lives}
+use Rattle.scene_rules.specs.Causes.{Says}
 
 -- the greatest id that a scene can have as its next one
 abbrev pub last_next : ℕ
@@ -33,9 +34,18 @@ abbrev pub without_ref : ℕ → Ref → Ref
 without_ref id (living other) = if other == id then gone else living other
 without_ref id gone = gone
 
--- a part whose references to the id are gone
+-- whether a reference is to the id
+abbrev pub is_to : ℕ → Ref → Bool
+is_to id (living other) = other == id
+is_to id gone = false
+
+-- A part whose references to the id are gone. Where there is one, what was written for the part is forgotten, with the number of
+-- an entity that is no more; a scene with such a part is never accepted.
 abbrev pub part_without : ℕ → Part → Part
-part_without id part = record { json = part.json; refs = map (without_ref id) part.refs }
+part_without id part = record {
+  json = if list_any (is_to id) part.refs then null else part.json;
+  refs = map (without_ref id) part.refs;
+}
 
 -- the parts with one of them set, or taken out
 abbrev pub with_part : ℕ → Name → Option Part → (ℕ → Name → Option Part) → ℕ → Name → Option Part
@@ -117,11 +127,9 @@ pub record CommandsAccepted (book : Book) (limit : ℕ) (commands : List Command
 -- Commands are refused for this cause: too many are told before the first runs, then a spawn that finds no id, then, when all
 -- are done, the least id that holds a reference that is gone; want of memory says nothing, and there is no other cause.
 abbrev pub CommandsRefused : Book → ℕ → List Command → PlainScene → FrameRefusal → Type 0
-CommandsRefused book limit commands scene (System position text) = ⊥
-CommandsRefused book limit commands scene (GoneReference id) = (after : PlainScene) × (places : List ℕ) × (length commands ≤ limit) × (play 1 commands scene ≡ played after places) × (first_gone book after ≡ Some id)
-CommandsRefused book limit commands scene IdsSpent = (length commands ≤ limit) × (play 1 commands scene ≡ spent)
-CommandsRefused book limit commands scene IndicesSpent = ⊥
-CommandsRefused book limit commands scene GenerationsSpent = ⊥
-CommandsRefused book limit commands scene TooManyCommands = limit < length commands
-CommandsRefused book limit commands scene Memory = Unit {0}
-CommandsRefused book limit commands scene Threads = ⊥
+CommandsRefused book limit commands scene cause = Says (record {
+  system = λ position text. ⊥;
+  gone = λ id. (after : PlainScene) × (places : List ℕ) × (length commands ≤ limit) × (play 1 commands scene ≡ played after places) × (first_gone book after ≡ Some id);
+  ids = (length commands ≤ limit) × (play 1 commands scene ≡ spent);
+  commands = limit < length commands;
+}) cause

@@ -9,7 +9,7 @@ use Rattle.scene_rules.specs.declared.rules.ReadError.TheVariants.{Shape}
 use Rattle.scene_rules.specs.declared.rules.Stop.{Stop}
 use Rattle.scene_rules.specs.declared.rules.Stop.TheVariants as stop
 use Rattle.scene_rules.specs.Parts.{Json, Name, Ref, living, Part, is_among}
-use Rattle.scene_rules.specs.Rulebook.{Book, Facts, Access, Outcome, refuses, fills, queue_room, Command}
+use Rattle.scene_rules.specs.Rulebook.{Book, Facts, Described, unknown, known, Access, Outcome, refuses, fills, queue_room, Command}
 
 -- names ascend by their bytes, and so stand once each
 abbrev pub Ascend : List Name → Type 0
@@ -24,9 +24,9 @@ abbrev pub refs_to : List ℕ → List Ref
 refs_to ids = map (λ id. living id) ids
 
 -- a system of a kind with a configuration was made, or its kind is unknown
-abbrev pub IsMaking : {S : Type 0} → (S → Name) → (S → Json) → Name → Json → Option (Option Facts) → Option S → Type 0
-IsMaking kind_of config_of kind config facts None = facts ≡ Some None
-IsMaking kind_of config_of kind config facts (Some system) = (some : Facts) × (facts ≡ Some (Some some)) × (kind_of system ≡ kind) × (config_of system ≡ config)
+abbrev pub IsMaking : {S : Type 0} → (S → Name) → (S → Json) → Name → Json → Described → Option S → Type 0
+IsMaking kind_of config_of kind config said None = said ≡ unknown
+IsMaking kind_of config_of kind config said (Some system) = (facts : Facts) × (said ≡ known facts) × (kind_of system ≡ kind) × (config_of system ≡ config)
 
 -- what a stop says of a system's turn, which had put these commands in its queue: a refusal is one that the rules allow, a full
 -- queue is full of what they allow, and want of memory says nothing

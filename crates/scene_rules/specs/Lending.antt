@@ -1,19 +1,20 @@
 -- The scene that columns hold, what is lent of it, and what a turn leaves: the layout, for private contracts.
 use Rattle.std.specs.Prelude.{◌≡◌, ◌<◌, ℕ, Bool, List, [], length, Option, Some, None, option_map, vec_len, if◌then◌else◌}
-use Rattle.std.specs.List.{slice_get, slice_index_or}
+use Rattle.std.specs.List.{slice_get}
 use Rattle.std.specs.BTreeMap.{BTreeMap}
 use Rattle.scene_rules.specs.declared.view.Columns.{Columns}
 use Rattle.scene_rules.specs.declared.placed.Placed.{Placed}
 use Rattle.scene_rules.specs.declared.turn.Saved.{Saved}
 use Rattle.scene_rules.specs.declared.refusals.FrameRefusal.{FrameRefusal}
-use Rattle.scene_rules.specs.declared.refusals.FrameRefusal.TheVariants.{System, GoneReference, IdsSpent, IndicesSpent, GenerationsSpent, TooManyCommands, Threads}
+use Rattle.scene_rules.specs.declared.refusals.FrameRefusal.TheVariants.{System, TooManyCommands}
 use Rattle.scene_rules.specs.declared.refusals.FrameRefusal.TheVariants as FrameRefusals
 use Rattle.scene_rules.specs.declared.rules.Stop.{Stop}
 use Rattle.scene_rules.specs.declared.rules.Stop.TheVariants as stop
 use Rattle.std.specs.String.{string_bytes}
-use Rattle.scene_rules.specs.Parts.{Json, Name, Part, is_among}
-use Rattle.scene_rules.specs.Rulebook.{Book, Facts, Access, declares, declares_global, Command}
-use Rattle.scene_rules.specs.Scenes.{PlainScene, PlainSystem, RefsLive, PartsAdmitted, StepRefuses, StepFills, IdsFit}
+use Rattle.scene_rules.specs.Parts.{Json, Name, Part, is_among, name_at}
+use Rattle.scene_rules.specs.Rulebook.{Book, Access, declares, declares_global, Command}
+use Rattle.scene_rules.specs.Scenes.{PlainScene, PlainSystem, RefsLive, PartsAdmitted, GlobalsReadable, IsDescribed, StepRefuses, StepFills, IdsFit}
+use Rattle.scene_rules.specs.Causes.{Says}
 use Rattle.scene_rules.specs.Lent.{datum, value, access_of}
 use Rattle.scene_rules.specs.Slots.{in_column, filled, HoldsOnly}
 
@@ -38,11 +39,7 @@ system_in kind_of config_of placed = record { position = placed.position; kind =
 
 -- a system is of the rules, and declares what they say of it
 abbrev pub IsOfRules : {S : Type 0} → (S → Name) → (S → Json) → Book → Placed S → Type 0
-IsOfRules kind_of config_of book placed = (facts : Facts) × (book.system (kind_of placed.system) (config_of placed.system) ≡ Some (Some facts)) × (access_of placed.accessor ≡ facts.access)
-
--- the name at a place
-abbrev pub named_at : List Name → ℕ → Name
-named_at names place = slice_index_or names place []
+IsOfRules kind_of config_of book placed = IsDescribed book (system_in kind_of config_of placed)
 
 -- a copy of a column that a system declares, or an empty one in its place
 abbrev pub IsLentColumn : {D : Type 0} → (D → Part) → Bool → Option (BTreeMap ℕ (Option D)) → Option (BTreeMap ℕ (Option D)) → Type 0
@@ -54,7 +51,7 @@ IsLentGlobal global_of declared kept copy = option_map global_of (filled copy) �
 
 -- at each place where the name is written stands what was left, at each other what was kept
 abbrev pub PutsBack : {T : Type 0} → List Name → List Name → List T → List T → List T → Type 0
-PutsBack names written left old new = (place : ℕ) → slice_get new place ≡ (if is_among (named_at names place) written then slice_get left place else slice_get old place)
+PutsBack names written left old new = (place : ℕ) → slice_get new place ≡ (if is_among (name_at names place) written then slice_get left place else slice_get old place)
 
 -- what stood at a place before a frame, of what was saved of it, if anything, and what stands there now
 abbrev pub before_at : {T : Type 0} → Option T → Option T → Option T
@@ -64,20 +61,16 @@ before_at (Some old) now = Some old
 abbrev pub before : {T : Type 0} → List (Option T) → List T → ℕ → Option T
 before saved kept place = before_at (filled (slice_get saved place)) (slice_get kept place)
 
--- nothing was saved yet
-abbrev pub NothingSaved : {T : Type 0} → List (Option T) → Type 0
-NothingSaved saved = (place : ℕ) → filled (slice_get saved place) ≡ None
-
 -- what stood at each place before the frame is still known, and the same
 abbrev pub SameBefore : {T : Type 0} → List (Option T) → List T → List (Option T) → List T → Type 0
 SameBefore old_saved old_kept new_saved new_kept = (place : ℕ) → before new_saved new_kept place ≡ before old_saved old_kept place
 
 -- at each place stands a copy of what is declared, or nothing
 abbrev pub LendsColumns : {D : Type 0} → (D → Part) → Access → List Name → List (BTreeMap ℕ (Option D)) → List (BTreeMap ℕ (Option D)) → Type 0
-LendsColumns part_of access names kept copies = (place : ℕ) → place < length copies → IsLentColumn part_of (declares access (named_at names place)) (slice_get kept place) (slice_get copies place)
+LendsColumns part_of access names kept copies = (place : ℕ) → place < length copies → IsLentColumn part_of (declares access (name_at names place)) (slice_get kept place) (slice_get copies place)
 
 abbrev pub LendsGlobals : {G : Type 0} → (G → Json) → Access → List Name → List (Option G) → List (Option G) → Type 0
-LendsGlobals global_of access names kept copies = (place : ℕ) → place < length copies → IsLentGlobal global_of (declares_global access (named_at names place)) (slice_get kept place) (slice_get copies place)
+LendsGlobals global_of access names kept copies = (place : ℕ) → place < length copies → IsLentGlobal global_of (declares_global access (name_at names place)) (slice_get kept place) (slice_get copies place)
 
 -- the frame's refusal that a stop of a system at a place is
 abbrev pub told_as : ℕ → Stop → FrameRefusal
@@ -87,14 +80,12 @@ told_as position stop.Full = TooManyCommands
 
 -- a system's turn is refused for this cause; want of memory says nothing of the scene, and there is no other cause
 abbrev pub StepIsRefused : Book → PlainSystem → PlainScene → FrameRefusal → Type 0
-StepIsRefused book system scene (System position text) = (position ≡ system.position) × StepRefuses book system scene text
-StepIsRefused book system scene FrameRefusals.Memory = Unit {0}
-StepIsRefused book system scene (GoneReference id) = ⊥
-StepIsRefused book system scene IdsSpent = ⊥
-StepIsRefused book system scene IndicesSpent = ⊥
-StepIsRefused book system scene GenerationsSpent = ⊥
-StepIsRefused book system scene TooManyCommands = (commands : List Command) × StepFills book system scene commands
-StepIsRefused book system scene Threads = ⊥
+StepIsRefused book system scene cause = Says (record {
+  system = λ position text. (position ≡ system.position) × StepRefuses book system scene text;
+  gone = λ id. ⊥;
+  ids = ⊥;
+  commands = (commands : List Command) × StepFills book system scene commands;
+}) cause
 
 module _ {D G : Type 0} where
   -- there is a place to save each column and each global
@@ -108,10 +99,11 @@ module _ {D G : Type 0} where
     pub globals : SameBefore old_saved.globals.items old.globals.items new_saved.globals.items new.globals.items
 
 -- ids and columns hold a sound scene: the columns fit the rules and hold parts of these ids alone, which ascend and are below the
--- next id; the parts are of their kinds, and their references live
+-- next id; the parts are of their kinds, and their references live; the values of globals are read as they are
 pub record IsSound {D G : Type 0} (part_of : D → Part) (global_of : G → Json) (book : Book) (next : ℕ) (ids : List ℕ) (columns : Columns D G) : Type 0 where
   pub fits : Fits book columns
   pub ids_fit : IdsFit next ids
   pub own : HoldsOnly ids columns.parts.items
   pub admitted : PartsAdmitted book (scene_in part_of global_of book next ids columns).part
   pub living : RefsLive ids (scene_in part_of global_of book next ids columns).part
+  pub readable : GlobalsReadable book (scene_in part_of global_of book next ids columns).global

@@ -3,6 +3,7 @@ pub mod Parts
 pub mod Rulebook
 pub mod Lawful
 pub mod Scenes
+pub mod Causes
 pub mod Commands
 pub mod Slots
 pub mod Lent

@@ -1,6 +1,6 @@
 -- Names, references and parts: the data of a scene, as a document says it.
 use Rattle.std.specs.Prelude.{ℕ, Bool, false, ◌||◌, List, [], ◌∷◌, Option, Some, None, if◌then◌else◌}
-use Rattle.std.specs.List.{position_from}
+use Rattle.std.specs.List.{position_from, slice_index_or}
 use Rattle.std.specs.Str.{bytes_eq}
 use Rattle.serde_json.specs.Data.{Data}
 
@@ -30,6 +30,10 @@ is_among name (first ∷ names) = bytes_eq name first || is_among name names
 -- the first place of a name in a list of names
 abbrev pub place_of : Name → List Name → Option ℕ
 place_of name names = position_from (λ other. bytes_eq other name) 0 names
+
+-- the name at a place
+abbrev pub name_at : List Name → ℕ → Name
+name_at names place = slice_index_or names place []
 
 -- what stands under a name in a list of pairs
 abbrev pub under : {X : Type 0} → Name → List (Name × X) → Option X

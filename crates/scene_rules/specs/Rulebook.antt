@@ -47,6 +47,13 @@ pub record Facts : Type 0 where
   pub access : Access
   pub time : ℕ
 
+-- what the rules say of a kind of system with a configuration: the configuration has not its shape; or the kind is none of
+-- theirs; or it is one, and these are its facts
+pub data Described : Type 0 where
+  misshapen : Described
+  unknown : Described
+  known : Facts → Described
+
 -- the meaning of an implementation of the rules
 pub record Book : Type 1 where
   pub part_names : List Name
@@ -57,7 +64,7 @@ pub record Book : Type 1 where
   pub read_global : Name → Json → Option Json
   -- whether a part may stand under a kind
   pub admits : Name → Part → Bool
-  -- a system by its kind and configuration: none where the configuration has not its shape, no facts where the kind is unknown
-  pub system : Name → Json → Option (Option Facts)
+  -- a system by its kind and configuration
+  pub system : Name → Json → Described
   -- what a system of a kind with a configuration may make of what it is lent
   pub meets : Name → Json → Fragment → Outcome → Type 0

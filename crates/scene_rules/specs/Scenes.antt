@@ -2,7 +2,7 @@
 use Rattle.std.specs.Prelude.{◌≡◌, ◌<◌, ℕ, Bool, true, ◌==◌, List, length, Option, Some, None, IsSome, All, AllPairs, if◌then◌else◌}
 use Rattle.std.specs.List.{list_any}
 use Rattle.scene_rules.specs.Parts.{Json, Name, Ref, living, gone, Part, is_among}
-use Rattle.scene_rules.specs.Rulebook.{Access, declares, declares_global, Fragment, Book, leaves, refuses, fills, Command, queue_room}
+use Rattle.scene_rules.specs.Rulebook.{Access, declares, declares_global, Facts, known, Fragment, Book, leaves, refuses, fills, Command, queue_room}
 use Rattle.scene_rules.specs.Lawful.{IsLawful}
 
 -- a scene: the next id, the ids ascending, the part of each id under each kind, the value of each global
@@ -29,9 +29,17 @@ RefsLive ids part = (id : ℕ) (kind : Name) (held : Part) → lives id ids ≡ 
 abbrev pub PartsAdmitted : Book → (ℕ → Name → Option Part) → Type 0
 PartsAdmitted book part = (id : ℕ) (kind : Name) (held : Part) → part id kind ≡ Some held → book.admits kind held ≡ true
 
+-- the value of each global is what the rules read for it
+abbrev pub GlobalsReadable : Book → (Name → Option Json) → Type 0
+GlobalsReadable book global = (name : Name) (value : Json) → global name ≡ Some value → book.read_global name value ≡ Some value
+
 -- each part stands at a living id
 abbrev pub PartsOwned : List ℕ → (ℕ → Name → Option Part) → Type 0
 PartsOwned ids part = (id : ℕ) (kind : Name) (held : Part) → part id kind ≡ Some held → lives id ids ≡ true
+
+-- each part stands under one of these kinds
+abbrev pub PartsStand : List Name → (ℕ → Name → Option Part) → Type 0
+PartsStand names part = (id : ℕ) (kind : Name) (held : Part) → part id kind ≡ Some held → is_among kind names ≡ true
 
 -- ids ascend
 abbrev pub IdsAscend : List ℕ → Type 0
@@ -43,12 +51,13 @@ pub record IdsFit (next : ℕ) (ids : List ℕ) : Type 0 where
   pub below : All (λ id. id < next) ids
 
 -- a scene is proper: its ids ascend below the next one, each part stands at a living id and is one that the rules admit under its
--- kind, and each reference names a living id
+-- kind, each reference names a living id, and the value of each global is what the rules read for it
 pub record IsProper (book : Book) (scene : PlainScene) : Type 0 where
   pub ids : IdsFit scene.next scene.ids
   pub owned : PartsOwned scene.ids scene.part
   pub admitted : PartsAdmitted book scene.part
   pub living : RefsLive scene.ids scene.part
+  pub readable : GlobalsReadable book scene.global
 
 -- what a scene holds of the declared kinds and globals
 abbrev pub fragment : Access → PlainScene → Fragment
@@ -74,17 +83,23 @@ pub record PlainSystem : Type 0 where
   pub config : Json
   pub access : Access
 
+-- the rules describe a system by its kind and configuration, and it declares what they say of it
+abbrev pub IsDescribed : Book → PlainSystem → Type 0
+IsDescribed book system = (facts : Facts) × (book.system system.kind system.config ≡ known facts) × (system.access ≡ facts.access)
+
 -- each global that had a value has one
 abbrev pub KeepsValues : Fragment → Fragment → Type 0
 KeepsValues old left = (name : Name) → IsSome (old.global name) → IsSome (left.global name)
 
--- what a system leaves of what it was lent, and its commands, are lawful: the ids stay, references name them, parts are of their
--- kinds, globals keep a value, and the commands are ones that the rules know
+-- what a system leaves of what it was lent, and its commands, are lawful: the ids stay, parts stand at them, references name them, parts are of their
+-- kinds, globals keep a value and have none that the rules don't read, and the commands are ones that the rules know
 pub record IsLawfullyLeft (book : Book) (old left : Fragment) (commands : List Command) : Type 0 where
   pub ids : left.ids ≡ old.ids
+  pub owned : PartsOwned left.ids left.part
   pub living : RefsLive left.ids left.part
   pub admitted : PartsAdmitted book left.part
   pub valued : KeepsValues old left
+  pub readable : GlobalsReadable book left.global
   pub known : All (IsLawful book) commands
 
 -- a system's turn takes a scene to the one after, with these commands

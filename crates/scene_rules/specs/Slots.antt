@@ -14,6 +14,15 @@ abbrev pub in_column : {D : Type 0} → Option (BTreeMap ℕ (Option D)) → ℕ
 in_column None id = None
 in_column (Some column) id = filled (get nat_cmp column id)
 
+-- the slot of an id in a column, if there is a column
+abbrev pub slot_in : {D : Type 0} → Option (BTreeMap ℕ (Option D)) → ℕ → Option (Option D)
+slot_in None id = None
+slot_in (Some column) id = get nat_cmp column id
+
+-- no place holds anything
+abbrev pub AreEmpty : {T : Type 0} → List (Option T) → Type 0
+AreEmpty places = (place : ℕ) → filled (slice_get places place) ≡ None
+
 -- columns hold nothing but at these ids
 abbrev pub HoldsOnly : {D : Type 0} → List ℕ → List (BTreeMap ℕ (Option D)) → Type 0
 HoldsOnly ids columns = (place id : ℕ) → lives id ids ≡ false → in_column (slice_get columns place) id ≡ None

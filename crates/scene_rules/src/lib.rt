@@ -6,6 +6,7 @@
 
 mod access;
 mod command;
+mod empty;
 mod placed;
 mod plain;
 mod refusals;
@@ -15,6 +16,7 @@ mod view;
 
 pub use access::Accessor;
 pub use command::{Command, NotQueued, Queue};
+pub use empty::{empty_columns, empty_places};
 pub use placed::Placed;
 pub use plain::{Skips, Text};
 pub use refusals::{DocRefusal, FrameRefusal, Report, Skip};

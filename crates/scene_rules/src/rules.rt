@@ -1,8 +1,8 @@
 //! The caller's parts, globals and systems.
 ghost use Rattle.std.specs.Prelude.{◌≡◌, ◌<◌, ℕ, true, false, List, [], map, Some, None, Option, IsTrue, IfOk, OnOk, MatchResult, All};
 ghost use Rattle.scene_rules.specs.Parts.{Json, Name, Part, is_among};
-ghost use Rattle.scene_rules.specs.Rulebook.{Book, Facts, leaves};
-ghost use Rattle.scene_rules.specs.Scenes.{RefsLive, PartsAdmitted, KeepsValues, IdsAscend};
+ghost use Rattle.scene_rules.specs.Rulebook.{Book, Facts, misshapen, known, leaves};
+ghost use Rattle.scene_rules.specs.Scenes.{RefsLive, PartsAdmitted, GlobalsReadable, KeepsValues, IdsAscend};
 ghost use Rattle.serde_json.specs.View.{view};
 ghost use Rattle.serde_json.specs.Written.{has_float};
 
@@ -153,27 +153,27 @@ pub trait Rules {
     ) -> Result<Option<Self::System>, ReadError>
         ensures { MatchResult result
             (IsMaking kind_of config_of kind.now (view config.now) ((book self.now).system kind.now (view config.now)))
-            (λ error. error ≡ ReadError.Shape → (book self.now).system kind.now (view config.now) ≡ None) };
+            (λ error. error ≡ ReadError.Shape → (book self.now).system kind.now (view config.now) ≡ misshapen) };
 
     /// What a system declares.
     fn accessor(&self, alloc: Global, system: &Self::System) -> Result<Accessor, AllocError>
         ensures { IfOk result (λ accessor. (facts : Facts)
-            → (book self.now).system (kind_of system.now) (config_of system.now) ≡ Some (Some facts)
+            → (book self.now).system (kind_of system.now) (config_of system.now) ≡ known facts
             → access_of accessor ≡ facts.access) };
 
     /// How long a system is said to run.
     fn running_time(&self, system: &Self::System) -> RunningTime
-        ensures { (facts : Facts) → (book self.now).system (kind_of system.now) (config_of system.now) ≡ Some (Some facts)
+        ensures { (facts : Facts) → (book self.now).system (kind_of system.now) (config_of system.now) ≡ known facts
             → units_of result ≡ facts.time };
 
     /// Runs a system on what it is lent, with a queue for its commands.
     ///
-    /// The view is of the rules' names and of what the system declares, its ids ascend, its parts are of their kinds, and its
-    /// references name its ids. The queue is empty.
+    /// The view is of the rules' names and of what the system declares, its ids ascend, its parts are of their kinds, its
+    /// references name its ids, and its globals have values that the rules read. The queue is empty.
     ///
     /// An accepted run leaves what the rules allow the system to make of what it was lent, with the commands in its queue, and
     /// so is a refusal's text one that they allow; what it leaves refers to ids of the view alone, and is of its kinds; a global
-    /// that had a value has one; its commands are of the rules' kinds, those of a spawn differ, and their data are of their
+    /// that had a value has one, and each value is one that the rules read; its commands are of the rules' kinds, those of a spawn differ, and their data are of their
     /// kinds. The system's kind and configuration stay, and the view shows and declares what it did.
     ///
     /// Errors: `Refused`; `Memory`; `Full`, only where the queue holds 1,048,576 commands.
@@ -187,10 +187,11 @@ pub trait Rules {
         requires kinds { kinds view.old ≡ (book self.now).part_names }
         requires globals { globals view.old ≡ (book self.now).global_names }
         requires access { (facts : Facts) × ((book self.now).system (kind_of system.old) (config_of system.old)
-            ≡ Some (Some facts)) × (declared_by view.old ≡ facts.access) }
+            ≡ known facts) × (declared_by view.old ≡ facts.access) }
         requires ascend { IdsAscend (shown view.old) }
         requires admitted { PartsAdmitted (book self.now) (lent part_of global_of view.old).part }
         requires living { RefsLive (shown view.old) (lent part_of global_of view.old).part }
+        requires readable { GlobalsReadable (book self.now) (lent part_of global_of view.old).global }
         requires empty { waiting queue.old ≡ [] }
         ensures meets { MatchResult result
             (λ _. (book self.now).meets (kind_of system.old) (config_of system.old)
@@ -203,6 +204,7 @@ pub trait Rules {
         ensures admitted { OnOk result (PartsAdmitted (book self.now) (lent part_of global_of view.new).part) }
         ensures living { OnOk result (RefsLive (shown view.new) (lent part_of global_of view.new).part) }
         ensures valued { OnOk result (KeepsValues (lent part_of global_of view.old) (lent part_of global_of view.new)) }
+        ensures readable { OnOk result (GlobalsReadable (book self.now) (lent part_of global_of view.new).global) }
         ensures kind { kind_of system.new ≡ kind_of system.old }
         ensures config { config_of system.new ≡ config_of system.old };
 
@@ -227,9 +229,9 @@ pub trait Rules {
         → (book rules).admits kind (part_of datum) ≡ true
         → (book rules).read_part kind (part_of datum).json ≡ Some (part_of datum) };
 
-    /// What is written for a global is read back as it was, where it is read at all.
-    ghost global_reads_back: { (rules : Self) (name : Name) (global : Self.Global) (read : Json)
-        → (book rules).read_global name (global_of global) ≡ Some read → read ≡ global_of global };
+    /// What is read for a global is read back as it was.
+    ghost global_reads_back: { (rules : Self) (name : Name) (json value : Json)
+        → (book rules).read_global name json ≡ Some value → (book rules).read_global name value ≡ Some value };
 
     /// No float is written for a datum.
     ghost no_float: { (datum : Self.Data) → has_float (part_of datum).json ≡ false };
@@ -239,5 +241,5 @@ pub trait Rules {
 
     /// What a system declares is the rules'.
     ghost declares_known: { (rules : Self) (kind : Name) (config : Json) (facts : Facts)
-        → (book rules).system kind config ≡ Some (Some facts) → DeclaresKnown (book rules) facts.access };
+        → (book rules).system kind config ≡ known facts → DeclaresKnown (book rules) facts.access };
 }

@@ -1,19 +1,20 @@
 //! A turn of one system: what it is lent, its run, and what it left put back.
 ghost use Rattle.std.specs.Prelude.{◌≡◌, ◌<◌, ◌^◌, ℕ, [], None, OnOk, OnErr, IfOk, IfErr, MatchResult, Some, vec_len, length, All, slice_get, slice_set};
-ghost use Rattle.scene_rules.specs.Scenes.{RefsLive, PartsAdmitted, IdsAscend, Steps};
+ghost use Rattle.scene_rules.specs.Scenes.{RefsLive, PartsAdmitted, GlobalsReadable, IdsAscend, Steps};
 ghost use Rattle.scene_rules.specs.Lawful.{IsLawful};
 ghost use Rattle.scene_rules.specs.Queues.{waiting, plain_commands};
-ghost use Rattle.scene_rules.specs.Lending.{scene_in, Fits, IsLentColumn, IsLentGlobal, LendsColumns, LendsGlobals, PutsBack, IsOfRules, system_in, told_as, StepIsRefused, before, SameBefore, NothingSaved, SavesBefore, FitsSaved};
+ghost use Rattle.scene_rules.specs.Lending.{scene_in, Fits, IsLentColumn, IsLentGlobal, LendsColumns, LendsGlobals, PutsBack, IsOfRules, system_in, told_as, StepIsRefused, before, SameBefore, SavesBefore, FitsSaved};
 ghost use Rattle.std.specs.List.{list_any};
 ghost use Rattle.std.specs.Str.{bytes_eq};
 ghost use Rattle.scene_rules.specs.Parts.{is_among};
 ghost use Rattle.scene_rules.specs.Rulebook.{Facts, declares, declares_global};
 ghost use Rattle.scene_rules.specs.Lent.{declared_by, kinds, globals, shown, lent, access_of, texts};
-ghost use Rattle.scene_rules.specs.Slots.{HoldsOnly, filled};
+ghost use Rattle.scene_rules.specs.Slots.{HoldsOnly, filled, AreEmpty};
 ghost use Rattle.scene_rules.specs.Scenes.{with_left, fragment};
 
 use crate::access::Accessor;
 use crate::command::Queue;
+use crate::empty::empty_places;
 use crate::placed::Placed;
 use crate::plain::Text;
 use crate::refusals::FrameRefusal;
@@ -155,28 +156,17 @@ pub fn restore<D: Drop, G: Drop>(columns: &mut Columns<D, G>, saved: Saved<D, G>
     take_back(&mut columns.globals, globals);
 }
 
-fn nothing_saved<T: Drop>(alloc: Global, count: usize) -> Result<Vec<Option<T>>, AllocError>
-    ensures len { IfOk result (λ saved. vec_len saved ≡ count) }
-    ensures none { IfOk result (λ saved. NothingSaved saved.items) }
-{
-    let mut saved = Vec::new(alloc);
-    for _ in 0..count {
-        saved.push(None)?;
-    }
-    Ok(saved)
-}
-
 impl<D: Drop, G: Drop> Saved<D, G> {
     /// Places for so many columns and globals, with nothing saved yet.
     pub fn new(alloc: Global, kinds: usize, globals: usize) -> Result<Saved<D, G>, AllocError>
         ensures parts { IfOk result (λ saved. vec_len saved.parts ≡ kinds) }
         ensures globals { IfOk result (λ saved. vec_len saved.globals ≡ globals) }
-        ensures no_parts { IfOk result (λ saved. NothingSaved saved.parts.items) }
-        ensures no_globals { IfOk result (λ saved. NothingSaved saved.globals.items) }
+        ensures no_parts { IfOk result (λ saved. AreEmpty saved.parts.items) }
+        ensures no_globals { IfOk result (λ saved. AreEmpty saved.globals.items) }
     {
         Ok(Saved {
-            parts: nothing_saved(alloc, kinds)?,
-            globals: nothing_saved(alloc, globals)?,
+            parts: empty_places(alloc, kinds)?,
+            globals: empty_places(alloc, globals)?,
         })
     }
 }
@@ -285,6 +275,8 @@ pub fn run_system<R: Rules, H: AllocGlobal>(
         (scene_in R.part_of R.global_of (R.book rules.now) 0 ids.now columns.old).part }
     requires living { RefsLive ids.now
         (scene_in R.part_of R.global_of (R.book rules.now) 0 ids.now columns.old).part }
+    requires readable { GlobalsReadable (R.book rules.now)
+        (scene_in R.part_of R.global_of (R.book rules.now) 0 ids.now columns.old).global }
     requires empty { waiting queue.old ≡ [] }
     ensures turn { MatchResult result
         (λ _. (next : ℕ) → Steps (R.book rules.now) (system_in R.kind_of R.config_of placed.old)
@@ -306,6 +298,8 @@ pub fn run_system<R: Rules, H: AllocGlobal>(
         (scene_in R.part_of R.global_of (R.book rules.now) 0 ids.now columns.new).part }
     ensures living { RefsLive ids.now
         (scene_in R.part_of R.global_of (R.book rules.now) 0 ids.now columns.new).part }
+    ensures readable { GlobalsReadable (R.book rules.now)
+        (scene_in R.part_of R.global_of (R.book rules.now) 0 ids.now columns.new).global }
 {
     let mut view = match lend(rt.alloc(), rules, &placed.accessor, ids, columns) {
         Ok(view) => view,

@@ -1,21 +1,21 @@
 -- Lemmas on what `leave` leaves.
 use Rattle.std.proofs.Common.{◌≡◌, ◌<◌, ◌+◌, ℕ, ℤ, Bool, true, false, ◌||◌, ◌&&◌, cond, eqb, length, List, take, get_or, Option, Some, None, option_map, refl, sym, ◌∙◌, ap, subst}
 use Rattle.std.specs.Str.{bytes_eq}
-use Rattle.std.proofs.lemmas.Option.{none-some}
+use Rattle.std.proofs.lemmas.Option.{none-some, same_Some}
 use Rattle.std.proofs.lemmas.Bool.{false≢true}
 use Rattle.std.proofs.lemmas.Slice.Eq.{bytes_eq-Decides}
 use Rattle.std.proofs.lemmas.Bool.Decides.{Decides-eqb}
 use Rattle.scene_rules.specs.declared.view.PlainView.{PlainView}
-use Rattle.scene_rules.specs.Parts.{Name, Part}
+use Rattle.scene_rules.specs.Parts.{Json, Name, Part}
 use Rattle.scene_rules.specs.Rulebook.{Fragment}
-use Rattle.scene_rules.specs.Scenes.{lives, PartsAdmitted}
+use Rattle.scene_rules.specs.Scenes.{lives, PartsAdmitted, GlobalsReadable}
 use Rattle.scene_rules.specs.Lent.{shown, held}
 use Rattle.scene_basics.specs.declared.data.Datum.{Datum}
-use Rattle.scene_basics.specs.Names.{hp_kind}
-use Rattle.scene_basics.specs.Numbers.{part_of}
+use Rattle.scene_basics.specs.Names.{hp_kind, g_name}
+use Rattle.scene_basics.specs.Numbers.{part_of, json_of}
 use Rattle.scene_basics.specs.Gains.{fragment_of}
 use Rattle.scene_basics.proofs.TurnLemmas.{lives-more}
-use Rattle.scene_tests.specs.Leavers.{HpGone, HpGoneIf, Left, leavers}
+use Rattle.scene_tests.specs.Leavers.{HpGone, HpGoneIf, Left, set_value, leavers}
 
 -- what stands at an id under a name, after the hp of these ids was taken out
 abbrev pub without : List ℕ → (ℕ → List ℕ → Option Datum) → ℕ → List ℕ → Option Datum
@@ -60,3 +60,14 @@ part-left true old new id name parts P none was = named (bytes_eq name hp_kind) 
 pub Left-admitted : (hp_goes : Bool) (old new : Fragment) → Left hp_goes old new → PartsAdmitted leavers old.part → PartsAdmitted leavers new.part
 Left-admitted hp_goes old new left admitted id name held =
     part-left hp_goes old new id name left.parts (λ (o : Option Part). o ≡ Some held → leavers.admits name held ≡ true) (λ is. absurd (none-some held is)) (admitted id name held)
+
+-- and the value that the global is given is one that the rules read
+pub Left-readable : (hp_goes : Bool) (old new : Fragment) → Left hp_goes old new → GlobalsReadable leavers old.global → GlobalsReadable leavers new.global
+Left-readable hp_goes old new left readable name value is = named (bytes_eq name g_name) refl
+  where
+    named : (b : Bool) → bytes_eq name g_name ≡ b → leavers.read_global name value ≡ Some value
+    named true same =
+        let equal : name ≡ g_name = (bytes_eq-Decides name g_name).0 same in
+        let held : json_of set_value ≡ value = same_Some (json_of set_value) value (sym left.global.value ∙ (ap new.global (sym equal) ∙ is)) in
+        subst (λ (other : Json). leavers.read_global name other ≡ Some other) held refl
+    named false apart = readable name value (sym (left.global.others name apart) ∙ is)

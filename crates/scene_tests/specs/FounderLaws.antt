@@ -12,7 +12,7 @@ use Rattle.serde_json.specs.Data.{null, boolean, number, string, array, object}
 use Rattle.serde_json.specs.Find.{as_null}
 use Rattle.serde_json.specs.Written.{has_float}
 use Rattle.scene_rules.specs.Parts.{Json, Name, Part, is_among}
-use Rattle.scene_rules.specs.Rulebook.{Facts}
+use Rattle.scene_rules.specs.Rulebook.{Facts, unknown, known, misshapen}
 use Rattle.scene_rules.specs.Laws.{Ascend, DeclaresKnown}
 use Rattle.scene_tests.specs.Founders.{founders, found_kind, founding, blank}
 
@@ -30,16 +30,16 @@ pub law-none_is_admitted : (kind : Name) (datum : ℕ) → false ≡ true → fo
 law-none_is_admitted kind datum admitted = absurd (false≢true admitted)
 
 -- what the system declares is known, since it names nothing
-pub law-founding_is_known : (kind : Name) (config : Json) (facts : Facts) → founders.system kind config ≡ Some (Some facts) → DeclaresKnown founders facts.access
+pub law-founding_is_known : (kind : Name) (config : Json) (facts : Facts) → founders.system kind config ≡ known facts → DeclaresKnown founders facts.access
 law-founding_is_known kind config facts made = here (bytes_eq kind found_kind) (is_some (as_null config)) made
   where
-    known : DeclaresKnown founders founding.access
-    known = record { reads = All-nil (λ (kind : Name). is_among kind founders.part_names ≡ true); writes = All-nil (λ (kind : Name). is_among kind founders.part_names ≡ true); read_globals = All-nil (λ (name : Name). is_among name founders.global_names ≡ true); written_globals = All-nil (λ (name : Name). is_among name founders.global_names ≡ true) }
+    declares : DeclaresKnown founders founding.access
+    declares = record { reads = All-nil (λ (kind : Name). is_among kind founders.part_names ≡ true); writes = All-nil (λ (kind : Name). is_among kind founders.part_names ≡ true); read_globals = All-nil (λ (name : Name). is_among name founders.global_names ≡ true); written_globals = All-nil (λ (name : Name). is_among name founders.global_names ≡ true) }
 
-    here : (named plain : Bool) → cond named (cond plain (Some (Some founding)) None) (Some None) ≡ Some (Some facts) → DeclaresKnown founders facts.access
-    here true true e = subst (λ (some : Facts). DeclaresKnown founders some.access) (same_Some founding facts (same_Some (Some founding) (Some facts) e)) known
-    here true false e = absurd (none-some (Some facts) e)
-    here false plain e = absurd (none-some facts (same_Some None (Some facts) e))
+    here : (named plain : Bool) → cond named (cond plain (known founding) misshapen) unknown ≡ known facts → DeclaresKnown founders facts.access
+    here true true e = let same : founding ≡ facts = cc in subst (λ (some : Facts). DeclaresKnown founders some.access) same declares
+    here true false e = absurd cc
+    here false plain e = absurd cc
 
 -- a configuration that is null is null
 pub plain-null : (config : Json) → is_some (as_null config) ≡ true → null ≡ config

@@ -4,7 +4,7 @@ use Rattle.std.specs.Str.{bytes_eq}
 use Rattle.serde_json.specs.Data.{null}
 use Rattle.serde_json.specs.Find.{as_null}
 use Rattle.scene_rules.specs.Parts.{Json, Name, Part}
-use Rattle.scene_rules.specs.Rulebook.{Facts, Book, leaves}
+use Rattle.scene_rules.specs.Rulebook.{Facts, Described, misshapen, unknown, known, Book, leaves}
 
 abbrev pub found_kind : Name
 found_kind = codes "found"
@@ -24,8 +24,8 @@ abbrev pub founding : Facts
 founding = record { access = record { reads = []; writes = []; read_globals = []; written_globals = []; reserved = true }; time = 3 }
 
 -- the system `found`, whose configuration is null
-abbrev pub configured : Json → Option (Option Facts)
-configured config = if is_some (as_null config) then Some (Some founding) else None
+abbrev pub configured : Json → Described
+configured config = if is_some (as_null config) then known founding else misshapen
 
 abbrev pub founders : Book
 founders = record {
@@ -34,6 +34,6 @@ founders = record {
   read_part = λ _ _. None;
   read_global = λ _ _. None;
   admits = λ _ _. false;
-  system = λ kind config. if bytes_eq kind found_kind then configured config else Some None;
+  system = λ kind config. if bytes_eq kind found_kind then configured config else unknown;
   meets = λ _ _ old outcome. outcome ≡ leaves old [];
 }

@@ -3,7 +3,7 @@ use Rattle.std.specs.Prelude.{◌≡◌, codes, ℕ, ℤ, pos, Bool, true, false
 use Rattle.std.specs.Str.{bytes_eq}
 use Rattle.serde_json.specs.Find.{as_bool}
 use Rattle.scene_rules.specs.Parts.{Name}
-use Rattle.scene_rules.specs.Rulebook.{Facts, Fragment, Outcome, leaves, refuses, fills, Book}
+use Rattle.scene_rules.specs.Rulebook.{Facts, Described, misshapen, unknown, known, Fragment, Outcome, leaves, refuses, fills, Book}
 use Rattle.scene_rules.specs.Scenes.{lives}
 use Rattle.scene_basics.specs.Names.{hp_kind, g_name, part_kinds}
 use Rattle.scene_basics.specs.Numbers.{json_of, read_part, read_global, admits}
@@ -49,9 +49,9 @@ abbrev pub leaving : Bool → Facts
 leaving hp_goes = record { access = record { reads = []; writes = if hp_goes then hp_kind ∷ [] else []; read_globals = []; written_globals = g_name ∷ []; reserved = false }; time = 3 }
 
 -- `leave` with a configuration, which says whether hp is to go
-abbrev pub configured : Option Bool → Option (Option Facts)
-configured None = None
-configured (Some hp_goes) = Some (Some (leaving hp_goes))
+abbrev pub configured : Option Bool → Described
+configured None = misshapen
+configured (Some hp_goes) = known (leaving hp_goes)
 
 abbrev pub leavers : Book
 leavers = record {
@@ -60,6 +60,6 @@ leavers = record {
   read_part = read_part;
   read_global = read_global;
   admits = admits;
-  system = λ kind config. if bytes_eq kind leave_kind then configured (as_bool config) else Some None;
+  system = λ kind config. if bytes_eq kind leave_kind then configured (as_bool config) else unknown;
   meets = λ _ config old outcome. Leaves (as_bool config) old outcome;
 }

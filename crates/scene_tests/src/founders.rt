@@ -5,6 +5,7 @@ ghost use Rattle.std.proofs.Common.{rules};
 ghost use Rattle.serde_json.specs.Data.{null};
 ghost use Rattle.serde_json.specs.View.{view};
 ghost use Rattle.scene_rules.specs.Laws.{IsMaking};
+ghost use Rattle.scene_rules.specs.Rulebook.{misshapen};
 ghost use Rattle.scene_tests.specs.Founders.{founders, found_kind, seat_kind, era_name, blank, configured};
 ghost use Rattle.scene_tests.specs.FounderLaws.{law-one_ascends, law-blank_has_no_float, law-no_part_is_read, law-none_is_admitted, law-founding_is_known};
 
@@ -32,7 +33,7 @@ pub(crate) struct Found;
 /// The system `found` with a configuration, which has to be null.
 fn with_config(config: &Value) -> Result<Option<Found>, ReadError>
     ensures { MatchResult result (IsMaking (λ _. found_kind) (λ _. null) found_kind (view config.now) (configured (view config.now)))
-        (λ error. error ≡ ReadError.Shape → configured (view config.now) ≡ None) }
+        (λ error. error ≡ ReadError.Shape → configured (view config.now) ≡ misshapen) }
 {
     if config.is_null() {
         Ok(Some(Found))

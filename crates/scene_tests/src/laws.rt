@@ -9,8 +9,8 @@ use scene_basics::laws::{
     references_go_on_living, workers_and_store_do_not_show,
 };
 use scene_laws::{
-    a_printed_scene_is_read_again, a_ready_scene_can_be_read, an_id_is_given_once,
-    frames_in_two_parts, print_and_load,
+    a_printed_scene_is_read_again, a_ready_scene_can_be_read, a_system_changes_what_it_declares,
+    an_id_is_given_once, frames_in_two_parts, print_and_load,
 };
 use std::alloc::{AllocError, Global};
 use std::test::Fail;
@@ -25,6 +25,7 @@ fn the_laws_are_of_the_program() {
     an_id_is_given_once(&Basics);
     a_printed_scene_is_read_again(&Basics);
     frames_in_two_parts(&Basics);
+    a_system_changes_what_it_declares(&Basics);
 }
 
 /// Documents of at least one frame or none, with the next id of the scene after the first.

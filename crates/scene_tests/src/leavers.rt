@@ -5,6 +5,7 @@ ghost use Rattle.serde_json.specs.Data.{boolean};
 ghost use Rattle.serde_json.specs.Find.{as_bool};
 ghost use Rattle.serde_json.specs.View.{view};
 ghost use Rattle.scene_rules.specs.Laws.{IsMaking};
+ghost use Rattle.scene_rules.specs.Rulebook.{misshapen};
 ghost use Rattle.scene_rules.specs.Parts.{Name, is_among, place_of};
 ghost use Rattle.scene_rules.specs.Lent.{declared_by, globals, held_global, kinds, SameLoan};
 ghost use Rattle.scene_basics.specs.Names.{hp_kind, g_name};
@@ -41,7 +42,7 @@ fn with_config(config: &Value) -> Result<Option<Leave>, ReadError>
     ensures { MatchResult result
         (IsMaking (λ _. leave_kind) (λ leave. boolean leave.hp_goes) leave_kind (view config.now)
         (configured (as_bool (view config.now))))
-        (λ error. error ≡ ReadError.Shape → configured (as_bool (view config.now)) ≡ None) }
+        (λ error. error ≡ ReadError.Shape → configured (as_bool (view config.now)) ≡ misshapen) }
 {
     match config.as_bool() {
         Some(hp_goes) => Ok(Some(Leave { hp_goes })),

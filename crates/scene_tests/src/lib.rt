@@ -28,4 +28,6 @@ mod queues;
 #[cfg(test)]
 mod refusals;
 #[cfg(test)]
+mod resumed;
+#[cfg(test)]
 mod runs;

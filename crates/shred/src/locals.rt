@@ -17,7 +17,26 @@ pub(crate) struct LocalRefusal {
     pub(crate) stop: Stop,
 }
 
+/// Runs a local system, which is told by its place.
+fn run_local<V, L: RunNow<V>, H: AllocGlobal, W: Holder<V>>(
+    rt: &H,
+    world: &mut W,
+    local: &mut L,
+    place: usize,
+) -> Result<(), LocalRefusal>
+    ensures meets { L.meets local.old (W.slots world.old) (local_stop result) local.new (W.slots world.new) }
+    ensures leaves { Leaves (W.slots world.old) (W.slots world.new) }
+    ensures place { local_refusal result ≡ option_map (λ why. (place, why)) (local_stop result) }
+{
+    match local.run_now(rt, world) {
+        Ok(()) => Ok(()),
+        Err(stop) => Err(LocalRefusal { place, stop }),
+    }
+}
+
 /// Runs local systems, one after the other, up to the first that refuses; each is told by its place, counted from `place` on.
+///
+/// It goes by halves, so that it takes little of the stack.
 pub(crate) fn run_locals<V, L: RunNow<V>, H: AllocGlobal, W: Holder<V>>(
     rt: &H,
     world: &mut W,
@@ -27,25 +46,35 @@ pub(crate) fn run_locals<V, L: RunNow<V>, H: AllocGlobal, W: Holder<V>>(
     requires place { place + length locals.old < 18446744073709551616 }
     ensures runs { LocalsRun L.meets place locals.old (W.slots world.old) (local_refusal result) locals.new (W.slots world.new) }
 {
-    let Some((local, others)) = locals.split_first_mut() else {
-        return Ok(());
-    };
-    match local.run_now(rt, world) {
-        Ok(()) => run_locals(rt, world, others, place + 1),
-        Err(stop) => Err(LocalRefusal { place, stop }),
+    match locals {
+        [] => Ok(()),
+        [local] => run_local(rt, world, local, place),
+        _ => {
+            let middle = locals.len() / 2;
+            let (first, others) = locals.split_at_mut(middle);
+            match run_locals(rt, world, first, place) {
+                Ok(()) => run_locals(rt, world, others, place + middle),
+                Err(refusal) => Err(refusal),
+            }
+        }
     }
 }
 
-/// Sets local systems up, one after the other, up to the first that finds no memory.
+/// Sets local systems up, one after the other, up to the first that finds no memory. It goes by halves.
 fn set_up_locals<V, L: RunNow<V>>(locals: &mut [L], world: &mut World<V>) -> Result<(), AllocError>
     ensures { SetsUpEach L.sets_up locals.old (is_ok result) world.old locals.new world.new }
 {
-    let Some((local, others)) = locals.split_first_mut() else {
-        return Ok(());
-    };
-    match local.setup(world) {
-        Ok(()) => set_up_locals(others, world),
-        Err(error) => Err(error),
+    match locals {
+        [] => Ok(()),
+        [local] => local.setup(world),
+        _ => {
+            let middle = locals.len() / 2;
+            let (first, others) = locals.split_at_mut(middle);
+            match set_up_locals(first, world) {
+                Ok(()) => set_up_locals(others, world),
+                Err(error) => Err(error),
+            }
+        }
     }
 }
 

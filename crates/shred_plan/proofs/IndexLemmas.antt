@@ -13,7 +13,7 @@ use Rattle.std.proofs.lemmas.List.Sorted.{list_any-IsPermutation}
 use Rattle.shred_plan.specs.declared.planner.Place.{Place}
 use Rattle.shred_plan.specs.Plan.{Placing, Stage, conflict, share, taken, systems_of, plan_order}
 use Rattle.shred_plan.specs.Places.{IsPlace, placed_at}
-use Rattle.shred_plan.specs.Index.{stage_at, writes, uses, is_blocked}
+use Rattle.shred_plan.specs.Index.{stage_at, writes, uses}
 use Rattle.shred_plan.specs.Kept.{stage_of}
 use Rattle.shred_plan.proofs.LawLemmas.{systems-taken}
 
@@ -75,15 +75,15 @@ module _ {Id : Type 0} (same : Id → Id → Bool) (turns : (x y : Id) → same 
       by false false true = refl
       by false false false = refl
 
-  -- a stage is blocked for a system where one of its systems writes an id that the system reads, or uses one that it writes
-  pub blocked-by : (one : Placing Id) (stage : Stage Id)
-      → (list_any (λ id. list_any (λ other. writes same other id) (systems_of stage)) one.reads || list_any (λ id. list_any (λ other. uses same other id) (systems_of stage)) one.writes)
-      ≡ is_blocked same one stage
-  blocked-by one stage =
-      ap (λ b. b || list_any (λ id. list_any (λ other. uses same other id) (systems_of stage)) one.writes) (any-swap (λ id other. writes same other id) one.reads (systems_of stage))
-      ∙ ap (λ b. list_any (λ other. list_any (λ id. writes same other id) one.reads) (systems_of stage) || b) (any-swap (λ id other. uses same other id) one.writes (systems_of stage))
-      ∙ any-or (λ other. list_any (λ id. writes same other id) one.reads) (λ other. list_any (λ id. uses same other id) one.writes) (systems_of stage)
-      ∙ any-same _ (conflict same one) (conflict-by one) (systems_of stage)
+  -- the same of a system and a list of others
+  pub conflicts-by : (one : Placing Id) (systems : List (Placing Id))
+      → (list_any (λ id. list_any (λ other. writes same other id) systems) one.reads || list_any (λ id. list_any (λ other. uses same other id) systems) one.writes)
+      ≡ list_any (conflict same one) systems
+  conflicts-by one systems =
+      ap (λ b. b || list_any (λ id. list_any (λ other. uses same other id) systems) one.writes) (any-swap (λ id other. writes same other id) one.reads systems)
+      ∙ ap (λ b. list_any (λ other. list_any (λ id. writes same other id) one.reads) systems || b) (any-swap (λ id other. uses same other id) one.writes systems)
+      ∙ any-or (λ other. list_any (λ id. writes same other id) one.reads) (λ other. list_any (λ id. uses same other id) one.writes) systems
+      ∙ any-same _ (conflict same one) (conflict-by one) systems
 
 or-false : (b : Bool) → (b || false) ≡ b
 or-false true = refl

@@ -1,5 +1,5 @@
 -- An index keeps to a plan that takes a system in.
-use Rattle.std.proofs.Common.{◌≡◌, ◌≢◌, ℕ, ◌<◌, ◌≤◌, zero, suc, max, Bool, true, false, not, ne_eqb, ◌||◌, ◌&&◌, List, [], ◌∷◌, ◌++◌, length, refl, ap, sym, ◌∙◌, arith, Option, Some, None, ◌⊎◌, inl, inr}
+use Rattle.std.proofs.Common.{◌≡◌, ◌≢◌, ℕ, ◌<◌, ◌≤◌, zero, suc, max, Bool, true, false, not, ne_eqb, ◌||◌, ◌&&◌, List, [], ◌∷◌, ◌++◌, length, refl, ap, sym, ◌∙◌, subst, arith, Option, Some, None, ◌⊎◌, inl, inr}
 use Rattle.std.specs.Prelude.{◌==◌, nat_lt}
 use Rattle.std.specs.List.{list_any}
 use Rattle.std.specs.declared.cmp.Ordering.{Ordering}
@@ -13,9 +13,10 @@ use Rattle.shred_plan.specs.declared.planner.Place.{Place}
 use Rattle.shred_plan.specs.declared.index.Index.{Index}
 use Rattle.shred_plan.specs.Plan.{Placing, Group, Stage, taken, longest, time_of, systems_of}
 use Rattle.shred_plan.specs.Places.{IsPlace, placed_at}
-use Rattle.shred_plan.specs.Index.{has_stage, has_for, stood_before, stage_at, stands_before, is_loose, writes, uses}
-use Rattle.shred_plan.specs.Kept.{Keeps, Blocks, stage_of}
-use Rattle.shred_plan.proofs.IndexLemmas.{any-placed, any-before, blocked-by}
+use Rattle.shred_plan.specs.Index.{has_stage, has_for, stood_before, stage_at, stands_before, is_loose, writes, uses, finds}
+use Rattle.shred_plan.specs.Kept.{Marks, Keeps, Blocks, stage_of}
+use Rattle.shred_plan.specs.Seats.{KeepsSeats}
+use Rattle.shred_plan.proofs.IndexLemmas.{any-placed, any-before, conflicts-by}
 use Rattle.shred_plan.proofs.LongestLemmas.{longest-new}
 
 no-stages : (Id : Type 0) (number place : ℕ) → stands_before {Id = Id} [] number place ≡ false
@@ -24,25 +25,27 @@ no-stages Id number (suc place) = refl
 
 -- the index of a plan without stages
 pub keeps-none : {Id : Type 0} (cmp : Id → Id → Ordering) (same : Id → Id → Bool) (index : Index Id)
-    → ((id : Id) (place : ℕ) → has_for cmp index.writers id place ≡ false)
-    → ((id : Id) (place : ℕ) → has_for cmp index.users id place ≡ false)
+    → ((id : Id) (place : ℕ) → has_for cmp index.stages.writers id place ≡ false)
+    → ((id : Id) (place : ℕ) → has_for cmp index.stages.users id place ≡ false)
+    → KeepsSeats cmp same index.seats []
     → ((number place : ℕ) → stood_before index.firsts.stages number place ≡ false)
     → Keeps cmp same index []
-keeps-none {Id} cmp same index writers users firsts = record {
+keeps-none {Id} cmp same index writers users seats firsts = record {
   writers = λ id place. writers id place;
   users = λ id place. users id place;
   firsts = λ number place. firsts number place ∙ sym (no-stages Id number place);
+  seats = seats;
   loose = λ place h. refl;
 }
 
 -- what an index tells of the stages with which a system conflicts
 pub keeps-blocks : {Id : Type 0} (cmp : Id → Id → Ordering) (same : Id → Id → Bool) (turns : (x y : Id) → same x y ≡ same y x) (index : Index Id) (one : Placing Id) (stages : List (Stage Id)) (set : StageSet) → Keeps cmp same index stages
-    → ((place : ℕ) → has_stage set place ≡ (list_any (λ id. has_for cmp index.writers id place) one.reads || list_any (λ id. has_for cmp index.users id place) one.writes))
+    → ((place : ℕ) → has_stage set place ≡ finds cmp index.stages one place)
     → Blocks same one stages set
 keeps-blocks cmp same turns index one stages set keeps is place =
     is place
     ∙ (λ i. list_any (λ id. keeps.writers id place i) one.reads || list_any (λ id. keeps.users id place i) one.writes)
-    ∙ blocked-by same turns one (stage_at stages place)
+    ∙ conflicts-by same turns one (systems_of (stage_at stages place))
 
 -- a stage of one system has no group that is shorter than another
 single-tight : {Id : Type 0} (one : Placing Id) → is_loose ((one ∷ []) ∷ []) ≡ false
@@ -94,19 +97,19 @@ tight-alone one stages stage within same at tight = by (cases_eq at stage)
 -- the index with a system in it keeps to the plan with the system at its place
 pub keeps-noted : {Id : Type 0} (cmp : Id → Id → Ordering) (same : Id → Id → Bool) (before after : Index Id) (one : Placing Id) (stages : List (Stage Id)) (found : Option Place) (stage : ℕ) → IsPlace stages found → stage ≡ stage_of stages found
     → Keeps cmp same before stages
-    → ((id : Id) (place : ℕ) → has_for cmp after.writers id place ≡ (has_for cmp before.writers id place || ((stage == place) && writes same one id)))
-    → ((id : Id) (place : ℕ) → has_for cmp after.users id place ≡ (has_for cmp before.users id place || ((stage == place) && uses same one id)))
+    → Marks cmp same before.stages after.stages one stage
+    → KeepsSeats cmp same after.seats (placed_at one stages found)
     → ((number place : ℕ) → stood_before after.firsts.stages number place ≡ (stood_before before.firsts.stages number place || (nat_lt stage place && (one.number == number))))
     → ((place : ℕ) → has_stage after.loose place ≡ false → is_loose (stage_at (placed_at one stages found) place) ≡ false)
     → Keeps cmp same after (placed_at one stages found)
-keeps-noted cmp same before after one stages found stage fits is keeps writers users firsts loose = record {
+keeps-noted cmp same before after one stages found stage fits is keeps marks seats firsts loose = record {
   writers = λ id place.
-      writers id place
+      marks.writers id place
       ∙ ap (λ b. b || ((stage == place) && writes same one id)) (keeps.writers id place)
       ∙ ap (λ s. list_any (λ other. writes same other id) (systems_of (stage_at stages place)) || ((s == place) && writes same one id)) is
       ∙ sym (any-placed (λ other. writes same other id) one stages found fits place);
   users = λ id place.
-      users id place
+      marks.users id place
       ∙ ap (λ b. b || ((stage == place) && uses same one id)) (keeps.users id place)
       ∙ ap (λ s. list_any (λ other. uses same other id) (systems_of (stage_at stages place)) || ((s == place) && uses same one id)) is
       ∙ sym (any-placed (λ other. uses same other id) one stages found fits place);
@@ -115,6 +118,7 @@ keeps-noted cmp same before after one stages found stage fits is keeps writers u
       ∙ ap (λ b. b || (nat_lt stage place && (one.number == number))) (keeps.firsts number place)
       ∙ ap (λ s. stands_before stages number place || (nat_lt s place && (one.number == number))) is
       ∙ sym (any-before (λ other. other.number == number) one stages found fits place);
+  seats = seats;
   loose = loose;
 }
 
@@ -125,12 +129,13 @@ and-true false = refl
 -- the index keeps to the plan where a stage that lets no system join a group is told to be so
 pub keeps-tight : {Id : Type 0} (cmp : Id → Id → Ordering) (same : Id → Id → Bool) (before after : Index Id) (stages : List (Stage Id)) (stage : ℕ)
     → Keeps cmp same before stages → is_loose (stage_at stages stage) ≡ false
-    → (after.writers ≡ before.writers) × (after.users ≡ before.users) × (after.firsts ≡ before.firsts)
+    → (after.stages ≡ before.stages) × (after.seats ≡ before.seats) × (after.firsts ≡ before.firsts)
     → ((place : ℕ) → has_stage after.loose place ≡ (has_stage before.loose place && not (stage == place)))
     → Keeps cmp same after stages
 keeps-tight cmp same before after stages stage keeps tight kept loose = record {
-  writers = λ id place. ap (λ table. has_for cmp table id place) kept.0 ∙ keeps.writers id place;
-  users = λ id place. ap (λ table. has_for cmp table id place) kept.1 ∙ keeps.users id place;
+  writers = λ id place. ap (λ table. has_for cmp table.writers id place) kept.0 ∙ keeps.writers id place;
+  users = λ id place. ap (λ table. has_for cmp table.users id place) kept.0 ∙ keeps.users id place;
+  seats = subst (λ seats. KeepsSeats cmp same seats stages) (sym kept.1) keeps.seats;
   firsts = λ number place. ap (λ firsts. stood_before firsts.stages number place) kept.2 ∙ keeps.firsts number place;
   loose = λ place h. by place (cases_eq stage place) (sym (loose place) ∙ h);
 }

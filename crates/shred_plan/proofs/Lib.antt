@@ -12,5 +12,6 @@ pub mod TableLemmas
 pub mod IndexLemmas
 pub mod WayLemmas
 pub mod FirstLemmas
+pub mod SeatLemmas
 pub mod LongestLemmas
 pub mod KeepLemmas

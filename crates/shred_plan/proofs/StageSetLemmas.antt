@@ -1,5 +1,5 @@
 -- Facts on sets of stages that are kept in words.
-use Rattle.std.proofs.Common.{◌≡◌, ◌≢◌, ℕ, ◌+◌, ◌-◌, ◌*◌, ◌/◌, ◌%◌, ◌^◌, ◌<◌, ◌≤◌, max, Bool, true, false, not, ◌||◌, ◌&&◌, bit_and, eqb, List, length, get_or, take, refl, ap, sym, ◌∙◌, arith, ◌⊎◌, inl, inr, eq-eqb, ne_eqb}
+use Rattle.std.proofs.Common.{◌≡◌, ◌≢◌, ℕ, zero, suc, [], ◌∷◌, ◌+◌, ◌-◌, ◌*◌, ◌/◌, ◌%◌, ◌^◌, ◌<◌, ◌≤◌, max, Bool, true, false, not, ◌||◌, ◌&&◌, bit_and, eqb, List, length, get_or, take, refl, ap, sym, ◌∙◌, arith, ◌⊎◌, inl, inr, eq-eqb, ne_eqb}
 use Rattle.std.proofs.Math.ListN.{set}
 use Rattle.std.specs.Prelude.{◌==◌}
 use Rattle.std.specs.Prelude.{bit_or}
@@ -7,7 +7,11 @@ use Rattle.std.specs.Int.{bit_at, bit_not, w64}
 use Rattle.std.proofs.lemmas.Bool.{cases_eq, cases_lt}
 use Rattle.std.proofs.lemmas.List.{get_or-set_same, get_or-set_other, get_or_past, get_or-take, length-take}
 use Rattle.std.proofs.lemmas.Nat.Bits.{bit_at_set_same, bit_at_set_other, bit_at_clear_same, bit_at_clear_other, bit_at_or, bit_at_ones, bit_at-zero, bit_at-lt}
+use Rattle.std.specs.Int.{trailing_zeros}
+use Rattle.std.proofs.lemmas.Nat.{and_le_l}
+use Rattle.std.proofs.lemmas.Nat.Bits.{bit_at-trailing_zeros, bit_at_and, bit_at_mask_above, bit_at_mask_below}
 use Rattle.shred_plan.specs.Index.{is_in}
+use Rattle.shred_plan.specs.Seats.{HasTwoBits}
 
 -- a number is that of its word and its place in the word
 one-place : (x y : ℕ) → x / 64 ≡ y / 64 → x % 64 ≡ y % 64 → x ≡ y
@@ -173,3 +177,69 @@ united words firsts others i h room joined word bit = by (cases_eq word i)
         ap test (get_or-set_other words i word (bit_or (get_or words i 0) (get_or others i 0)) 0 ne)
         ∙ joined word bit
         ∙ ap (λ x. test (get_or firsts word 0) || test x) (same ne (cases_lt word i))
+
+-- two bits of a word, where it isn't empty without its lowest
+pub two-bits : (word : ℕ) → word < 2 ^ 64 → word ≢ 0 → bit_and word (bit_not w64 (1 * 2 ^ trailing_zeros w64 word % 2 ^ 64)) ≢ 0 → HasTwoBits word
+two-bits word fits some more = record {
+  low = low;
+  high = high;
+  apart = λ e. ones (bit_at rest low) (bit_at_clear_same w64 word low first.0) (ap (bit_at rest) e ∙ second.1);
+  is_low = first.1;
+  is_high = sym (bit_at_clear_other w64 word low first.0 high second.0 (λ e. ones (bit_at rest low) (bit_at_clear_same w64 word low first.0) (ap (bit_at rest) (sym e) ∙ second.1))) ∙ second.1;
+}
+  where
+    low : ℕ
+    low = trailing_zeros w64 word
+
+    rest : ℕ
+    rest = bit_and word (bit_not w64 (1 * 2 ^ low % 2 ^ 64))
+
+    high : ℕ
+    high = trailing_zeros w64 rest
+
+    first : (low < 64) × (bit_at word low ≡ 1) × ((i : ℕ) → i < low → bit_at word i ≡ 0)
+    first = bit_at-trailing_zeros w64 word (omega (arith, some)) fits
+
+    second : (high < 64) × (bit_at rest high ≡ 1) × ((i : ℕ) → i < high → bit_at rest i ≡ 0)
+    second = bit_at-trailing_zeros w64 rest (omega (arith, more)) (omega (arith, fits, and_le_l word (bit_not w64 (1 * 2 ^ low % 2 ^ 64))))
+
+    ones : (n : ℕ) → n ≡ 0 → n ≡ 1 → ⊥
+    ones n e f = absurd (omega (arith, e, f))
+
+-- the bits of a word that a mask leaves
+masked : (word low high bit : ℕ) → bit_at (bit_and word (2 ^ high - 2 ^ low)) bit ≡ 1 → (low ≤ bit) × (bit < high) × (bit_at word bit ≡ 1)
+masked word low high bit is =
+    let both = bit_at_and word (2 ^ high - 2 ^ low) bit in
+    let ours = bit_at-lt word bit in
+    let theirs = bit_at-lt (2 ^ high - 2 ^ low) bit in
+    (from (cases_lt bit low) (omega (arith, is, both, ours, theirs)), upto (cases_lt bit high) (omega (arith, is, both, ours, theirs)), omega (arith, is, both, ours, theirs))
+  where
+    from : (bit < low) ⊎ (low ≤ bit) → bit_at (2 ^ high - 2 ^ low) bit ≡ 1 → low ≤ bit
+    from (inl h) e = absurd (omega (arith, e, bit_at_mask_below low high bit h))
+    from (inr h) e = h
+
+    upto : (bit < high) ⊎ (high ≤ bit) → bit_at (2 ^ high - 2 ^ low) bit ≡ 1 → bit < high
+    upto (inl h) e = h
+    upto (inr h) e = absurd (omega (arith, e, bit_at_mask_above low high bit h))
+
+-- the bits that are left of a word by one of its four masks
+pub sixteen-of : (word stage bit : ℕ) → bit_at (bit_and word (get_or (65535 ∷ 4294901760 ∷ 281470681743360 ∷ 18446462598732840960 ∷ []) (stage % 4) 0)) bit ≡ 1
+    → (16 * (stage % 4) ≤ bit) × (bit < 16 * (stage % 4) + 16) × (bit_at word bit ≡ 1)
+sixteen-of word stage bit is = by (stage % 4) (omega arith) is
+  where
+    by : (k : ℕ) → k < 4 → bit_at (bit_and word (get_or (65535 ∷ 4294901760 ∷ 281470681743360 ∷ 18446462598732840960 ∷ []) k 0)) bit ≡ 1
+        → (16 * k ≤ bit) × (bit < 16 * k + 16) × (bit_at word bit ≡ 1)
+    by zero h e = masked word 0 16 bit e
+    by (suc zero) h e = masked word 16 32 bit e
+    by (suc (suc zero)) h e = masked word 32 48 bit e
+    by (suc (suc (suc zero))) h e = masked word 48 64 bit e
+    by (suc (suc (suc (suc k)))) h e = absurd (omega arith)
+
+-- a bit of a word is that of its number
+pub is_in-bit : (words : List ℕ) (word bit : ℕ) → bit < 64 → bit_at (get_or words word 0) bit ≡ 1 → is_in words (64 * word + bit) ≡ true
+is_in-bit words word bit small is =
+    let at : (64 * word + bit) / 64 ≡ word = omega arith in
+    let rest : (64 * word + bit) % 64 ≡ bit = omega arith in
+    ap (λ w. eqb (bit_at (get_or words w 0) ((64 * word + bit) % 64)) 1) at
+    ∙ ap (λ i. eqb (bit_at (get_or words word 0) i) 1) rest
+    ∙ ap (λ b. eqb b 1) is

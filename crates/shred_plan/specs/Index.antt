@@ -8,6 +8,7 @@ use Rattle.std.specs.declared.cmp.Ordering.{Ordering}
 use Rattle.std.specs.BTreeMap.{BTreeMap, get}
 use Rattle.shred_plan.specs.declared.stage.Way.{Way}
 use Rattle.shred_plan.specs.declared.stage_set.StageSet.{StageSet}
+use Rattle.shred_plan.specs.declared.id_table.IdTable.{IdTable}
 use Rattle.shred_plan.specs.Plan.{Placing, Stage, conflict, admitted, systems_of, plan_order, rest_after, longest, time_of}
 
 -- whether a stage is in a set that is kept in words
@@ -21,6 +22,10 @@ has_stage set stage = is_in set.words.items stage
 -- whether a table has a stage for an id
 abbrev pub has_for : {Id : Type 0} → (Id → Id → Ordering) → BTreeMap Id StageSet → Id → ℕ → Bool
 has_for cmp table id stage = option_map_or (λ set. has_stage set stage) (get cmp table id) false
+
+-- whether tables have a number for an id that a system reads and another writes, or that it writes and another uses
+abbrev pub finds : {Id : Type 0} → (Id → Id → Ordering) → IdTable Id → Placing Id → ℕ → Bool
+finds cmp table one number = list_any (λ id. has_for cmp table.writers id number) one.reads || list_any (λ id. has_for cmp table.users id number) one.writes
 
 -- whether a table says that a number stands in a stage before one
 abbrev pub stood_before : BTreeMap ℕ ℕ → ℕ → ℕ → Bool

@@ -1,20 +1,28 @@
 -- What ties an index to the stages of a plan. No public clause cites this file.
-use Rattle.std.specs.Prelude.{◌≡◌, ℕ, ◌^◌, ◌<◌, ◌≤◌, ◌==◌, nat_le, Bool, false, List, length, Option, Some, None}
+use Rattle.std.specs.Prelude.{◌≡◌, ℕ, ◌^◌, ◌<◌, ◌≤◌, ◌==◌, ◌&&◌, ◌||◌, nat_le, Bool, false, List, length, Option, Some, None}
 use Rattle.std.specs.List.{list_any}
 use Rattle.std.specs.Option.{MatchOption, option_map_or}
 use Rattle.std.specs.declared.cmp.Ordering.{Ordering}
+use Rattle.shred_plan.specs.declared.id_table.IdTable.{IdTable}
 use Rattle.shred_plan.specs.declared.index.Index.{Index}
 use Rattle.shred_plan.specs.declared.stage_set.StageSet.{StageSet}
 use Rattle.shred_plan.specs.declared.planner.Place.{Place}
 use Rattle.shred_plan.specs.Plan.{Placing, Stage, systems_of}
+use Rattle.shred_plan.specs.Seats.{KeepsSeats}
 use Rattle.shred_plan.specs.Index.{has_stage, has_for, stood_before, stage_at, stands_before, is_loose, is_blocked, rest_at, writes, uses, way_at, NoneAdmits}
 
+-- a table has one number more, for each id that a system writes, and for each that it uses
+pub record Marks {Id : Type 0} (cmp : Id → Id → Ordering) (same : Id → Id → Bool) (before after : IdTable Id) (one : Placing Id) (number : ℕ) : Type 0 where
+  pub writers : (id : Id) (at : ℕ) → has_for cmp after.writers id at ≡ (has_for cmp before.writers id at || ((number == at) && writes same one id))
+  pub users : (id : Id) (at : ℕ) → has_for cmp after.users id at ≡ (has_for cmp before.users id at || ((number == at) && uses same one id))
+
 -- the tables have the stages in which each id is written, and used, and the first of each number;
--- a stage that isn't among the loose ones lets no system join a group
+-- each seat is that of a group; a stage that isn't among the loose ones lets no system join a group
 pub record Keeps {Id : Type 0} (cmp : Id → Id → Ordering) (same : Id → Id → Bool) (index : Index Id) (stages : List (Stage Id)) : Type 0 where
-  pub writers : (id : Id) (place : ℕ) → has_for cmp index.writers id place ≡ list_any (λ one. writes same one id) (systems_of (stage_at stages place))
-  pub users : (id : Id) (place : ℕ) → has_for cmp index.users id place ≡ list_any (λ one. uses same one id) (systems_of (stage_at stages place))
+  pub writers : (id : Id) (place : ℕ) → has_for cmp index.stages.writers id place ≡ list_any (λ one. writes same one id) (systems_of (stage_at stages place))
+  pub users : (id : Id) (place : ℕ) → has_for cmp index.stages.users id place ≡ list_any (λ one. uses same one id) (systems_of (stage_at stages place))
   pub firsts : (number place : ℕ) → stood_before index.firsts.stages number place ≡ stands_before stages number place
+  pub seats : KeepsSeats cmp same index.seats stages
   pub loose : (place : ℕ) → has_stage index.loose place ≡ false → is_loose (stage_at stages place) ≡ false
 
 -- nothing is left of those that a system comes after from a stage on, or never

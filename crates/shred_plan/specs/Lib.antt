@@ -3,4 +3,5 @@ pub mod PlanText
 pub mod Places
 pub mod Laws
 pub mod Index
+pub mod Seats
 pub mod Kept

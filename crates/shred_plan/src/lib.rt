@@ -8,6 +8,7 @@
 mod adding;
 mod firsts;
 mod group;
+mod id_table;
 mod index;
 pub mod laws;
 mod planner;

@@ -1,16 +1,24 @@
 //! The plan of the systems that were added.
-ghost use Rattle.std.specs.Prelude.{◌≡◌, ◌==◌, ◌-◌, ◌≤◌, ◌<◌, ℕ, true, false, min, [], ◌∷◌, ◌++◌, length, map, nat_eq, OnOk, OnErr, IfOk, IfErr, if◌then◌else◌, Some, None};
+ghost use Rattle.std.specs.Prelude.{◌≡◌, ◌==◌, ◌-◌, ◌/◌, ◌%◌, ◌≤◌, ◌<◌, ℕ, true, false, min, [], ◌∷◌, ◌++◌, length, map, nat_eq, OnOk, OnErr, IfOk, IfErr, if◌then◌else◌, Some, None};
 ghost use Rattle.std.specs.List.{IsDistinct};
 ghost use Rattle.std.specs.Option.{IfSome};
 ghost use Rattle.shred_plan.specs.Plan.{Planning, added, fence, placing, placed, admitted, plan_order, most_groups};
 ghost use Rattle.shred_plan.specs.Places.{IsPlace, placed_at};
-ghost use Rattle.shred_plan.specs.Index.{stage_at, rest_at, is_loose, is_blocked};
+ghost use Rattle.shred_plan.specs.Index.{stage_at, rest_at, is_loose, is_blocked, way_at};
+ghost use Rattle.shred_plan.specs.Seats.{KeepsSeats, HitsSeats, group_of};
 
+use crate::id_table::IdTable;
 use crate::index::Index;
 use crate::stage_set::StageSet;
 use crate::{Adding, Stage, Way};
 use std::alloc::{AllocError, AllocFailed, Global};
 use std::marker::Model;
+
+/// How many seats a stage has.
+const SEATS: usize = 16;
+
+/// How many stages have seats.
+const SEATED_STAGES: usize = 65_536;
 
 /// A stage, and the way in which it takes a system in.
 #[derive(Clone, Copy)]
@@ -213,7 +221,8 @@ impl<K: Ord + Clone + Drop> Planner<K> {
         if start >= count {
             return Ok(None);
         }
-        Ok(self.place_from(index, &blocked, start, adding))
+        let found = self.place_from(index, &blocked, start, adding)?;
+        Ok(found)
     }
 
     /// The place of a system in the stage in which the last of those stand that it comes after, the one before a number of stages.
@@ -255,26 +264,26 @@ impl<K: Ord + Clone + Drop> Planner<K> {
         blocked: &StageSet,
         start: usize,
         adding: &Adding<K>,
-    ) -> Option<Place>
+    ) -> Result<Option<Place>, AllocError>
         requires keeps { Keeps K.cmp K.eq index.now self.now.stages }
         requires blocks { Blocks K.eq adding.now self.now.stages blocked.now }
         requires reached { self.now.first ≤ start }
         requires within { start ≤ length self.now.stages }
         requires ready { (place : ℕ) → start ≤ place → place < length self.now.stages → (length (rest_at adding.now self.now.stages place) == 0) ≡ true }
-        ensures { IsFirst K.eq self.now.first adding.now self.now.stages start (length self.now.stages) result }
+        ensures { IfOk result (λ place. IsFirst K.eq self.now.first adding.now self.now.stages start (length self.now.stages) place) }
     {
         let end = self.stages.len();
         let free = blocked.first_outside(start, end);
-        if let Some(place) = self.place_joined(index, start, free, adding) {
-            return Some(place);
+        if let Some(place) = self.place_joined(index, start, free, adding)? {
+            return Ok(Some(place));
         }
         if free >= end {
-            return None;
+            return Ok(None);
         }
-        Some(Place {
+        Ok(Some(Place {
             stage: free,
             way: Way::Alone,
-        })
+        }))
     }
 
     /// The place of a system in a group of one of some stages with each of which it conflicts, where those that it comes after
@@ -285,24 +294,45 @@ impl<K: Ord + Clone + Drop> Planner<K> {
         start: usize,
         end: usize,
         adding: &Adding<K>,
-    ) -> Option<Place>
+    ) -> Result<Option<Place>, AllocError>
         requires keeps { Keeps K.cmp K.eq index.now self.now.stages }
         requires reached { self.now.first ≤ start }
         requires order { start ≤ end }
         requires within { end ≤ length self.now.stages }
         requires blocked { (place : ℕ) → start ≤ place → place < end → is_blocked K.eq adding.now (stage_at self.now.stages place) ≡ true }
         requires ready { (place : ℕ) → start ≤ place → place < end → (length (rest_at adding.now self.now.stages place) == 0) ≡ true }
-        ensures { IsFirst K.eq self.now.first adding.now self.now.stages start end result }
+        ensures { IfOk result (λ place. IsFirst K.eq self.now.first adding.now self.now.stages start end place) }
     {
         let mut place = index.next_loose(start, end);
+        if place >= end {
+            return Ok(None);
+        }
+        let seats = index.hit(adding)?;
         while place < end {
-            let stage = &self.stages[place];
-            if let Some(way) = stage.joined_way(adding) {
-                return Some(Place { stage: place, way });
+            if let Some(way) = self.joined_way(&seats, place, adding) {
+                return Ok(Some(Place { stage: place, way }));
             }
             place = index.next_loose(place + 1, end);
         }
-        None
+        Ok(None)
+    }
+
+    /// The way in which a stage admits a system that conflicts with one of its systems, and comes after nothing that is left.
+    ///
+    /// It is looked into only where no two seats show that the system conflicts with two groups.
+    fn joined_way(&self, seats: &StageSet, place: usize, adding: &Adding<K>) -> Option<Way>
+        requires reached { self.now.first ≤ place }
+        requires within { place < length self.now.stages }
+        requires hits { HitsSeats K.eq adding.now self.now.stages seats.now }
+        requires blocked { is_blocked K.eq adding.now (stage_at self.now.stages place) ≡ true }
+        requires ready { (length (rest_at adding.now self.now.stages place) == 0) ≡ true }
+        ensures { way_at K.eq self.now.first adding.now self.now.stages place ≡ result }
+    {
+        if seats.has_two(place) {
+            return None;
+        }
+        let stage = &self.stages[place];
+        stage.joined_way(adding)
     }
 
     /// Takes the index out, and keeps in it that a system goes to a place; none where memory was refused to it.
@@ -316,6 +346,9 @@ impl<K: Ord + Clone + Drop> Planner<K> {
         if let Err(AllocError) = index.note(adding, stage) {
             return None;
         }
+        if let Err(AllocError) = self.note_seats(&mut index.seats, adding, place) {
+            return None;
+        }
         if !self.loosens(adding, place) {
             return Some(index);
         }
@@ -323,6 +356,63 @@ impl<K: Ord + Clone + Drop> Planner<K> {
             return None;
         }
         Some(index)
+    }
+
+    /// Marks the seat of a system that goes to a place, where its stage has two groups then, and those of the first group where
+    /// it opens the second.
+    ///
+    /// Errors: want of memory.
+    fn note_seats(
+        &self,
+        seats: &mut IdTable<K>,
+        adding: &Adding<K>,
+        place: Option<Place>,
+    ) -> Result<(), AllocError>
+        requires fits { IsPlace self.now.stages place }
+        requires keeps { KeepsSeats K.cmp K.eq seats.old self.now.stages }
+        ensures { OnOk result (KeepsSeats K.cmp K.eq seats.new (placed_at adding.now self.now.stages place)) }
+    {
+        let Some(place) = place else {
+            return Ok(());
+        };
+        let count = self.stages[place.stage].len();
+        let group = self.group_of(place);
+        if place.stage >= SEATED_STAGES || count == 1 && group == 0 {
+            return Ok(());
+        }
+        self.note_first(seats, place.stage)?;
+        seats.mark(adding, seat_of(place.stage, group))?;
+        Ok(())
+    }
+
+    /// The place of the group in which a system stands once it has been taken in.
+    fn group_of(&self, place: Place) -> usize
+        requires { place.stage < length self.now.stages }
+        ensures { result ≡ group_of (stage_at self.now.stages place.stage) place.way }
+    {
+        match place.way {
+            Way::Alone => self.stages[place.stage].len(),
+            Way::Behind(group) => group,
+        }
+    }
+
+    /// Marks the seats of the systems of the group of a stage, if it has no other.
+    ///
+    /// Errors: want of memory.
+    fn note_first(&self, seats: &mut IdTable<K>, stage: usize) -> Result<(), AllocError>
+        requires few { stage < 65536 }
+        requires within { stage < length self.now.stages }
+        requires keeps { KeepsSeats K.cmp K.eq seats.old self.now.stages }
+        ensures { OnOk result (KeepsSeats K.cmp K.eq seats.new self.now.stages) }
+    {
+        let groups = self.stages[stage].groups();
+        if groups.len() != 1 {
+            return Ok(());
+        }
+        for system in groups[0].systems() {
+            seats.mark(system, seat_of(stage, 0))?;
+        }
+        Ok(())
     }
 
     /// The stage of a place.
@@ -407,6 +497,15 @@ impl<K: Ord + Clone + Drop> Planner<K> {
         self.stages.push_reserved(stage);
         Ok(())
     }
+}
+
+/// The seat of a group at a place of a stage.
+fn seat_of(stage: usize, place: usize) -> usize
+    requires { stage < 65536 }
+    ensures stage { result / 16 ≡ stage }
+    ensures place { result % 16 ≡ place % 16 }
+{
+    SEATS * stage + place % SEATS
 }
 
 /// Whether no number of a list stands in it twice.

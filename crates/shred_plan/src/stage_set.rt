@@ -1,12 +1,16 @@
 //! Sets of stages, one bit a stage.
-ghost use Rattle.std.specs.Prelude.{◌≡◌, ℕ, ◌/◌, ◌<◌, ◌≤◌, ◌==◌, ◌||◌, ◌&&◌, not, true, false, length, slice_index, OnOk};
+ghost use Rattle.std.specs.Prelude.{◌≡◌, ℕ, ◌+◌, ◌*◌, ◌/◌, ◌<◌, ◌≤◌, ◌==◌, ◌||◌, ◌&&◌, not, true, false, length, slice_index, OnOk};
+ghost use Rattle.std.specs.Int.{bit_at};
 
 use std::alloc::{AllocError, Global};
 
 /// How many stages a word has.
 const WORD_STAGES: usize = 64;
 
-/// A set of stages, in words of 64 bits.
+/// The bits of each sixteen numbers of a word.
+const SIXTEENS: [u64; 4] = [0xFFFF, 0xFFFF_0000, 0xFFFF_0000_0000, 0xFFFF_0000_0000_0000];
+
+/// A set of stages, or of other numbers, in words of 64 bits.
 #[derive(Drop)]
 pub(crate) struct StageSet {
     words: Vec<u64>,
@@ -14,6 +18,7 @@ pub(crate) struct StageSet {
 
 impl StageSet {
     ghost use Rattle.shred_plan.specs.Index.{is_in, has_stage};
+    ghost use Rattle.shred_plan.specs.Seats.{HasTwo};
 
     /// A set without stages, which takes no memory.
     pub(crate) fn new(alloc: Global) -> StageSet
@@ -40,6 +45,21 @@ impl StageSet {
         } else {
             0
         }
+    }
+
+    /// Whether two of the sixteen numbers of a stage are in the set.
+    pub(crate) fn has_two(&self, stage: usize) -> bool
+        ensures { result ≡ true → HasTwo self.now stage }
+    {
+        has_two_bits(self.sixteen(stage))
+    }
+
+    /// The bits of the sixteen numbers of a stage, where they stand in their word.
+    fn sixteen(&self, stage: usize) -> u64
+        ensures of { (bit : ℕ) → bit_at result bit ≡ 1 → (64 * (stage / 4) + bit) / 16 ≡ stage }
+        ensures is_in { (bit : ℕ) → bit_at result bit ≡ 1 → has_stage self.now (64 * (stage / 4) + bit) ≡ true }
+    {
+        self.word(stage / 4) & SIXTEENS[stage % 4]
     }
 
     /// Puts a stage in.
@@ -129,4 +149,17 @@ impl StageSet {
         }
         end
     }
+}
+
+ghost use Rattle.shred_plan.specs.Seats.{HasTwoBits};
+
+/// Whether a word has two bits.
+fn has_two_bits(word: u64) -> bool
+    ensures { result ≡ true → HasTwoBits word }
+{
+    if word == 0 {
+        return false;
+    }
+    let low = word.trailing_zeros();
+    word & !(1 << low) != 0
 }

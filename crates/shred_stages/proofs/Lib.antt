@@ -22,3 +22,4 @@ pub mod NeighbourLemmas
 pub mod WholeLemmas
 pub mod TurnLemmas
 pub mod LiftLemmas
+pub mod SingleLemmas

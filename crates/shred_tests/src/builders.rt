@@ -421,6 +421,22 @@ fn adds_are_refused_by_name(rt: HostRuntime) {
     assert_eq!(rt; named(rt.alloc()), (None, 1));
 }
 
+/// How many systems are taken, and why the next isn't.
+fn filled(alloc: Global) -> (u32, Option<AddError>) {
+    let mut builder: Builder<Worker> = new_builder(alloc);
+    for taken in 0..70_000 {
+        if let Err(error) = add_system(&mut builder, average(IDLE), "", &[]) {
+            return (taken, Some(error));
+        }
+    }
+    (70_000, None)
+}
+
+#[test]
+fn no_more_systems_are_taken_than_have_numbers(rt: HostRuntime) {
+    assert_eq!(rt; filled(rt.alloc()), (65_536, Some(AddError::SystemsFull)));
+}
+
 /// A builder of three systems and a number of workers, and whether all were taken.
 pub(crate) fn builder_of_three<
     S: System<Value> + Drop,

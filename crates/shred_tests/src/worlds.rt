@@ -1,6 +1,6 @@
 //! Calls on a world, one after another: each succeeds where there is memory, and reaches the value that it names.
 use crate::bundles::first_wanting;
-use crate::values::{Number, Score, Speed, Value, count_in, number_under};
+use crate::values::{Number, Score, Speed, Value, count_in, number_under, raised};
 use shred_world::{Read, ReadExpect, SystemData, World, Write};
 use std::alloc::Global;
 use std::sync::atomic::AtomicU64;
@@ -30,6 +30,10 @@ enum Call {
     /// The number, and then how often one was made, as digits.
     OrInsertWith,
     TakeAndPutBack(u64),
+    /// The sum of the number and of one under another dynamic number, which are exchanged.
+    Exchange(u64),
+    /// A number under another dynamic number, which is added to the number.
+    AddUnder(u64),
     Remove,
     RemoveUnder(u64),
     SetUp,
@@ -39,7 +43,7 @@ enum Call {
 }
 
 /// The calls in their order, with their answers.
-static CALLS: [(Call, Option<u64>); 55] = [
+static CALLS: [(Call, Option<u64>); 64] = [
     (Call::Has, None),
     (Call::TryFetch, None),
     (Call::Fetch, None),
@@ -65,6 +69,15 @@ static CALLS: [(Call, Option<u64>); 55] = [
     (Call::TryFetchMut(11), Some(10)),
     (Call::TryFetchMutUnder(5, 12), Some(9)),
     (Call::TryFetchMutUnder(6, 1), None),
+    (Call::Exchange(5), Some(23)),
+    (Call::TryFetch, Some(12)),
+    (Call::TryFetchUnder(5), Some(11)),
+    (Call::Exchange(6), None),
+    (Call::Exchange(5), Some(23)),
+    (Call::AddUnder(5), Some(12)),
+    (Call::TryFetch, Some(23)),
+    (Call::AddUnder(6), None),
+    (Call::FetchMut(11), Some(23)),
     (Call::LeastFrom(0), Some(0)),
     (Call::LeastFrom(1), Some(5)),
     (Call::LeastFrom(6), None),
@@ -212,6 +225,36 @@ fn take_and_put_back(world: &mut World<Value>, dynamic: u64) -> Option<u64> {
     }
 }
 
+/// Exchanges the number with the one under another dynamic number, and tells their sum.
+fn exchange(world: &mut World<Value>, dynamic: u64) -> Option<u64> {
+    let one = number_under(0);
+    let other = number_under(dynamic);
+    if one == other {
+        return None;
+    }
+    world.change_two(one, other, |first: &mut Value, second: &mut Value| {
+        let sum = count_in(first).wrapping_add(count_in(second));
+        let was = *first;
+        *first = *second;
+        *second = was;
+        sum
+    })
+}
+
+/// Adds the number under another dynamic number to the number, and tells what was added.
+fn add_under(world: &mut World<Value>, dynamic: u64) -> Option<u64> {
+    let one = number_under(0);
+    let other = number_under(dynamic);
+    if other == one {
+        return None;
+    }
+    world.change_by(other, one, |seen: &Value, value: &mut Value| {
+        let amount = count_in(seen);
+        *value = raised(*value, amount);
+        amount
+    })
+}
+
 /// Takes one off the number, which is set up as 0.
 fn take_one_off(world: &mut World<Value>) -> Option<u64> {
     let left = world.exec(|mut number: Write<Number>, world: &mut World<Value>| {
@@ -252,6 +295,8 @@ fn answer(world: &mut World<Value>, call: &Call) -> Option<u64> {
         Call::OrInsert(count) => raise(world, *count),
         Call::OrInsertWith => from_two(world),
         Call::TakeAndPutBack(dynamic) => take_and_put_back(world, *dynamic),
+        Call::Exchange(dynamic) => exchange(world, *dynamic),
+        Call::AddUnder(dynamic) => add_under(world, *dynamic),
         Call::Remove => Some(world.remove::<Number>()?.0),
         Call::RemoveUnder(dynamic) => Some(world.remove_by_id::<Number>(number_under(*dynamic))?.0),
         Call::SetUp => yes(

@@ -1,5 +1,5 @@
 -- Facts on the slots of a world: what a list of them makes.
-use Rattle.std.proofs.Common.{◌≡◌, Bool, true, false, cond, Option, None, Some, List, [], ◌∷◌, OnSome, IfSome, IfNone, IsSome, MutBor, MatchOption, is_some, unwrap_or, refl, sym, ap, subst, ◌∙◌}
+use Rattle.std.proofs.Common.{◌≡◌, ◌≢◌, Bool, true, false, cond, Option, None, Some, List, [], ◌∷◌, OnSome, IfSome, IfNone, IsSome, MutBor, MatchOption, is_some, unwrap_or, refl, sym, ap, subst, ◌∙◌}
 use Rattle.std.proofs.lemmas.Bool.{false≢true}
 use Rattle.std.specs.Map.{lookup}
 use Rattle.std.specs.Option.{option_copied_mut, option_flatten, option_and_then}
@@ -165,3 +165,44 @@ module _ {V R : Type 0} (part : V → Option R) (wrapped : R → V) (seen : (r :
       let made = made_at w n id Made kind e in
       let same : made.0 ≡ x = some_is _ _ (sym made.1 ∙ sym is) in
       subst (λ r. MatchOption (resource_at part w id) (Made r) (λ there. r ≡ there)) same made.2
+
+-- the slot of an id is as it was, whatever is put at another
+pub get-insert_apart : {X : Type 0} (w : FinMap id_cmp X) (id other : ResourceId) (x : X) → id ≢ other → get (insert w other x) id ≡ get w id
+get-insert_apart w id other x apart = get-insert ids_total w other x id ∙ by (same_id id other) refl
+  where
+    by : (b : Bool) → same_id id other ≡ b → cond b (Some x) (get w id) ≡ get w id
+    by true same = absurd (apart (same_id-is id other same))
+    by false same = refl
+
+-- two values that were out for a while, and came back
+pub both-back : {X : Type 0} (w : FinMap id_cmp X) (one other : ResourceId) (left gone x y : X)
+    → insert (insert (insert (insert w one left) other gone) one x) other y ≡ insert (insert w one x) other y
+both-back w one other left gone x y = same_map ids_total exact_ids _ _ (λ q.
+    get-insert ids_total (insert (insert (insert w one left) other gone) one x) other y q
+    ∙ ap (cond (same_id q other) (Some y)) (get-insert ids_total (insert (insert w one left) other gone) one x q
+    ∙ ap (cond (same_id q one) (Some x)) (get-insert ids_total (insert w one left) other gone q ∙ ap (cond (same_id q other) (Some gone)) (get-insert ids_total w one left q)))
+    ∙ by (same_id q one) (same_id q other) (get w q)
+    ∙ sym (get-insert ids_total (insert w one x) other y q ∙ ap (cond (same_id q other) (Some y)) (get-insert ids_total w one x q)))
+  where
+    by : (a b : Bool) (was : Option _) → cond b (Some y) (cond a (Some x) (cond b (Some gone) (cond a (Some left) was))) ≡ cond b (Some y) (cond a (Some x) was)
+    by true true was = refl
+    by false true was = refl
+    by true false was = refl
+    by false false was = refl
+
+-- the same of worlds, one after the other
+pub two-came-back : {V : Type 0} (w w1 w2 w3 w4 : Slots V) (one other : ResourceId) (x y : V) → w1 ≡ insert w one None → w2 ≡ insert w1 other None → w3 ≡ insert w2 one (Some x) → w4 ≡ insert w3 other (Some y)
+    → w4 ≡ insert (insert w one (Some x)) other (Some y)
+two-came-back w w1 w2 w3 w4 one other x y e1 e2 e3 e4 =
+    e4 ∙ ap (λ m. insert m other (Some y)) (e3 ∙ ap (λ m. insert m one (Some x)) (e2 ∙ ap (λ m. insert m other None) e1)) ∙ both-back w one other None None (Some x) (Some y)
+
+pub one-came-back : {V : Type 0} (w w1 w2 : Slots V) (id : ResourceId) (x : V) → w1 ≡ insert w id None → w2 ≡ insert w1 id (Some x) → w2 ≡ insert w id (Some x)
+one-came-back w w1 w2 id x e1 e2 = e2 ∙ ap (λ m. insert m id (Some x)) e1 ∙ insert-insert w id None (Some x)
+
+-- a value is seen as it was, where another is out
+pub value-apart : {V : Type 0} (w w1 : Slots V) (id other : ResourceId) → w1 ≡ insert w other None → id ≢ other → value_at w1 id ≡ value_at w id
+value-apart w w1 id other out apart = ap (λ m. value_at m id) out ∙ ap option_flatten (get-insert_apart w id other None apart)
+
+-- a slot is empty, where a value was put at another since
+pub empty-apart : {V : Type 0} (w w1 w2 : Slots V) (id other : ResourceId) (x : Option V) → w1 ≡ insert w id None → w2 ≡ insert w1 other x → id ≢ other → get w2 id ≡ Some None
+empty-apart w w1 w2 id other x e1 e2 apart = ap (λ m. get m id) e2 ∙ get-insert_apart w1 id other x apart ∙ ap (λ m. get m id) e1 ∙ get-insert_here w id None

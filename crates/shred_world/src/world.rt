@@ -1,11 +1,11 @@
 //! A finite map from resource ids to values.
-ghost use Rattle.std.specs.Prelude.{◌≡◌, OnOk, OnErr, IfOk, IfErr, Some, None, option_copied, is_some, IsSome, IfSome, IfNone, OnSome, unwrap_or, ℕ, MatchOption, min, is_ok};
+ghost use Rattle.std.specs.Prelude.{◌≡◌, ◌≢◌, ◌&&◌, OnOk, OnErr, IfOk, IfErr, Some, None, option_copied, is_some, IsSome, IfSome, IfNone, OnSome, unwrap_or, ℕ, MatchOption, min, is_ok};
 ghost use Rattle.std.specs.Option.{option_copied_mut, option_map_or};
 ghost use Rattle.std.specs.Borrow.{sem};
 ghost use Rattle.std.specs.FinMap as map;
 ghost use Rattle.shred_world.specs.Worlds.{value_at, resource_at, HasKind, IsLeastFrom};
 ghost use Rattle.shred_world.specs.Bundles.{holding_of, DefaultsTo};
-ghost use Rattle.shred_world.specs.Execs.{CallsWithBundle, CallableWithBundle, IsExecError};
+ghost use Rattle.shred_world.specs.Execs.{ChangesTwo, ChangesBy, CallsWithBundle, CallableWithBundle, IsExecError};
 ghost use Rattle.shred_world.specs.ResourceIds.{id_of};
 ghost use Rattle.shred_world.specs.Places.{AreSorted, IsPlaceOf, IsGapFor};
 ghost use Rattle.shred_world.specs.Lending.{LendsSlot, LendsValue, LendsResource, LendsPresent, LendsInserted};
@@ -210,6 +210,66 @@ impl<V> World<V> {
         ensures value { option_copied_mut result ≡ value_at self.old id }
     {
         self.slot_mut(id)?.as_mut()
+    }
+
+    /// Lends the values under two ids to `change` at once, both for writing, where both are there; else `change` isn't called.
+    ///
+    /// They are out of the world for the while, and come back as they were left; it takes no memory.
+    pub fn change_two<T, F: FnOnce(&mut V, &mut V) -> T + Drop>(
+        &mut self,
+        one: ResourceId,
+        other: ResourceId,
+        change: F,
+    ) -> Option<T>
+        requires apart { one ≢ other }
+        requires callable { F.IsAlwaysCallable change }
+        ensures changed { IfSome result (λ answer. ChangesTwo (F.post change) self.old one other self.new answer) }
+        ensures none { IfNone result (self.new ≡ self.old) }
+        ensures both { is_some result ≡ (is_some (value_at self.old one) && is_some (value_at self.old other)) }
+    {
+        if !self.has_value_raw(one) || !self.has_value_raw(other) {
+            return None;
+        }
+        let Some(mut first) = self.take_raw(one) else {
+            unreachable!()
+        };
+        let Some(mut second) = self.take_raw(other) else {
+            unreachable!()
+        };
+        let answer = change(&mut first, &mut second);
+        self.put_back(one, first);
+        self.put_back(other, second);
+        Some(answer)
+    }
+
+    /// Lends the values under two ids to `change` at once, the first for reading and the second for writing, where both are there; else
+    /// `change` isn't called.
+    ///
+    /// The second is out of the world for the while, and comes back as it was left; it takes no memory.
+    pub fn change_by<T, F: FnOnce(&V, &mut V) -> T + Drop>(
+        &mut self,
+        read: ResourceId,
+        written: ResourceId,
+        change: F,
+    ) -> Option<T>
+        requires apart { read ≢ written }
+        requires callable { F.IsAlwaysCallable change }
+        ensures changed { IfSome result (λ answer. ChangesBy (F.post change) self.old read written self.new answer) }
+        ensures none { IfNone result (self.new ≡ self.old) }
+        ensures both { is_some result ≡ (is_some (value_at self.old read) && is_some (value_at self.old written)) }
+    {
+        if !self.has_value_raw(read) || !self.has_value_raw(written) {
+            return None;
+        }
+        let Some(mut value) = self.take_raw(written) else {
+            unreachable!()
+        };
+        let answer = match self.get_raw(read) {
+            Some(seen) => change(seen, &mut value),
+            None => unreachable!(),
+        };
+        self.put_back(written, value);
+        Some(answer)
     }
 
     /// Takes the value under `id` out for a while; its slot stays.

@@ -1,6 +1,6 @@
 //! Sets of changes of parts.
 ghost use Rattle.std.specs.Prelude.{◌≡◌, IsSome, None, Some, OnOk, OnErr, IfErr};
-ghost use Rattle.std.specs.Iterator.{IsFinite};
+ghost use Rattle.std.specs.Iterator.{IsFiniteIterable};
 ghost use Rattle.specs_layouts.specs.Parts.{Puts, SameParts, HasNone};
 ghost use Rattle.specs_changes.specs.Changes.{change_at, with_change, FitsChange, Adds, RefusesChange, Extends, Makes};
 
@@ -88,7 +88,8 @@ impl<T: Accumulate + Drop> ChangeSet<T> {
     /// Adds a change to the one that an index has.
     fn add_to(&mut self, id: Index, value: T) -> Result<(), Overflow>
         requires { IsSome (change_at self.old id) }
-        ensures ok { OnOk result (Puts (change_at self.old) id (Some (with_change T.sum (change_at self.old id) value)) (change_at self.new)) }
+        ensures ok { OnOk result (Puts (change_at self.old) id
+            (Some (with_change T.sum (change_at self.old id) value)) (change_at self.new)) }
         ensures fits { OnOk result (FitsChange T.fits (change_at self.old id) value) }
         ensures err { OnErr result (SameParts (change_at self.old) (change_at self.new)) }
         ensures overflow { OnErr result (¬ (FitsChange T.fits (change_at self.old id) value)) }
@@ -130,8 +131,9 @@ impl<T: Accumulate + Drop> ChangeSet<T> {
         &mut self,
         pairs: U,
     ) -> Result<(), ChangeError>
-        requires { (it : U.IntoIter) → U.into_iter_gives pairs it → U.IntoIter.can_next it × IsFinite (U.IntoIter.remaining it) }
-        ensures { Extends T.sum T.fits U.into_iter_gives U.IntoIter.next_gives pairs (change_at self.old) (change_at self.new) result }
+        requires { IsFiniteIterable U.into_iter_gives U.IntoIter.can_next U.IntoIter.remaining pairs }
+        ensures { Extends T.sum T.fits U.into_iter_gives U.IntoIter.next_gives pairs (change_at self.old)
+            (change_at self.new) result }
     {
         for (entity, value) in pairs {
             self.add(entity, value)?;
@@ -146,7 +148,7 @@ impl<T: Accumulate + Drop> ChangeSet<T> {
         alloc: Global,
         pairs: U,
     ) -> Result<ChangeSet<T>, ChangeError>
-        requires { (it : U.IntoIter) → U.into_iter_gives pairs it → U.IntoIter.can_next it × IsFinite (U.IntoIter.remaining it) }
+        requires { IsFiniteIterable U.into_iter_gives U.IntoIter.can_next U.IntoIter.remaining pairs }
         ensures { Makes T.sum T.fits U.into_iter_gives U.IntoIter.next_gives change_at pairs result }
     {
         let mut changes = ChangeSet::new(alloc);

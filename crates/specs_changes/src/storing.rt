@@ -3,17 +3,31 @@ ghost use Rattle.std.specs.Prelude.{◌≡◌, false, ◌∷◌, [], length, IsO
 ghost use Rattle.hibitset_sets.specs.BitSet.{has_member};
 ghost use Rattle.hibitset_sets.specs.Walk.{walk, IsPlaced};
 ghost use Rattle.specs_join.specs.Joins.{values_at};
-ghost use Rattle.specs_layouts.specs.Parts.{SameParts};
+ghost use Rattle.specs_layouts.specs.MaskedChanges.{KeepsParts};
 ghost use Rattle.specs_changes.specs.Storing.{all_told, left_at};
 
-use hibitset::{BitIter, BitSet, BitSetLike, Index, Uncounted};
+use hibitset::{BitIter, BitSet, BitSetLike, Index, Uncounted, take_in_word};
 use specs_layouts::{Component, MaskedStorage};
 use std::alloc::AllocError;
 
 /// Goes on to the next index of a walk over a set.
 fn next_index(set: &BitSet, masks: &mut [u64; 4], prefix: &mut [u32; 3]) -> Option<Index>
     requires { IsPlaced masks.old prefix.old }
-    ensures item { MatchOption result (left_at set.now masks.old prefix.old ≡ []) (λ index. left_at set.now masks.old prefix.old ≡ index ∷ left_at set.now masks.new prefix.new) }
+    ensures item { MatchOption result (left_at set.now masks.old prefix.old ≡ [])
+        (λ index. left_at set.now masks.old prefix.old ≡ index ∷ left_at set.now masks.new prefix.new) }
+    ensures placed { IsPlaced masks.new prefix.new }
+{
+    if masks[0] != 0 {
+        return Some(take_in_word(masks, prefix));
+    }
+    search(set, masks, prefix)
+}
+
+/// `next_index` by a step of a walk, which looks for the next word.
+fn search(set: &BitSet, masks: &mut [u64; 4], prefix: &mut [u32; 3]) -> Option<Index>
+    requires { IsPlaced masks.old prefix.old }
+    ensures item { MatchOption result (left_at set.now masks.old prefix.old ≡ [])
+        (λ index. left_at set.now masks.old prefix.old ≡ index ∷ left_at set.now masks.new prefix.new) }
     ensures placed { IsPlaced masks.new prefix.new }
 {
     let mut walk = BitIter::new(set, *masks, *prefix);
@@ -36,12 +50,15 @@ pub fn store_all<T: Component>(
 ) -> Result<(), AllocError>
     requires { length values.items ≡ length (walk (has_member storage.old.mask)) }
     ensures mask { storage.new.mask ≡ storage.old.mask }
-    ensures ok { OnOk result (values_at (T.Storage.part_at storage.new.inner) (walk (has_member storage.old.mask)) ≡ values.items) }
-    ensures err { OnErr result (SameParts (T.Storage.part_at storage.old.inner) (T.Storage.part_at storage.new.inner)) }
+    ensures ok { OnOk result (
+        values_at (T.Storage.part_at storage.new.inner) (walk (has_member storage.old.mask)) ≡ values.items) }
+    ensures err { OnErr result (KeepsParts T.Storage.part_at storage.old storage.new) }
     ensures succeeds { T.Storage.emits storage.old.inner ≡ false → IsOk result }
 
     // One event tells of each part that was lent, and a refusal writes none.
-    ensures events { OnOk result (T.Storage.events storage.new.inner ≡ all_told (T.Storage.emits storage.old.inner) (T.Storage.events storage.old.inner) (walk (has_member storage.old.mask))) }
+    ensures events { OnOk result (T.Storage.events storage.new.inner
+        ≡ all_told (T.Storage.emits storage.old.inner) (T.Storage.events storage.old.inner)
+        (walk (has_member storage.old.mask))) }
     ensures silent { OnErr result (T.Storage.events storage.new.inner ≡ T.Storage.events storage.old.inner) }
     ensures emission { T.Storage.emits storage.new.inner ≡ T.Storage.emits storage.old.inner }
 {

@@ -6,8 +6,7 @@ use Rattle.std.specs.Ordering.{nat_cmp}
 use Rattle.std.specs.List.{All, AllByRecursion, IsDistinct, range_with_len}
 use Rattle.std.proofs.lemmas.List.Elements.{All-map, All-weaker, filter_passes}
 use Rattle.hibitset_sets.specs.Walk.{walk, is_pending}
-use Rattle.hibitset_sets.proofs.CallerLemmas.{contains-without}
-use Rattle.hibitset_sets.proofs.TakeLemmas.{walk-without}
+use Rattle.hibitset_sets.proofs.CallerLemmas.{contains-without, walk-without}
 use Rattle.specs_entity.specs.Life.{Life, LifeAt, first_life}
 use Rattle.specs_entity.specs.Births.{Births, CanKill, all_deleted, entity_at, indices_of, living, persistent_at}
 use Rattle.specs_entity.specs.Layout.{AreBirths}

@@ -51,6 +51,14 @@ living_of is_fresh last = if is_fresh then Some (next_life last) else alive_of l
 abbrev pub living_in : List (Option Life) → set.FinSet nat_cmp → ℕ → Option Life
 living_in persistent fresh index = living_of (set.contains fresh index) (slice_index_or persistent index None)
 
+-- at each index with a fresh birth the last persistent one is dead
+abbrev pub AreDead : List (Option Life) → set.FinSet nat_cmp → Type 0
+AreDead persistent fresh = (index : ℕ) → set.contains fresh index ≡ true → alive_of (slice_index_or persistent index None) ≡ None
+
+-- at each index with a fresh birth a number is left for it
+abbrev pub AreNumbered : List (Option Life) → set.FinSet nat_cmp → Type 0
+AreNumbered persistent fresh = (index : ℕ) → set.contains fresh index ≡ true → number_of (slice_index_or persistent index None) < 2147483647
+
 -- the last persistent birth of an index
 abbrev pub persistent_at : Births → ℕ → Option Life
 persistent_at births index = slice_index_or births.persistent index None
@@ -185,6 +193,10 @@ indices_of entities = map (λ entity. entity.id) entities
 pub record CanKill (lives : ℕ → Option Life) (entities : List Entity) : Type 0 where
   pub alive : All (λ entity. lives entity.id ≡ Some entity.generation) entities
   pub apart : IsDistinct (λ one other. one == other) (indices_of entities)
+
+-- each index of a set is that of an entity of a list
+abbrev pub AreIndicesOf : List Entity → set.FinSet nat_cmp → Type 0
+AreIndicesOf entities marked = (index : ℕ) → set.contains marked index ≡ true → list_any (λ other. index == other) (indices_of entities) ≡ true
 
 -- the entities before a place can be killed, and the one there isn't alive, or is named before
 pub record IsFirstFault (lives : ℕ → Option Life) (entities : List Entity) (place : ℕ) : Type 0 where

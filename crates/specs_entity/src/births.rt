@@ -1,5 +1,6 @@
 //! Births and deaths, one at a time.
-ghost use Rattle.std.specs.Prelude.{◌≡◌, ◌≢◌, ℕ, ◌+◌, ◌<◌, ◌≤◌, ◌↔◌, IsOk, OnOk, OnErr, IfOk, IfErr, IsErrOf, None, Some, [], length, true};
+ghost use Rattle.std.specs.Prelude.{◌≡◌, ◌≢◌, ℕ, ◌+◌, ◌<◌, ◌≤◌, ◌↔◌, IsOk, OnOk, OnErr, IfOk, IfErr, IsErrOf, None};
+ghost use Rattle.std.specs.Prelude.{Some, [], length, true};
 ghost use Rattle.std.specs.FinSet as set;
 
 use crate::entities_res::EntitiesRes;
@@ -13,7 +14,10 @@ use std::alloc::AllocError;
 const FIRST_ROOM: usize = 32;
 
 impl EntitiesRes {
-    ghost use Rattle.specs_entity.specs.Births.{IsBorn, Continues, newborn, next_index, IndicesAreSpent, GenerationsAreSpent, RefusesBirth, with_next_taken, allocated, created, deleted, buried, settled, living, IsAlive, wrong_generation, number_of, persistent_at};
+    ghost use Rattle.specs_entity.specs.Births.{IsBorn, Continues, newborn, next_index, IndicesAreSpent};
+    ghost use Rattle.specs_entity.specs.Births.{GenerationsAreSpent, RefusesBirth, with_next_taken, allocated};
+    ghost use Rattle.specs_entity.specs.Births.{created, deleted, buried, settled, living, IsAlive};
+    ghost use Rattle.specs_entity.specs.Births.{wrong_generation, number_of, persistent_at};
     ghost use Rattle.specs_entity.specs.Layout.{IsFree};
     ghost use Rattle.specs_entity.specs.declared.errors.Error.TheVariants as refusal;
 
@@ -95,7 +99,8 @@ impl EntitiesRes {
         requires { IndicesAreSpent self.old → ⊥ }
         ensures ok { OnOk result (self.new ≡ with_next_taken self.old) }
         ensures free { OnOk result (IsFree self.new (next_index self.old)) }
-        ensures same { OnOk result (persistent_at self.new (next_index self.old) ≡ persistent_at self.old (next_index self.old)) }
+        ensures same { OnOk result (persistent_at self.new (next_index self.old)
+            ≡ persistent_at self.old (next_index self.old)) }
         ensures succeeds { self.old.cache ≢ [] → IsOk result }
         ensures err { OnErr result (self.new ≡ self.old) }
     {

@@ -46,7 +46,8 @@ impl Drop for EntityResBuilder<'_> {
 
 impl EntitiesRes {
     ghost use Rattle.std.specs.Borrow.{sem};
-    ghost use Rattle.specs_entity.specs.Births.{newborn, created, IsBorn, IsAlive, Continues, IndicesAreSpent, GenerationsAreSpent, RefusesBirth};
+    ghost use Rattle.specs_entity.specs.Births.{newborn, created, IsBorn, IsAlive, Continues, IndicesAreSpent};
+    ghost use Rattle.specs_entity.specs.Births.{GenerationsAreSpent, RefusesBirth};
     ghost use Rattle.specs_entity.specs.Building.{rests_if_refused};
     ghost use Rattle.specs_entity.specs.declared.errors.Error.TheVariants as refusal;
 

@@ -45,7 +45,8 @@ impl Iterator for CreateIter {
 }
 
 impl EntitiesRes {
-    ghost use Rattle.specs_entity.specs.Births.{AreNew, Continues, all_created, newborns, CanCreate, RefusesBirth, RefusesBirths};
+    ghost use Rattle.specs_entity.specs.Births.{AreNew, Continues, all_created, newborns, CanCreate, RefusesBirth};
+    ghost use Rattle.specs_entity.specs.Births.{RefusesBirths};
     ghost use Rattle.specs_entity.specs.Layout.{IsCreated, AreMade};
 
     /// Creates so many entities, or none: each is alive at once, and its birth is persistent after the

@@ -1,9 +1,11 @@
 //! Deaths: lists of entities that die at once, and merges.
-ghost use Rattle.std.specs.Prelude.{◌≡◌, ◌≢◌, ◌==◌, ℕ, ◌+◌, ◌<◌, ◌≤◌, ◌↔◌, IsOk, OnOk, OnErr, IfOk, IfErr, IfSome, IsErrOf, MatchOption, None, Some, [], ◌∷◌, length, true, slice_index_or};
+ghost use Rattle.std.specs.Prelude.{◌≡◌, ◌≢◌, ◌==◌, ℕ, ◌+◌, ◌<◌, ◌≤◌, ◌↔◌, IsOk, OnOk, OnErr, IfOk, IfErr, IfSome};
+ghost use Rattle.std.specs.Prelude.{IsErrOf, MatchOption, None, Some, [], ◌∷◌, length, true, slice_index_or};
 ghost use Rattle.std.specs.List.{list_any};
 ghost use Rattle.std.specs.FinSet as set;
 ghost use Rattle.hibitset_sets.specs.Walk.{walk};
-ghost use Rattle.specs_entity.specs.Births.{alive_of, number_of, living_in, indices_of, CanKill, IsFirstFault};
+ghost use Rattle.specs_entity.specs.Births.{living_in, indices_of, AreDead, AreIndicesOf, AreNumbered, CanKill};
+ghost use Rattle.specs_entity.specs.Births.{IsFirstFault};
 
 use crate::emptying::Emptying;
 use crate::entities_res::EntitiesRes;
@@ -14,7 +16,8 @@ use hibitset::{AtomicBitSet, BitSetLike};
 use std::alloc::AllocError;
 
 impl EntitiesRes {
-    ghost use Rattle.specs_entity.specs.Births.{Continues, living, all_buried, all_settled, all_deleted, merged, RefusesKill};
+    ghost use Rattle.specs_entity.specs.Births.{Continues, living, all_buried, all_settled, all_deleted, merged};
+    ghost use Rattle.specs_entity.specs.Births.{RefusesKill};
 
     /// Lets all entities of a list die, in its order. After its test it takes no memory.
     ///
@@ -30,11 +33,27 @@ impl EntitiesRes {
         ensures wrong_generation { IfErr result (RefusesKill self.old entities.now) }
         ensures err { OnErr result (self.new ≡ self.old) }
     {
-        if let Some(place) = self.first_fault(entities) {
-            return Err(Error::WrongGeneration(self.refusal(entities[place])));
+        match self.test_kill(entities) {
+            Ok(()) => {
+                self.bury_each(entities);
+                Ok(())
+            }
+            Err(error) => Err(error),
         }
-        self.bury_each(entities);
-        Ok(())
+    }
+
+    /// Tests whether all entities of a list can die at once: then `kill` of it isn't refused. Takes no memory.
+    ///
+    /// Errors: `WrongGeneration` with the first entity of the list that isn't alive or stands in it before.
+    pub fn test_kill(&mut self, entities: &[Entity]) -> Result<(), Error>
+        ensures same { self.new ≡ self.old }
+        ensures succeeds { IsOk result ↔ CanKill (living self.old) entities.now }
+        ensures wrong_generation { IfErr result (RefusesKill self.old entities.now) }
+    {
+        match self.first_fault(entities) {
+            None => Ok(()),
+            Some(place) => Err(Error::WrongGeneration(self.refusal(entities[place]))),
+        }
     }
 
     /// Buries the entities of a list, in its order.
@@ -51,7 +70,8 @@ impl EntitiesRes {
     /// The place of the first entity that can't be killed after those before it.
     fn first_fault(&mut self, entities: &[Entity]) -> Option<usize>
         ensures same { self.new ≡ self.old }
-        ensures value { MatchOption result (CanKill (living self.old) entities.now) (IsFirstFault (living self.old) entities.now) }
+        ensures value { MatchOption result (CanKill (living self.old) entities.now)
+            (IsFirstFault (living self.old) entities.now) }
     {
         let fault = mark_all(&self.generations, &self.raised, &mut self.marked, entities);
         unmark_all(&mut self.marked, entities);
@@ -116,14 +136,14 @@ fn mark_all(
     marked: &mut AtomicBitSet,
     entities: &[Entity],
 ) -> Option<usize>
-    requires dead { (index : ℕ) → set.contains raised.now.members index ≡ true → alive_of (slice_index_or generations.now index None) ≡ None }
-    requires numbers { (index : ℕ) → set.contains raised.now.members index ≡ true → number_of (slice_index_or generations.now index None) < 2147483647 }
+    requires dead { AreDead generations.now raised.now.members }
+    requires numbers { AreNumbered generations.now raised.now.members }
     requires indices { (index : ℕ) → living_in generations.now raised.now.members index ≢ None → index < 16777216 }
     requires room { (index : ℕ) → living_in generations.now raised.now.members index ≢ None → index < marked.old.room }
     requires unmarked { marked.old.members ≡ set.empty }
     ensures value { MatchOption result (CanKill (living_in generations.now raised.now.members) entities.now)
         (IsFirstFault (living_in generations.now raised.now.members) entities.now) }
-    ensures marks { (index : ℕ) → set.contains marked.new.members index ≡ true → list_any (λ other. index == other) (indices_of entities.now) ≡ true }
+    ensures marks { AreIndicesOf entities.now marked.new.members }
     ensures kept { marked.old.room ≤ marked.new.room }
 {
     for (place, entity) in entities.iter().enumerate() {
@@ -140,7 +160,7 @@ fn mark_all(
 
 /// Unmarks the indices of a list, which has all that are marked.
 fn unmark_all(marked: &mut AtomicBitSet, entities: &[Entity])
-    requires { (index : ℕ) → set.contains marked.old.members index ≡ true → list_any (λ other. index == other) (indices_of entities.now) ≡ true }
+    requires { AreIndicesOf entities.now marked.old.members }
     ensures members { marked.new.members ≡ set.empty }
     ensures room { marked.new.room ≡ marked.old.room }
 {

@@ -2,9 +2,8 @@
 ghost use Rattle.std.specs.Prelude.{◌≡◌, ◌≢◌, ℕ, Bool, [], ◌∷◌, false, MatchOption, slice_index};
 ghost use Rattle.std.specs.FinSet as set;
 ghost use Rattle.hibitset_sets.specs.Walk.{walk, is_pending, IsPlaced};
-ghost use Rattle.hibitset_sets.specs.Steps.{TakesLowest};
 
-use hibitset::{AtomicBitSet, BitIter, BitSetLike, Index, Uncounted};
+use hibitset::{AtomicBitSet, BitIter, BitSetLike, Index, Uncounted, take_in_word};
 
 /// How far a walk has come over a set that isn't lent between two steps, and out of which each index is
 /// taken that came.
@@ -29,7 +28,8 @@ impl Emptying {
     /// The first index that the set has still, or none where it has none. It is for the caller to take it out.
     pub(crate) fn first_of(&mut self, indices: &AtomicBitSet) -> Option<Index>
         requires { still_in indices.now.members self.old ≡ walk (set.contains indices.now.members) }
-        ensures { MatchOption result (walk (set.contains indices.now.members) ≡ []) (λ first. GaveFirst indices.now.members first self.new) }
+        ensures { MatchOption result (walk (set.contains indices.now.members) ≡ [])
+            (λ first. GaveFirst indices.now.members first self.new) }
     {
         if self.masks[0] != 0 {
             return Some(self.take());
@@ -40,7 +40,8 @@ impl Emptying {
     /// `first_of` by a step of a walk, which looks for the next word.
     fn search(&mut self, indices: &AtomicBitSet) -> Option<Index>
         requires { still_in indices.now.members self.old ≡ walk (set.contains indices.now.members) }
-        ensures { MatchOption result (walk (set.contains indices.now.members) ≡ []) (λ first. GaveFirst indices.now.members first self.new) }
+        ensures { MatchOption result (walk (set.contains indices.now.members) ≡ [])
+            (λ first. GaveFirst indices.now.members first self.new) }
     {
         let mut walk = BitIter::new(indices, self.masks, self.prefix);
         let next = walk.next_counted(&mut Uncounted);
@@ -57,18 +58,6 @@ impl Emptying {
             ≡ result ∷ walk (is_pending members self.new.masks self.new.prefix) }
         ensures gone { (members : ℕ → Bool) → is_pending members self.new.masks self.new.prefix result ≡ false }
     {
-        let place = take_lowest(&mut self.masks);
-        self.prefix[0] + place
+        take_in_word(&mut self.masks, &self.prefix)
     }
-}
-
-/// Takes the lowest bit out of the first mask, and answers its place.
-fn take_lowest(masks: &mut [u64; 4]) -> u32
-    requires { slice_index masks.old 0 ≢ 0 }
-    ensures { TakesLowest masks.old masks.new 0 result }
-{
-    let word = masks[0];
-    let place = word.trailing_zeros();
-    masks[0] = word & !(1 << place);
-    place
 }

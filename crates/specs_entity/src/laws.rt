@@ -3,7 +3,8 @@ ghost use Rattle.std.specs.Prelude.{◌≡◌, ◌<◌, ◌≤◌, ℕ, ◌↔�
 ghost use Rattle.std.specs.FinSet as set;
 ghost use Rattle.std.specs.Ordering.{nat_cmp, int_cmp, ordering_then};
 ghost use Rattle.specs_entity.specs.Life.{id_of};
-ghost use Rattle.specs_entity.specs.Births.{Births, IsAlive, IsBorn, IsDead, IndicesAreSpent, Continues, living, newborn, allocated, created, deleted, buried, settled};
+ghost use Rattle.specs_entity.specs.Births.{Births, IsAlive, IsBorn, IsDead, IndicesAreSpent, Continues, living};
+ghost use Rattle.specs_entity.specs.Births.{newborn, allocated, created, deleted, buried, settled};
 
 use crate::entities_res::EntitiesRes;
 use crate::ids::Entity;
@@ -19,8 +20,10 @@ pub fn the_dead_stay_dead(entity: Entity)
 /// lives after them lived before.
 pub fn each_step_continues(entities: &EntitiesRes)
     ensures delete { (index : ℕ) → Continues entities.now (deleted entities.now index) }
-    ensures bury { (index : ℕ) → (living entities.now index ≡ None → ⊥) → Continues entities.now (buried entities.now index) }
-    ensures settle { (index : ℕ) → set.contains entities.now.fresh index ≡ true → Continues entities.now (settled entities.now index) }
+    ensures bury { (index : ℕ) → (living entities.now index ≡ None → ⊥)
+        → Continues entities.now (buried entities.now index) }
+    ensures settle { (index : ℕ) → set.contains entities.now.fresh index ≡ true
+        → Continues entities.now (settled entities.now index) }
 {
     let _ = &entities.indices;
 }
@@ -29,8 +32,10 @@ pub fn each_step_continues(entities: &EntitiesRes)
 /// is lost, and who lives then lived before or is this one.
 pub fn a_birth_is_new(entities: &EntitiesRes)
     ensures new { ¬ (IndicesAreSpent entities.now) → IsBorn entities.now (newborn entities.now) → ⊥ }
-    ensures allocated { ¬ (IndicesAreSpent entities.now) → IsAlive (allocated entities.now) (newborn entities.now) × Continues entities.now (allocated entities.now) }
-    ensures created { ¬ (IndicesAreSpent entities.now) → IsAlive (created entities.now) (newborn entities.now) × Continues entities.now (created entities.now) }
+    ensures allocated { ¬ (IndicesAreSpent entities.now) → IsAlive (allocated entities.now) (newborn entities.now)
+        × Continues entities.now (allocated entities.now) }
+    ensures created { ¬ (IndicesAreSpent entities.now) → IsAlive (created entities.now) (newborn entities.now)
+        × Continues entities.now (created entities.now) }
 {
     let _ = &entities.indices;
 }
@@ -61,7 +66,8 @@ pub fn entities_are_equal_as_pairs(one: &Entity, other: &Entity) -> bool
 
 /// Entities are ordered by index, then by signed generation.
 pub fn entities_are_ordered_as_pairs(one: &Entity, other: &Entity) -> Ordering
-    ensures { result ≡ ordering_then (nat_cmp one.now.id other.now.id) (int_cmp (id_of one.now.generation) (id_of other.now.generation)) }
+    ensures { result ≡ ordering_then (nat_cmp one.now.id other.now.id)
+        (int_cmp (id_of one.now.generation) (id_of other.now.generation)) }
 {
     one.cmp(other)
 }

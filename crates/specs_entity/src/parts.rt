@@ -1,7 +1,7 @@
 //! What the lives of an index tell, in steps that need no entities around them.
 ghost use Rattle.std.specs.Prelude.{◌≡◌, ◌<◌, ◌≤◌, None, Some, slice_index_or, true, IsTrue, ◌↔◌, ℕ};
 ghost use Rattle.std.specs.FinSet as set;
-ghost use Rattle.specs_entity.specs.Births.{number_of, next_life, alive_of, living_in};
+ghost use Rattle.specs_entity.specs.Births.{number_of, next_life, alive_of, living_in, AreDead, AreNumbered};
 
 use crate::ids::{Entity, Generation};
 use hibitset::{AtomicBitSet, Index};
@@ -57,8 +57,10 @@ pub(crate) fn living_at(
     raised: &AtomicBitSet,
     id: Index,
 ) -> Option<Generation>
-    requires dead { set.contains raised.now.members id ≡ true → alive_of (slice_index_or generations.now id None) ≡ None }
-    requires room { set.contains raised.now.members id ≡ true → number_of (slice_index_or generations.now id None) < 2147483647 }
+    requires dead { set.contains raised.now.members id ≡ true
+        → alive_of (slice_index_or generations.now id None) ≡ None }
+    requires room { set.contains raised.now.members id ≡ true
+        → number_of (slice_index_or generations.now id None) < 2147483647 }
     ensures { result ≡ living_in generations.now raised.now.members id }
 {
     let last = last_at(generations, id);
@@ -75,8 +77,8 @@ pub(crate) fn is_living(
     raised: &AtomicBitSet,
     entity: Entity,
 ) -> bool
-    requires dead { (index : ℕ) → set.contains raised.now.members index ≡ true → alive_of (slice_index_or generations.now index None) ≡ None }
-    requires room { (index : ℕ) → set.contains raised.now.members index ≡ true → number_of (slice_index_or generations.now index None) < 2147483647 }
+    requires dead { AreDead generations.now raised.now.members }
+    requires room { AreNumbered generations.now raised.now.members }
     ensures { IsTrue result ↔ (living_in generations.now raised.now.members entity.id ≡ Some entity.generation) }
 {
     match living_at(generations, raised, entity.id) {

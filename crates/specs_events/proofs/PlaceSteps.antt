@@ -1,5 +1,5 @@
 -- Places of readers that are made less, one after the other.
-use Rattle.std.proofs.Common.{◌≡◌, ℕ, zero, suc, ◌+◌, ◌-◌, ◌<◌, ◌≤◌, List, [], ◌∷◌, length, map, set, get_or, slice_index_or, refl, ap, ◌∙◌, arith}
+use Rattle.std.proofs.Common.{◌≡◌, ℕ, zero, suc, ◌-◌, ◌<◌, ◌≤◌, List, [], ◌∷◌, length, map, set, get_or, slice_index_or, refl, ap, ◌∙◌, arith}
 
 -- a list whose first numbers went through f
 abbrev pub first_through : (ℕ → ℕ) → ℕ → List ℕ → List ℕ

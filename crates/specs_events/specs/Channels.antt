@@ -58,6 +58,15 @@ abbrev pub room_after : ℕ → ℕ → ℕ
 room_after zero len = len
 room_after (suc room) len = room
 
+-- the room where there is some, else room for one more than is held
+abbrev pub room_for_one : ℕ → ℕ → ℕ
+room_for_one zero len = suc len
+room_for_one (suc room) len = suc room
+
+-- a channel with room for an event
+abbrev pub with_room : {E : Type 0} → Channel E → Channel E
+with_room c = record c { room = room_for_one c.room (length c.held) }
+
 -- a channel with an event more
 abbrev pub with_event : {E : Type 0} → Channel E → E → Channel E
 with_event c event = record c { held = c.held ++ event ∷ []; room = room_after c.room (length c.held) }

@@ -1,6 +1,8 @@
 //! A channel of events.
-ghost use Rattle.std.specs.Prelude.{◌≡◌, ◌≢◌, ℕ, ◌∷◌, ◌+◌, ◌-◌, ◌<◌, ◌≤◌, ◌++◌, [], OnOk, OnErr, IfOk, IsOk, length, max, map, is_ok, if◌then◌else◌};
-ghost use Rattle.specs_events.specs.Channels.{with_event, with_reader, after_read, let_go, since, has_readers, least_of, IsChannel, CaughtUp, log_of};
+ghost use Rattle.std.specs.Prelude.{◌≡◌, ◌≢◌, ℕ, ◌∷◌, ◌+◌, ◌-◌, ◌<◌, ◌≤◌, ◌++◌, [], OnOk, OnErr, IfOk, IsOk};
+ghost use Rattle.std.specs.Prelude.{length, max, map, is_ok, if◌then◌else◌};
+ghost use Rattle.specs_events.specs.Channels.{with_event, with_room, with_reader, after_read, let_go, since, has_readers};
+ghost use Rattle.specs_events.specs.Channels.{least_of, IsChannel, CaughtUp, log_of};
 
 use std::alloc::{AllocError, Global};
 use std::marker::Model;
@@ -39,7 +41,11 @@ impl<E> Model for EventChannel<E> {
 
     ghost coded = { channel_code E.code };
 
-    ghost view = { λ c. record { held = c.held.items; room = vec_capacity c.held - vec_len c.held; places = c.places.items } };
+    ghost view = { λ c. record {
+      held = c.held.items;
+      room = vec_capacity c.held - vec_len c.held;
+      places = c.places.items;
+    } };
 
     ghost invariant = { λ c. (reader : ℕ) → slice_index_or c.places.items reader 0 ≤ length c.held.items };
 }
@@ -94,6 +100,26 @@ impl<E> EventChannel<E> {
         self.held.reserve_exact(count)
     }
 
+    /// Makes room for an event, where there is none. A channel that is full grows to twice its length and one, so events
+    /// that are written one after the other cost the same as by `single_write`.
+    ///
+    /// Errors: `AllocError`, and nothing changed. It isn't refused where there is room.
+    pub fn reserve_one(&mut self) -> Result<(), AllocError>
+        ensures ok { OnOk result (self.new ≡ with_room self.old) }
+        ensures room { OnOk result (0 < self.new.room) }
+        ensures err { OnErr result (self.new ≡ self.old) }
+        ensures succeeds { 0 < self.old.room → IsOk result }
+    {
+        let len = self.held.len();
+        if len < self.held.capacity() {
+            return Ok(());
+        }
+        if len >= 2147483648 {
+            return Err(AllocError);
+        }
+        self.held.reserve_exact(len + 1)
+    }
+
     /// Writes an event for which there is room.
     pub fn write_reserved(&mut self, event: E)
         requires { 0 < self.old.room }
@@ -113,7 +139,8 @@ impl<E> EventChannel<E> {
         ensures succeeds { 0 < self.old.room → IsOk result }
 
         // Each reader has it to read, behind the others.
-        ensures told { OnOk result ((reader : ℕ) → reader < length self.old.places → since self.new reader ≡ since self.old reader ++ event ∷ []) }
+        ensures told { OnOk result ((reader : ℕ) → reader < length self.old.places
+            → since self.new reader ≡ since self.old reader ++ event ∷ []) }
     {
         match self.write(event) {
             Ok(()) => Ok(()),
@@ -148,7 +175,8 @@ impl<E> EventChannel<E> {
     pub fn read(&mut self, reader: &ReaderId, into: &mut Vec<E>) -> Result<(), AllocError>
     where
         E: Copy + Drop,
-        ensures items { into.new.items ≡ (if is_ok result then into.old.items ++ since self.old reader.now else into.old.items) }
+        ensures items { into.new.items ≡ (if is_ok result then into.old.items ++ since self.old reader.now
+            else into.old.items) }
         ensures ok { OnOk result (self.new ≡ after_read self.old reader.now) }
         ensures err { OnErr result (self.new ≡ self.old) }
 
@@ -167,7 +195,8 @@ impl<E> EventChannel<E> {
     fn give(&mut self, reader: &ReaderId, into: &mut Vec<E>) -> Result<(), AllocError>
     where
         E: Copy + Drop,
-        ensures items { into.new.items ≡ (if is_ok result then into.old.items ++ since self.old reader.now else into.old.items) }
+        ensures items { into.new.items ≡ (if is_ok result then into.old.items ++ since self.old reader.now
+            else into.old.items) }
         ensures ok { OnOk result (self.new ≡ after_read self.old reader.now) }
         ensures err { OnErr result (self.new ≡ self.old) }
     {

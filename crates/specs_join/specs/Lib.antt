@@ -7,3 +7,4 @@ pub mod Cursors
 pub mod Collected
 pub mod ChangeEach
 pub mod EachErrors
+pub mod CursorLends

@@ -59,7 +59,8 @@ pub trait Join {
         Self: Sized,
         ensures opens { opens self result.0 }
         ensures mask { (index : ℕ) → index < 16777216 → Self.Mask.members result.0 index ≡ is_some (joins self index) }
-        ensures values { (index : ℕ) → index < 16777216 → IsSome (joins self index) → value_at result.1 index ≡ joins self index };
+        ensures values { (index : ℕ) → index < 16777216 → IsSome (joins self index)
+            → value_at result.1 index ≡ joins self index };
 
     /// The item at an index that has one.
     fn get(values: &Self::Value, id: Index) -> Self::Type
@@ -80,7 +81,8 @@ pub trait Join {
     where
         Self: Sized,
         ensures items { items_left value_at result ≡ join_list (joins self) }
-        ensures found { (index : ℕ) → index < 16777216 → found Self.Mask.members value_at result index ≡ joins self index }
+        ensures found { (index : ℕ) → index < 16777216
+            → found Self.Mask.members value_at result index ≡ joins self index }
     {
         JoinIter::new(self)
     }
@@ -90,9 +92,11 @@ pub trait Join {
     where
         Self: Sized,
         ensures items { items_left value_at result ≡ join_list (joins self) }
-        ensures found { (index : ℕ) → index < 16777216 → found Self.Mask.members value_at result index ≡ joins self index }
+        ensures found { (index : ℕ) → index < 16777216
+            → found Self.Mask.members value_at result index ≡ joins self index }
         ensures mask { opens self result.mask }
-        ensures unread { Self.Mask.reads result.mask 3 + result.unread ≡ words_walked (Self.Mask.reads result.mask) (Self.Mask.words result.mask) }
+        ensures unread { Self.Mask.reads result.mask 3 + result.unread
+            ≡ words_walked (Self.Mask.reads result.mask) (Self.Mask.words result.mask) }
         ensures counted { C.ticked count.old (Self.Mask.reads result.mask 3) count.new }
     {
         JoinIter::new_counted(self, count)

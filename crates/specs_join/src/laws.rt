@@ -16,8 +16,10 @@ pub fn join_to_the_end<J: Join, L: Ledger>(join: J, steps: &mut Steps<L>)
 where
     J::Mask: KeptMasks,
     J::Type: Drop,
-    ensures cost { (mask : J.Mask) × J.opens join mask × (steps.new ≡ steps.old + words_walked (J.Mask.reads mask) (J.Mask.words mask)) }
-    ensures bound { (mask : J.Mask) × J.opens join mask × (steps.new ≤ steps.old + J.Mask.kept mask * (3 * J.Mask.least mask + 1)) }
+    ensures cost { (mask : J.Mask) × J.opens join mask
+        × (steps.new ≡ steps.old + words_walked (J.Mask.reads mask) (J.Mask.words mask)) }
+    ensures bound { (mask : J.Mask) × J.opens join mask
+        × (steps.new ≤ steps.old + J.Mask.kept mask * (3 * J.Mask.least mask + 1)) }
 {
     go_through(join, steps);
 }
@@ -26,7 +28,8 @@ where
 fn go_through<J: Join, L: Ledger>(join: J, steps: &mut Steps<L>)
 where
     J::Type: Drop,
-    ensures { (mask : J.Mask) × J.opens join mask × (steps.new ≡ steps.old + words_walked (J.Mask.reads mask) (J.Mask.words mask)) }
+    ensures { (mask : J.Mask) × J.opens join mask
+        × (steps.new ≡ steps.old + words_walked (J.Mask.reads mask) (J.Mask.words mask)) }
 {
     let mut walk = join.join_counted(steps);
     while walk.next_counted(steps).is_some() {}

@@ -6,4 +6,5 @@ pub mod FlagSteps
 pub mod MaskedSteps
 pub mod DropSteps
 pub mod PartMapLemmas
+pub mod ShowsLemmas
 pub mod CallerLemmas

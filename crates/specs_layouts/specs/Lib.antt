@@ -5,6 +5,7 @@ pub mod Entries
 pub mod EntryLends
 pub mod Masked
 pub mod MaskedLends
+pub mod MaskedChanges
 pub mod TrackedLends
 pub mod Dense
 pub mod DenseLemmas
@@ -20,3 +21,4 @@ pub mod PartMap
 pub mod PartLemmas
 pub mod SlotLemmas
 pub mod EntryLemmas
+pub mod Shows

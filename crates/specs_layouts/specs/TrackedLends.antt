@@ -4,10 +4,9 @@ use Rattle.std.specs.Borrow.{Fml, RattleType, MutBor, Lends}
 use Rattle.specs_events.specs.Channels.{Channel}
 use Rattle.specs_events.specs.contracts.channel.EventChannel as channel
 use Rattle.specs_layouts.specs.Masked.{Masked}
-use Rattle.specs_layouts.specs.MaskedLends.{StorageMembers}
+use Rattle.specs_layouts.specs.MaskedLends.{StorageMembers, masked_row}
 use Rattle.specs_layouts.specs.declared.track.ComponentEvent.{ComponentEvent}
 use Rattle.specs_layouts.specs.contracts.track.ComponentEvent as event
-use Rattle.specs_layouts.specs.contracts.masked.MaskedStorage.{the_row}
 
 -- the storage has the channel that was written
 abbrev pub lends_channel : (S : RattleType) → (S.Denot → Channel ComponentEvent → S.Denot) → MutBor S.Denot → MutBor (Channel ComponentEvent) → Fml
@@ -16,7 +15,4 @@ lends_channel S put s r = Lends S (channel.the_row event.the_row) s r (put s.now
 -- a masked storage's layout has it
 abbrev pub lends_masked_channel : (T S : RattleType) → StorageMembers S.Denot T.Denot → (S.Denot → Channel ComponentEvent → S.Denot) → MutBor (Masked S.Denot) → MutBor (Channel ComponentEvent) → Fml
 lends_masked_channel T S g put m r =
-    Lends
-    (the_row T S (record { part_at = g.part_at; written = g.written; events = g.events; emits = g.emits; has_room = g.has_room }) (record { is_default = g.is_default; always = g.always }))
-    (channel.the_row event.the_row) m r
-    (λ c. record m.now { inner = put m.now.inner c })
+    Lends (masked_row T S g) (channel.the_row event.the_row) m r (λ c. record m.now { inner = put m.now.inner c })

@@ -35,7 +35,8 @@ pub trait AnyStorage {
         ensures same { drops self.old [] self.new };
 
     /// After a drop the indices of the list have no part, and each other has one where it had one.
-    ghost drops_parts: { (before after : Self) (indices : List ℕ) → drops before indices after → (index : ℕ) → has_part after index ≡ (not (list_any (λ other. index == other) indices) && has_part before index) };
+    ghost drops_parts: { (before after : Self) (indices : List ℕ) → drops before indices after → (index : ℕ)
+        → has_part after index ≡ (not (list_any (λ other. index == other) indices) && has_part before index) };
 }
 
 impl<T: Component> AnyStorage for MaskedStorage<T> {
@@ -47,9 +48,12 @@ impl<T: Component> AnyStorage for MaskedStorage<T> {
 
     ghost has_room = { λ s. T.Storage.has_room s.inner };
 
-    ghost drops = { λ before indices after. DropsAll (T.Storage.part_at before.inner) (T.Storage.events before.inner) (T.Storage.emits before.inner) indices (T.Storage.part_at after.inner) (T.Storage.events after.inner) (T.Storage.emits after.inner) };
+    ghost drops = { λ before indices after.
+        DropsAll (T.Storage.part_at before.inner) (T.Storage.events before.inner) (T.Storage.emits before.inner)
+        indices (T.Storage.part_at after.inner) (T.Storage.events after.inner) (T.Storage.emits after.inner) };
 
-    ghost drops_parts = { λ before after indices dropped. dropped-parts (T.Storage.part_at before.inner) (T.Storage.part_at after.inner) indices dropped.parts };
+    ghost drops_parts = { λ before after indices dropped.
+        dropped-parts (T.Storage.part_at before.inner) (T.Storage.part_at after.inner) indices dropped.parts };
 
     fn drop(&mut self, entities: &[Entity]) -> Result<(), AllocError> {
         MaskedStorage::make_room(self, entities.len())?;

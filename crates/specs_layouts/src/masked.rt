@@ -1,9 +1,11 @@
 //! A storage with the mask that knows which indices have a part.
-ghost use Rattle.std.specs.Prelude.{◌≡◌, ℕ, ◌+◌, ◌<◌, true, false, Option, None, Some, IsSome, is_some, is_ok, IsOk, IfOk, OnOk, OnErr, IfErr, if◌then◌else◌};
+ghost use Rattle.std.specs.Prelude.{◌≡◌, ℕ, ◌+◌, ◌<◌, true, false, Option, None, Some, IsSome, is_some, is_ok};
+ghost use Rattle.std.specs.Prelude.{[], ◌∷◌, length, IsOk, IfOk, OnOk, OnErr, IfErr, if◌then◌else◌};
 ghost use Rattle.std.specs.FinSet as set;
 ghost use Rattle.std.specs.Borrow.{sem};
-ghost use Rattle.specs_events.specs.Channels.{with_reader, CaughtUp};
-ghost use Rattle.specs_layouts.specs.Parts.{Puts, SameParts, HasNone, told};
+ghost use Rattle.specs_events.specs.Channels.{with_event, with_more, with_reader, CaughtUp};
+ghost use Rattle.specs_layouts.specs.Parts.{HasNone};
+ghost use Rattle.specs_layouts.specs.MaskedChanges.{PutsIn, KeepsParts, told_in, told_put, told_taken};
 ghost use Rattle.specs_layouts.specs.declared.track.ComponentEvent.TheVariants as event;
 
 use crate::comp::Component;
@@ -96,7 +98,8 @@ impl<T: Component> MaskedStorage<T> {
     /// Errors: `AllocError`, where the storage emits, and nothing changed.
     pub fn get_mut(&mut self, id: Index) -> Result<&mut T, AllocError>
         requires { IsSome (T.Storage.part_at self.old.inner id) }
-        ensures* writes_back { sem 𝓛 (lends_part T.row T.Storage.row T.Storage.UnprotectedStorage self.entry id result) }
+        ensures* writes_back { sem 𝓛 (lends_part T.row T.Storage.row T.Storage.UnprotectedStorage
+            self.entry id result) }
         ensures value { IfOk result (λ part. T.Storage.part_at self.old.inner id ≡ Some part.now) }
         ensures succeeds { T.Storage.emits self.old.inner ≡ false → IsOk result }
         ensures within_room { T.Storage.has_room self.old.inner 1 → IsOk result }
@@ -134,13 +137,15 @@ impl<T: Component> MaskedStorage<T> {
     fn add(&mut self, id: Index, part: T) -> Result<(), AllocFailed<T>>
         requires range { id < 16777216 }
         requires absent { T.Storage.part_at self.old.inner id ≡ None }
-        ensures ok { OnOk result (Puts (T.Storage.part_at self.old.inner) id (Some part) (T.Storage.part_at self.new.inner)) }
-        ensures err { OnErr result (SameParts (T.Storage.part_at self.old.inner) (T.Storage.part_at self.new.inner)) }
+        ensures ok { OnOk result (PutsIn T.Storage.part_at self.old id (Some part) self.new) }
+        ensures err { OnErr result (KeepsParts T.Storage.part_at self.old self.new) }
         ensures handed_back { IfErr result (λ refused. refused.value ≡ part) }
         ensures events { T.Storage.events self.new.inner
-            ≡ (if is_ok result then told (T.Storage.emits self.old.inner) (T.Storage.events self.old.inner) (event.Inserted id) else T.Storage.events self.old.inner) }
+            ≡ (if is_ok result then told_in T.Storage.emits T.Storage.events self.old (event.Inserted id)
+            else T.Storage.events self.old.inner) }
         ensures emission { T.Storage.emits self.new.inner ≡ T.Storage.emits self.old.inner }
-        ensures room { (count : ℕ) → T.Storage.has_room self.old.inner (count + 1) → T.Storage.has_room self.new.inner count }
+        ensures room { (count : ℕ) → T.Storage.has_room self.old.inner (count + 1)
+            → T.Storage.has_room self.new.inner count }
     {
         if self.mask.reserve(id + 1).is_err() {
             return Err(AllocFailed { value: part });
@@ -158,17 +163,19 @@ impl<T: Component> MaskedStorage<T> {
     pub fn insert(&mut self, id: Index, part: T) -> Result<Option<T>, AllocFailed<T>>
         requires { id < 16777216 }
         ensures value { IfOk result (λ old. old ≡ T.Storage.part_at self.old.inner id) }
-        ensures ok { OnOk result (Puts (T.Storage.part_at self.old.inner) id (Some part) (T.Storage.part_at self.new.inner)) }
-        ensures err { OnErr result (SameParts (T.Storage.part_at self.old.inner) (T.Storage.part_at self.new.inner)) }
+        ensures ok { OnOk result (PutsIn T.Storage.part_at self.old id (Some part) self.new) }
+        ensures err { OnErr result (KeepsParts T.Storage.part_at self.old self.new) }
         ensures handed_back { IfErr result (λ refused. refused.value ≡ part) }
-        ensures succeeds { IsSome (T.Storage.part_at self.old.inner id) → T.Storage.emits self.old.inner ≡ false → IsOk result }
+        ensures succeeds { IsSome (T.Storage.part_at self.old.inner id) → T.Storage.emits self.old.inner ≡ false
+            → IsOk result }
 
         // One event tells of it, and a refusal writes none.
-        ensures events { OnOk result (T.Storage.events self.new.inner ≡ told (T.Storage.emits self.old.inner) (T.Storage.events self.old.inner)
-            (if is_some (T.Storage.part_at self.old.inner id) then event.Modified id else event.Inserted id)) }
+        ensures events { OnOk result (T.Storage.events self.new.inner
+            ≡ told_put T.Storage.part_at T.Storage.emits T.Storage.events self.old id) }
         ensures silent { OnErr result (T.Storage.events self.new.inner ≡ T.Storage.events self.old.inner) }
         ensures emission { T.Storage.emits self.new.inner ≡ T.Storage.emits self.old.inner }
-        ensures room { (count : ℕ) → T.Storage.has_room self.old.inner (count + 1) → T.Storage.has_room self.new.inner count }
+        ensures room { (count : ℕ) → T.Storage.has_room self.old.inner (count + 1)
+            → T.Storage.has_room self.new.inner count }
     {
         if self.mask.contains(id) {
             match self.replace(id, part) {
@@ -189,15 +196,16 @@ impl<T: Component> MaskedStorage<T> {
     /// it had.
     pub fn remove(&mut self, id: Index) -> Result<Option<T>, AllocError>
         ensures value { IfOk result (λ part. part ≡ T.Storage.part_at self.old.inner id) }
-        ensures ok { OnOk result (Puts (T.Storage.part_at self.old.inner) id None (T.Storage.part_at self.new.inner)) }
-        ensures err { OnErr result (SameParts (T.Storage.part_at self.old.inner) (T.Storage.part_at self.new.inner)) }
+        ensures ok { OnOk result (PutsIn T.Storage.part_at self.old id None self.new) }
+        ensures err { OnErr result (KeepsParts T.Storage.part_at self.old self.new) }
         ensures succeeds { T.Storage.emits self.old.inner ≡ false → IsOk result }
         ensures within_room { T.Storage.has_room self.old.inner 1 → IsOk result }
-        ensures room { (count : ℕ) → T.Storage.has_room self.old.inner (count + 1) → T.Storage.has_room self.new.inner count }
+        ensures room { (count : ℕ) → T.Storage.has_room self.old.inner (count + 1)
+            → T.Storage.has_room self.new.inner count }
 
         // One event tells of a part that was taken out, and a refusal writes none.
-        ensures events { OnOk result (T.Storage.events self.new.inner ≡ (if is_some (T.Storage.part_at self.old.inner id)
-            then told (T.Storage.emits self.old.inner) (T.Storage.events self.old.inner) (event.Removed id) else T.Storage.events self.old.inner)) }
+        ensures events { OnOk result (T.Storage.events self.new.inner
+            ≡ told_taken T.Storage.part_at T.Storage.emits T.Storage.events self.old id) }
         ensures silent { OnErr result (T.Storage.events self.new.inner ≡ T.Storage.events self.old.inner) }
         ensures emission { T.Storage.emits self.new.inner ≡ T.Storage.emits self.old.inner }
     {
@@ -213,19 +221,20 @@ impl<T: Component> MaskedStorage<T> {
     ///
     /// Errors: those of `remove`.
     pub fn drop(&mut self, id: Index) -> Result<(), AllocError>
-        ensures ok { OnOk result (Puts (T.Storage.part_at self.old.inner) id None (T.Storage.part_at self.new.inner)) }
-        ensures err { OnErr result (SameParts (T.Storage.part_at self.old.inner) (T.Storage.part_at self.new.inner)) }
+        ensures ok { OnOk result (PutsIn T.Storage.part_at self.old id None self.new) }
+        ensures err { OnErr result (KeepsParts T.Storage.part_at self.old self.new) }
 
         // One event tells of a part that was dropped, and a refusal writes none.
-        ensures events { OnOk result (T.Storage.events self.new.inner ≡ (if is_some (T.Storage.part_at self.old.inner id)
-            then told (T.Storage.emits self.old.inner) (T.Storage.events self.old.inner) (event.Removed id) else T.Storage.events self.old.inner)) }
+        ensures events { OnOk result (T.Storage.events self.new.inner
+            ≡ told_taken T.Storage.part_at T.Storage.emits T.Storage.events self.old id) }
         ensures silent { OnErr result (T.Storage.events self.new.inner ≡ T.Storage.events self.old.inner) }
         ensures emission { T.Storage.emits self.new.inner ≡ T.Storage.emits self.old.inner }
 
         // With room for it, or without events, it is never refused, and it uses up the room of one.
         ensures succeeds { T.Storage.emits self.old.inner ≡ false → IsOk result }
         ensures within_room { T.Storage.has_room self.old.inner 1 → IsOk result }
-        ensures room { (count : ℕ) → T.Storage.has_room self.old.inner (count + 1) → T.Storage.has_room self.new.inner count }
+        ensures room { (count : ℕ) → T.Storage.has_room self.old.inner (count + 1)
+            → T.Storage.has_room self.new.inner count }
     {
         if !self.mask.contains(id) {
             return Ok(());
@@ -241,7 +250,7 @@ impl<T: Component> MaskedStorage<T> {
     pub fn make_room(&mut self, count: usize) -> Result<(), AllocError>
         ensures ok { OnOk result (T.Storage.has_room self.new.inner count) }
         ensures mask { self.new.mask ≡ self.old.mask }
-        ensures same { SameParts (T.Storage.part_at self.old.inner) (T.Storage.part_at self.new.inner) }
+        ensures same { KeepsParts T.Storage.part_at self.old self.new }
         ensures events { T.Storage.events self.new.inner ≡ T.Storage.events self.old.inner }
         ensures emission { T.Storage.emits self.new.inner ≡ T.Storage.emits self.old.inner }
 
@@ -268,7 +277,8 @@ where
 
     /// The channel that is told of its changes, for readers to be registered and to read.
     pub fn channel_mut(&mut self) -> &mut EventChannel<ComponentEvent>
-        ensures* writes_back { sem 𝓛 (lends_masked_channel T.row T.Storage.row T.Storage.UnprotectedStorage T.Storage.with_channel self.entry result) }
+        ensures* writes_back { sem 𝓛 (lends_masked_channel T.row T.Storage.row T.Storage.UnprotectedStorage
+            T.Storage.with_channel self.entry result) }
         ensures value { result.now ≡ T.Storage.channel_of self.old.inner }
     {
         self.inner.channel_mut()
@@ -293,11 +303,30 @@ where
     ///
     /// Errors: `AllocError`, and nothing changed.
     pub fn register_reader(&mut self) -> Result<ReaderId, AllocError>
-        ensures ok { OnOk result (self.new.inner ≡ T.Storage.with_channel self.old.inner (with_reader (T.Storage.channel_of self.old.inner))) }
+        ensures ok { OnOk result (self.new.inner
+            ≡ T.Storage.with_channel self.old.inner (with_reader (T.Storage.channel_of self.old.inner))) }
+        ensures number { IfOk result (λ reader. reader ≡ length (T.Storage.channel_of self.old.inner).places) }
         ensures mask { self.new.mask ≡ self.old.mask }
         ensures caught_up { IfOk result (λ reader. CaughtUp (T.Storage.events self.new.inner) reader) }
-        ensures err { OnErr result (self.new.inner ≡ T.Storage.with_channel self.old.inner (T.Storage.channel_of self.old.inner)) }
+        ensures emits { OnOk result (T.Storage.emits self.new.inner ≡ T.Storage.emission_of self.old.inner) }
+        ensures parts { KeepsParts T.Storage.part_at self.old self.new }
+        ensures err { OnErr result (self.new.inner ≡ self.old.inner) }
     {
         self.inner.channel_mut().register_reader()
+    }
+
+    /// Writes an event by hand, also where emission is off. No part changes.
+    ///
+    /// Errors: `AllocError`, and nothing changed.
+    pub fn flag(&mut self, event: ComponentEvent) -> Result<(), AllocError>
+        ensures ok { OnOk result (self.new.inner
+            ≡ T.Storage.with_channel self.old.inner (with_event (T.Storage.channel_of self.old.inner) event)) }
+        ensures mask { self.new.mask ≡ self.old.mask }
+        ensures told { OnOk result (T.Storage.events self.new.inner
+            ≡ with_more (T.Storage.events self.old.inner) (event ∷ [])) }
+        ensures parts { KeepsParts T.Storage.part_at self.old self.new }
+        ensures err { OnErr result (self.new.inner ≡ self.old.inner) }
+    {
+        self.inner.channel_mut().single_write(event)
     }
 }

@@ -50,11 +50,15 @@ pub trait Tracked<T: Drop>: UnprotectedStorage<T> {
     ghost tells: { (s : Self) → Self.emits s ≡ (emission_of s && has_readers (channel_of s)) };
 
     /// Another channel leaves the parts and the emission.
-    ghost channel_parts: { (s : Self) (c : Channel ComponentEvent) → SameParts (Self.part_at s) (Self.part_at (with_channel s c)) };
+    ghost channel_parts: { (s : Self) (c : Channel ComponentEvent)
+        → SameParts (Self.part_at s) (Self.part_at (with_channel s c)) };
 
     ghost channel_put: { (s : Self) (c : Channel ComponentEvent) → channel_of (with_channel s c) ≡ c };
 
-    ghost channel_emission: { (s : Self) (c : Channel ComponentEvent) → emission_of (with_channel s c) ≡ emission_of s };
+    ghost channel_emission: { (s : Self) (c : Channel ComponentEvent)
+        → emission_of (with_channel s c) ≡ emission_of s };
+
+    ghost channel_kept: { (s : Self) → with_channel s (channel_of s) ≡ s };
 
     /// Emission turned on or off leaves the parts and the channel.
     ghost emission_parts: { (s : Self) (on : Bool) → SameParts (Self.part_at s) (Self.part_at (with_emission s on)) };

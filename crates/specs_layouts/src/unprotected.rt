@@ -1,5 +1,6 @@
 //! What every storage does, and what each call leaves.
-ghost use Rattle.std.specs.Prelude.{◌≡◌, ◌≢◌, ℕ, ◌+◌, ◌<◌, Bool, true, false, Option, None, Some, is_some, is_ok, IsSome, IsOk, IfOk, IfErr, OnOk, OnErr, if◌then◌else◌};
+ghost use Rattle.std.specs.Prelude.{◌≡◌, ◌≢◌, ℕ, ◌+◌, ◌<◌, Bool, true, false, Option, None, Some, is_some, is_ok};
+ghost use Rattle.std.specs.Prelude.{IsSome, IsOk, IfOk, IfErr, OnOk, OnErr, if◌then◌else◌};
 ghost use Rattle.std.specs.Borrow.{LendsIfOk, sem};
 ghost use Rattle.specs_events.specs.Channels.{Log};
 ghost use Rattle.specs_layouts.specs.Parts.{Puts, SameParts, HasNone, told};
@@ -90,7 +91,8 @@ pub trait UnprotectedStorage<T: Drop>: TryDefault {
         ensures ok { OnOk result (Puts (part_at self.old) id (Some part) (part_at self.new)) }
         ensures err { OnErr result (SameParts (part_at self.old) (part_at self.new)) }
         ensures handed_back { IfErr result (λ refused. refused.value ≡ part) }
-        ensures events { events self.new ≡ (if is_ok result then told (emits self.old) (events self.old) (event.Inserted id) else events self.old) }
+        ensures events { events self.new ≡ (if is_ok result
+            then told (emits self.old) (events self.old) (event.Inserted id) else events self.old) }
         ensures emission { emits self.new ≡ emits self.old }
         ensures room { (count : ℕ) → has_room self.old (count + 1) → has_room self.new count };
 
@@ -102,7 +104,8 @@ pub trait UnprotectedStorage<T: Drop>: TryDefault {
         ensures value { IfOk result (λ part. part_at self.old id ≡ Some part) }
         ensures ok { OnOk result (Puts (part_at self.old) id None (part_at self.new)) }
         ensures err { OnErr result (SameParts (part_at self.old) (part_at self.new)) }
-        ensures events { events self.new ≡ (if is_ok result then told (emits self.old) (events self.old) (event.Removed id) else events self.old) }
+        ensures events { events self.new ≡ (if is_ok result
+            then told (emits self.old) (events self.old) (event.Removed id) else events self.old) }
         ensures emission { emits self.new ≡ emits self.old }
 
         // With room for it, or without events, it is never refused, and it uses up the room of one.
@@ -117,7 +120,8 @@ pub trait UnprotectedStorage<T: Drop>: TryDefault {
         requires { IsSome (part_at self.old id) }
         ensures ok { OnOk result (Puts (part_at self.old) id None (part_at self.new)) }
         ensures err { OnErr result (SameParts (part_at self.old) (part_at self.new)) }
-        ensures events { events self.new ≡ (if is_ok result then told (emits self.old) (events self.old) (event.Removed id) else events self.old) }
+        ensures events { events self.new ≡ (if is_ok result
+            then told (emits self.old) (events self.old) (event.Removed id) else events self.old) }
         ensures emission { emits self.new ≡ emits self.old }
 
         // With room for it, or without events, it is never refused, and it uses up the room of one.
@@ -145,16 +149,19 @@ pub trait UnprotectedStorage<T: Drop>: TryDefault {
         ensures within_room { has_room self.old count → IsOk result };
 
     /// What was written is there, and no other part changed.
-    ghost written_puts: { (s : Self) (index : ℕ) (part : T) → IsSome (part_at s index) → Puts (part_at s) index (Some part) (part_at (written s index part)) };
+    ghost written_puts: { (s : Self) (index : ℕ) (part : T) → IsSome (part_at s index)
+        → Puts (part_at s) index (Some part) (part_at (written s index part)) };
 
     /// Lending a part for writing is told.
-    ghost written_tells: { (s : Self) (index : ℕ) (part : T) → events (written s index part) ≡ told (emits s) (events s) (event.Modified index) };
+    ghost written_tells: { (s : Self) (index : ℕ) (part : T)
+        → events (written s index part) ≡ told (emits s) (events s) (event.Modified index) };
 
     /// Writing leaves the emission.
     ghost written_emits: { (s : Self) (index : ℕ) (part : T) → emits (written s index part) ≡ emits s };
 
     /// Lending a part for writing uses up the room of one.
-    ghost written_room: { (s : Self) (index : ℕ) (part : T) (count : ℕ) → has_room s (count + 1) → has_room (written s index part) count };
+    ghost written_room: { (s : Self) (index : ℕ) (part : T) (count : ℕ) → has_room s (count + 1)
+        → has_room (written s index part) count };
 
     /// Room for one change more is room for these.
     ghost room_for_fewer: { (s : Self) (count : ℕ) → has_room s (count + 1) → has_room s count };

@@ -9,10 +9,10 @@ use types.Logic.{Logic, sem}
 use Rattle.std.specs.Prelude.{Result}
 use Rattle.std.specs.Borrow.{RattleType, GName, MutBor, follows, follows_if, name_if_ok}
 use Rattle.specs_layouts.specs.Masked.{Masked}
-use Rattle.specs_layouts.specs.MaskedLends.{StorageMembers}
+use Rattle.specs_layouts.specs.MaskedLends.{StorageMembers, layout_ghosts, default_ghosts, masked_row}
 use Rattle.specs_storage.specs.declared.storage.Storage.{Storage}
 use Rattle.specs_storage.specs.declared.entry.StorageEntry.{StorageEntry}
-use Rattle.specs_storage.specs.StorageLends.{layout_ghosts, default_ghosts, masked_row, storage_row, with_store, lends_store}
+use Rattle.specs_storage.specs.StorageLends.{storage_row, with_store, lends_store}
 use Rattle.specs_storage.specs.EntryLends.{lends_open, lends_entry, store_of}
 
 module _ {M : Type 1} {𝓤 : Ura M} (𝓛 : Logic 𝓤) where

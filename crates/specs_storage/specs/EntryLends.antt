@@ -3,7 +3,7 @@ use mir.Syntax.{named}
 use Rattle.std.specs.Prelude.{◌≡◌, ℕ, [], Some, is_some, if◌then◌else◌, Result}
 use Rattle.std.specs.Borrow.{Fml, RattleType, MutBor, LendsIfOk, LendsSoOk, RestsIfErr, follows_if, name_if_ok}
 use Rattle.specs_layouts.specs.Masked.{Masked}
-use Rattle.specs_layouts.specs.MaskedLends.{StorageMembers}
+use Rattle.specs_layouts.specs.MaskedLends.{StorageMembers, layout_ghosts, default_ghosts, masked_row}
 use Rattle.specs_layouts.specs.declared.unprotected.UnprotectedStorage as unprotected
 use Rattle.specs_layouts.specs.declared.unprotected.TryDefault as try_default
 use Rattle.specs_layouts.specs.Parts.{Puts, SameParts, told}
@@ -13,7 +13,7 @@ use Rattle.specs_storage.specs.declared.entry.OccupiedEntry.{OccupiedEntry}
 use Rattle.specs_storage.specs.declared.entry.StorageEntry.{StorageEntry}
 use Rattle.specs_storage.specs.declared.entry.StorageEntry.TheVariants.{Occupied, Vacant}
 use Rattle.specs_storage.specs.contracts.entry.OccupiedEntry as occupied
-use Rattle.specs_storage.specs.StorageLends.{layout_ghosts, default_ghosts, masked_row, storage_row, with_store}
+use Rattle.specs_storage.specs.StorageLends.{storage_row, with_store}
 
 -- the storage with a part at an index
 abbrev pub with_written : {S T : Type 0} → (S → ℕ → T → S) → Masked S → ℕ → T → Masked S

@@ -9,3 +9,4 @@ pub mod Paired
 pub mod PairedMut
 pub mod PairCursors
 pub mod EntryCursors
+pub mod PairCursorLends

@@ -3,24 +3,14 @@ use mir.Syntax.{named}
 use denote.Ref.{MutRef}
 use Rattle.std.specs.Prelude.{ℕ, [], Result}
 use Rattle.std.specs.Borrow.{Fml, RattleType, MutBor, Lends, LendsIfOk}
+use Rattle.specs_events.specs.Channels.{Channel}
+use Rattle.specs_events.specs.contracts.channel.EventChannel as channel
 use Rattle.specs_layouts.specs.Masked.{Masked}
-use Rattle.specs_layouts.specs.MaskedLends.{StorageMembers}
-use Rattle.specs_layouts.specs.declared.unprotected.UnprotectedStorage as unprotected
-use Rattle.specs_layouts.specs.declared.unprotected.TryDefault as try_default
-use Rattle.specs_layouts.specs.contracts.masked.MaskedStorage as masked
+use Rattle.specs_layouts.specs.declared.track.ComponentEvent.{ComponentEvent}
+use Rattle.specs_layouts.specs.contracts.track.ComponentEvent as event
+use Rattle.specs_layouts.specs.MaskedLends.{StorageMembers, masked_row}
 use Rattle.specs_storage.specs.declared.storage.Storage.{Storage}
 use Rattle.specs_storage.specs.contracts.storage.Storage as storage
-
--- the members of a layout, and those of its default
-abbrev pub layout_ghosts : {S T : Type 0} → StorageMembers S T → unprotected.Ghosts S T
-layout_ghosts g = record { part_at = g.part_at; written = g.written; events = g.events; emits = g.emits; has_room = g.has_room }
-
-abbrev pub default_ghosts : {S T : Type 0} → StorageMembers S T → try_default.Ghosts S
-default_ghosts g = record { is_default = g.is_default; always = g.always }
-
--- the type of the parts with their mask
-abbrev pub masked_row : (T S : RattleType) → StorageMembers S.Denot T.Denot → RattleType
-masked_row T S g = masked.the_row T S (layout_ghosts g) (default_ghosts g)
 
 -- the type of a storage that is lent for writing; its lifetime is the second of the signature
 abbrev pub storage_row : (T S : RattleType) → StorageMembers S.Denot T.Denot → RattleType
@@ -41,3 +31,9 @@ lends_part T S g m index r = LendsIfOk (storage_row T S g) T m r (with_part g.wr
 -- the storage has the parts that were left
 abbrev pub lends_store : (T S : RattleType) → StorageMembers S.Denot T.Denot → MutBor (Storage T.Denot (MutBor (Masked S.Denot))) → MutBor (Masked S.Denot) → Fml
 lends_store T S g m r = Lends (storage_row T S g) (masked_row T S g) m r (with_store m.now)
+
+-- the storage has the channel that was written
+abbrev pub lends_channel : (T S : RattleType) → StorageMembers S.Denot T.Denot → (S.Denot → Channel ComponentEvent → S.Denot) → MutBor (Storage T.Denot (MutBor (Masked S.Denot))) → MutBor (Channel ComponentEvent) → Fml
+lends_channel T S g put m r =
+    Lends (storage_row T S g) (channel.the_row event.the_row) m r
+    (λ c. with_store m.now (record m.now.store.now { inner = put m.now.store.now.inner c }))

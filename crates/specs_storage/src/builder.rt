@@ -2,7 +2,7 @@
 ghost use Rattle.std.specs.Prelude.{◌≡◌, Some, IfOk, IfErr, OnOk, OnErr, IsOk, IsSome, is_some, false, if◌then◌else◌};
 ghost use Rattle.specs_entity.specs.Births.{Births, IsAlive};
 ghost use Rattle.specs_entity.specs.declared.ids.Entity.{Entity};
-ghost use Rattle.specs_layouts.specs.Parts.{Puts, SameParts, told};
+ghost use Rattle.specs_layouts.specs.MaskedChanges.{PutsIn, KeepsParts, told_put};
 ghost use Rattle.specs_layouts.specs.declared.track.ComponentEvent.TheVariants as event;
 ghost use Rattle.specs_storage.specs.Found.{RefusesInsert};
 
@@ -32,11 +32,13 @@ pub trait BuildWith: Sized {
     ) -> Result<Self, (Error, Self, T)>
         ensures builder { IfOk result (λ builder. builder ≡ self) }
         ensures alive { OnOk result (IsAlive (births self) (entity self)) }
-        ensures ok { OnOk result (Puts (T.Storage.part_at storage.old.inner) (entity self).id (Some part) (T.Storage.part_at storage.new.inner)) }
-        ensures err { OnErr result (SameParts (T.Storage.part_at storage.old.inner) (T.Storage.part_at storage.new.inner)) }
+        ensures ok { OnOk result (PutsIn T.Storage.part_at storage.old (entity self).id (Some part) storage.new) }
+        ensures err { OnErr result (KeepsParts T.Storage.part_at storage.old storage.new) }
         ensures refused { IfErr result (λ refused. RefusesInsert (births self) (entity self) refused.0) }
         ensures handed_back { IfErr result (λ refused. (refused.1 ≡ self) × (refused.2 ≡ part)) }
-        ensures succeeds { IsAlive (births self) (entity self) → IsSome (T.Storage.part_at storage.old.inner (entity self).id) → T.Storage.emits storage.old.inner ≡ false → IsOk result }
+        ensures succeeds { IsAlive (births self) (entity self)
+            → IsSome (T.Storage.part_at storage.old.inner (entity self).id)
+            → T.Storage.emits storage.old.inner ≡ false → IsOk result }
         ensures emission { T.Storage.emits storage.new.inner ≡ T.Storage.emits storage.old.inner };
 }
 
@@ -52,15 +54,17 @@ impl<'a> BuildWith for EntityResBuilder<'a> {
     ) -> Result<EntityResBuilder<'a>, (Error, EntityResBuilder<'a>, T)>
         ensures builder { IfOk result (λ builder. builder ≡ self.entry) }
         ensures alive { OnOk result (IsAlive self.entry.entities.now self.entry.entity) }
-        ensures ok { OnOk result (Puts (T.Storage.part_at storage.old.inner) self.entry.entity.id (Some part) (T.Storage.part_at storage.new.inner)) }
-        ensures err { OnErr result (SameParts (T.Storage.part_at storage.old.inner) (T.Storage.part_at storage.new.inner)) }
+        ensures ok { OnOk result (PutsIn T.Storage.part_at storage.old self.entry.entity.id (Some part) storage.new) }
+        ensures err { OnErr result (KeepsParts T.Storage.part_at storage.old storage.new) }
         ensures refused { IfErr result (λ refused. RefusesInsert self.entry.entities.now self.entry.entity refused.0) }
         ensures handed_back { IfErr result (λ refused. (refused.1 ≡ self.entry) × (refused.2 ≡ part)) }
-        ensures succeeds { IsAlive self.entry.entities.now self.entry.entity → IsSome (T.Storage.part_at storage.old.inner self.entry.entity.id) → T.Storage.emits storage.old.inner ≡ false → IsOk result }
+        ensures succeeds { IsAlive self.entry.entities.now self.entry.entity
+            → IsSome (T.Storage.part_at storage.old.inner self.entry.entity.id)
+            → T.Storage.emits storage.old.inner ≡ false → IsOk result }
 
         // One event tells of it, and a refusal writes none.
-        ensures events { OnOk result (T.Storage.events storage.new.inner ≡ told (T.Storage.emits storage.old.inner) (T.Storage.events storage.old.inner)
-            (if is_some (T.Storage.part_at storage.old.inner self.entry.entity.id) then event.Modified self.entry.entity.id else event.Inserted self.entry.entity.id)) }
+        ensures events { OnOk result (T.Storage.events storage.new.inner
+            ≡ told_put T.Storage.part_at T.Storage.emits T.Storage.events storage.old self.entry.entity.id) }
         ensures silent { OnErr result (T.Storage.events storage.new.inner ≡ T.Storage.events storage.old.inner) }
         ensures emission { T.Storage.emits storage.new.inner ≡ T.Storage.emits storage.old.inner }
     {
@@ -78,13 +82,15 @@ fn put<T: Component>(
     part: T,
 ) -> Result<(), (Error, T)>
     ensures alive { OnOk result (IsAlive builder.now.entities.now builder.now.entity) }
-    ensures ok { OnOk result (Puts (T.Storage.part_at storage.old.inner) builder.now.entity.id (Some part) (T.Storage.part_at storage.new.inner)) }
-    ensures err { OnErr result (SameParts (T.Storage.part_at storage.old.inner) (T.Storage.part_at storage.new.inner)) }
+    ensures ok { OnOk result (PutsIn T.Storage.part_at storage.old builder.now.entity.id (Some part) storage.new) }
+    ensures err { OnErr result (KeepsParts T.Storage.part_at storage.old storage.new) }
     ensures refused { IfErr result (λ refused. RefusesInsert builder.now.entities.now builder.now.entity refused.0) }
     ensures handed_back { IfErr result (λ refused. refused.1 ≡ part) }
-    ensures succeeds { IsAlive builder.now.entities.now builder.now.entity → IsSome (T.Storage.part_at storage.old.inner builder.now.entity.id) → T.Storage.emits storage.old.inner ≡ false → IsOk result }
-    ensures events { OnOk result (T.Storage.events storage.new.inner ≡ told (T.Storage.emits storage.old.inner) (T.Storage.events storage.old.inner)
-        (if is_some (T.Storage.part_at storage.old.inner builder.now.entity.id) then event.Modified builder.now.entity.id else event.Inserted builder.now.entity.id)) }
+    ensures succeeds { IsAlive builder.now.entities.now builder.now.entity
+        → IsSome (T.Storage.part_at storage.old.inner builder.now.entity.id)
+        → T.Storage.emits storage.old.inner ≡ false → IsOk result }
+    ensures events { OnOk result (T.Storage.events storage.new.inner
+        ≡ told_put T.Storage.part_at T.Storage.emits T.Storage.events storage.old builder.now.entity.id) }
     ensures silent { OnErr result (T.Storage.events storage.new.inner ≡ T.Storage.events storage.old.inner) }
     ensures emission { T.Storage.emits storage.new.inner ≡ T.Storage.emits storage.old.inner }
 {

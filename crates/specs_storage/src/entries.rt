@@ -6,7 +6,8 @@ ghost use Rattle.hibitset_sets.specs.Walk.{walk};
 ghost use Rattle.hibitset_sets.specs.Iter.{left_of};
 ghost use Rattle.specs_layouts.specs.ToCome.{IsToCome};
 ghost use Rattle.specs_storage.specs.EntryLends.{store_of, id_of};
-ghost use Rattle.specs_storage.specs.StorageLends.{masked_row, lends_store};
+ghost use Rattle.specs_storage.specs.StorageLends.{lends_store};
+ghost use Rattle.specs_layouts.specs.MaskedLends.{masked_row, layout_ghosts, default_ghosts};
 
 use crate::entry::{StorageEntry, entry_at};
 use crate::storage::Storage;
@@ -52,7 +53,8 @@ pub struct Place<'a, T: Component> {
 impl<'e, T: Component> Storage<'e, T, &'e mut MaskedStorage<T>> {
     /// The places of all indices.
     pub fn entries(&mut self) -> Entries<'_, T>
-        ensures* writes_back { sem 𝓛 (lends_store T.row T.Storage.row T.Storage.UnprotectedStorage self.entry result.store) }
+        ensures* writes_back { sem 𝓛 (lends_store T.row T.Storage.row T.Storage.UnprotectedStorage self.entry
+            result.store) }
         ensures value { result.store.now ≡ self.old.store.now }
     {
         Entries { store: self.store }
@@ -81,7 +83,8 @@ impl<'a, T: Component> Entries<'a, T> {
         ensures same_reference { result.store.ghost_name ≡ self.entry.store.ghost_name }
         ensures store { result.store.now ≡ self.entry.store.now }
         ensures left { indices_left R.Mask.members result ≡ walk (λ index. is_some (R.joins read index)) }
-        ensures values { (index : ℕ) → index < 16777216 → IsSome (R.joins read index) → R.value_at (values_of result) index ≡ R.joins read index }
+        ensures values { (index : ℕ) → index < 16777216 → IsSome (R.joins read index)
+            → R.value_at (values_of result) index ≡ R.joins read index }
     {
         let (mask, values) = read.open();
         EntryCursor {
@@ -100,7 +103,8 @@ impl<R: Join> Steps<R> {
     fn advance(&mut self) -> Option<Index>
         ensures values { self.new.values ≡ self.old.values }
         ensures index { self.new.index ≡ result }
-        ensures item { MatchOption result (left_of R.Mask.members self.old.keys ≡ []) (λ next. left_of R.Mask.members self.old.keys ≡ next ∷ left_of R.Mask.members self.new.keys) }
+        ensures item { MatchOption result (left_of R.Mask.members self.old.keys ≡ [])
+            (λ next. left_of R.Mask.members self.old.keys ≡ next ∷ left_of R.Mask.members self.new.keys) }
     {
         let next = self.keys.next_counted(&mut Uncounted);
         self.index = next;
@@ -138,11 +142,19 @@ impl<'a, T: Component, R: Join> EntryCursor<'a, T, R> {
     /// The place at the index.
     pub fn place(&mut self) -> Place<'_, T>
         requires { IsSome (index_of self.old) }
-        ensures* writes_back { sem 𝓛 (Lends (the_row (record { mir = named 1; lft = [] }) T.row R.row T.Storage.row R.Type.row R.Shown.row R.Value.row R.Mask.row
-            (record { show = R.show; joins = R.joins; opens = R.opens; unconstrained = R.unconstrained; value_at = R.value_at })
+        ensures* writes_back { sem 𝓛 (Lends
+            (the_row (record { mir = named 1; lft = [] }) T.row R.row T.Storage.row R.Type.row R.Shown.row
+            R.Value.row R.Mask.row
+            (record {
+              show = R.show;
+              joins = R.joins;
+              opens = R.opens;
+              unconstrained = R.unconstrained;
+              value_at = R.value_at;
+            })
             (record { members = R.Mask.members; words = R.Mask.words; reads = R.Mask.reads })
-            (record { part_at = T.Storage.part_at; written = T.Storage.written; events = T.Storage.events; emits = T.Storage.emits; has_room = T.Storage.has_room })
-            (record { is_default = T.Storage.is_default; always = T.Storage.always })) (masked_row T.row T.Storage.row T.Storage.UnprotectedStorage) self.entry result.store
+            (layout_ghosts T.Storage.UnprotectedStorage) (default_ghosts T.Storage.UnprotectedStorage))
+            (masked_row T.row T.Storage.row T.Storage.UnprotectedStorage) self.entry result.store
             (with_store self.old)) }
         ensures store { result.store.now ≡ self.old.store.now }
         ensures index { index_of self.old ≡ Some result.id }

@@ -1,5 +1,6 @@
 //! Storages behind a trait, for callers that take any.
-ghost use Rattle.std.specs.Prelude.{◌≡◌, ◌↔◌, ◌<◌, ℕ, Bool, false, IsOk, Option, Some, None, IsSome, option_copied, IfOk, IfErr, IsErrOf, OnOk, OnErr};
+ghost use Rattle.std.specs.Prelude.{◌≡◌, ◌↔◌, ◌<◌, ℕ, Bool, false, IsOk, Option, Some, None, IsSome, option_copied};
+ghost use Rattle.std.specs.Prelude.{IfOk, IfErr, IsErrOf, OnOk, OnErr};
 ghost use Rattle.std.specs.Borrow.{sem, LendsIfOk, LendsSoOk};
 ghost use Rattle.std.specs.Option.{UnwrapsOrElse};
 ghost use Rattle.specs_layouts.specs.Parts.{Puts, SameParts};
@@ -56,10 +57,13 @@ pub trait GenericWriteStorage: GenericReadStorage {
     ///
     /// Errors: those of `Storage::get_mut`.
     fn get_mut(&mut self, entity: Entity) -> Result<&mut Self::Component, LendError>
-        ensures* writes_back { sem 𝓛 (LendsIfOk Self.row Self.Component.row self.entry result (written self.old entity.id) self.old) }
+        ensures* writes_back { sem 𝓛 (LendsIfOk Self.row Self.Component.row self.entry result
+            (written self.old entity.id) self.old) }
         ensures value { IfOk result (λ part. Self.parts self.old entity.id ≡ Some part.now) }
-        ensures absent { IsErrOf result lending.Absent ↔ ¬ (HasPart (Self.births self.old) (Self.parts self.old) entity) }
-        ensures succeeds { HasPart (Self.births self.old) (Self.parts self.old) entity → emits self.old ≡ false → IsOk result };
+        ensures absent { IsErrOf result lending.Absent
+            ↔ ¬ (HasPart (Self.births self.old) (Self.parts self.old) entity) }
+        ensures succeeds { HasPart (Self.births self.old) (Self.parts self.old) entity → emits self.old ≡ false
+            → IsOk result };
 
     /// The part of an entity for writing, which is put by default where the entity has none.
     ///
@@ -68,9 +72,12 @@ pub trait GenericWriteStorage: GenericReadStorage {
     where
         Self::Component: Default,
         ensures* writes_back { sem 𝓛 (LendsSoOk Self.row Self.Component.row self.entry result
-            (λ after part. Puts (Self.parts self.old) entity.id (Some part) (Self.parts after) × (Self.births after ≡ Self.births self.old))
-            (λ after. SameParts (Self.parts self.old) (Self.parts after) × (Self.births after ≡ Self.births self.old))) }
-        ensures value { IfOk result (λ part. UnwrapsOrElse (Self.parts self.old entity.id) Self.Component.is_default part.now) }
+            (λ after part. Puts (Self.parts self.old) entity.id (Some part) (Self.parts after)
+            × (Self.births after ≡ Self.births self.old))
+            (λ after. SameParts (Self.parts self.old) (Self.parts after)
+            × (Self.births after ≡ Self.births self.old))) }
+        ensures value { IfOk result (λ part. UnwrapsOrElse
+            (Self.parts self.old entity.id) Self.Component.is_default part.now) }
         ensures absent { IsErrOf result lending.Absent ↔ ¬ (IsAlive (Self.births self.old) entity) };
 
     /// Puts `part` at an entity, and answers the part that it had.
@@ -83,7 +90,8 @@ pub trait GenericWriteStorage: GenericReadStorage {
         ensures handed_back { IfErr result (λ refused. refused.1 ≡ part) }
         ensures alive { OnOk result (IsAlive (Self.births self.old) entity) }
         ensures refused { IfErr result (λ refused. RefusesInsert (Self.births self.old) entity refused.0) }
-        ensures succeeds { HasPart (Self.births self.old) (Self.parts self.old) entity → emits self.old ≡ false → IsOk result }
+        ensures succeeds { HasPart (Self.births self.old) (Self.parts self.old) entity → emits self.old ≡ false
+            → IsOk result }
         ensures births { Self.births self.new ≡ Self.births self.old }
         ensures emission { emits self.new ≡ emits self.old };
 
@@ -92,18 +100,22 @@ pub trait GenericWriteStorage: GenericReadStorage {
     /// Errors: those of `Storage::remove`.
     fn remove(&mut self, entity: Entity) -> Result<Option<Self::Component>, AllocError>
         ensures value { IfOk result (Finds (Self.births self.old) (Self.parts self.old) entity) }
-        ensures ok { OnOk result (IsAlive (Self.births self.old) entity → Puts (Self.parts self.old) entity.id None (Self.parts self.new)) }
-        ensures dead { ¬ (IsAlive (Self.births self.old) entity) → SameParts (Self.parts self.old) (Self.parts self.new) }
+        ensures ok { OnOk result (IsAlive (Self.births self.old) entity
+            → Puts (Self.parts self.old) entity.id None (Self.parts self.new)) }
+        ensures dead { ¬ (IsAlive (Self.births self.old) entity)
+            → SameParts (Self.parts self.old) (Self.parts self.new) }
         ensures err { OnErr result (SameParts (Self.parts self.old) (Self.parts self.new)) }
         ensures succeeds { emits self.old ≡ false → IsOk result }
         ensures births { Self.births self.new ≡ Self.births self.old }
         ensures emission { emits self.new ≡ emits self.old };
 
     /// What was written is there, and no other part changed.
-    ghost written_puts: { (s : Self) (index : ℕ) (part : Self.Component) → IsSome (Self.parts s index) → Puts (Self.parts s) index (Some part) (Self.parts (written s index part)) };
+    ghost written_puts: { (s : Self) (index : ℕ) (part : Self.Component) → IsSome (Self.parts s index)
+        → Puts (Self.parts s) index (Some part) (Self.parts (written s index part)) };
 
     /// Writing leaves the entities.
-    ghost written_leaves: { (s : Self) (index : ℕ) (part : Self.Component) → Self.births (written s index part) ≡ Self.births s };
+    ghost written_leaves: { (s : Self) (index : ℕ) (part : Self.Component)
+        → Self.births (written s index part) ≡ Self.births s };
 
     /// Writing leaves the emission.
     ghost written_emits: { (s : Self) (index : ℕ) (part : Self.Component) → emits (written s index part) ≡ emits s };

@@ -80,20 +80,24 @@ pub trait RestrictMut<T: Component>: Restrict<T> {
     ghost use Rattle.std.specs.Borrow.{sem, Lends};
     ghost use Rattle.specs_layouts.specs.Masked.{Masked};
     ghost use Rattle.specs_storage.specs.RestrictedMut.{entities_of, store_of};
-    ghost use Rattle.specs_storage.specs.StorageLends.{masked_row};
+    ghost use Rattle.specs_layouts.specs.MaskedLends.{masked_row};
 
     /// The storage with other parts.
     ghost with_left: { Self → Masked T.Storage → Self };
 
     /// The parts, for reading and writing by one caller.
     fn restrict_mut(&mut self) -> RestrictedStorageMut<'_, T, SequentialRestriction>
-        ensures* writes_back { sem 𝓛 (Lends Self.row (masked_row T.row T.Storage.row T.Storage.UnprotectedStorage) self.entry (store_of result) (with_left self.old)) }
+        ensures* writes_back { sem 𝓛 (Lends Self.row
+            (masked_row T.row T.Storage.row T.Storage.UnprotectedStorage) self.entry (store_of result)
+            (with_left self.old)) }
         ensures entities { (entities_of result).now ≡ Self.births self.old }
         ensures store { (store_of result).now ≡ Self.masked self.old };
 
     /// The parts, for many callers, each of which may get what is at its own index alone.
     fn par_restrict_mut(&mut self) -> RestrictedStorageMut<'_, T, MutableParallelRestriction>
-        ensures* writes_back { sem 𝓛 (Lends Self.row (masked_row T.row T.Storage.row T.Storage.UnprotectedStorage) self.entry (store_of result) (with_left self.old)) }
+        ensures* writes_back { sem 𝓛 (Lends Self.row
+            (masked_row T.row T.Storage.row T.Storage.UnprotectedStorage) self.entry (store_of result)
+            (with_left self.old)) }
         ensures entities { (entities_of result).now ≡ Self.births self.old }
         ensures store { (store_of result).now ≡ Self.masked self.old };
 }

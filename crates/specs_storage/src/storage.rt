@@ -5,6 +5,7 @@ ghost use Rattle.specs_layouts.specs.Parts.{HasNone};
 ghost use Rattle.specs_layouts.specs.Masked.{Agrees};
 ghost use Rattle.specs_storage.specs.Found.{Finds, HasPart, has_some};
 
+mod track;
 mod write;
 
 use crate::loan::Loan;
@@ -91,7 +92,8 @@ impl<'e, T: Component, D: Loan<T>> Storage<'e, T, D> {
 
     /// The part of an entity, or none where the entity isn't alive or has none.
     pub fn get(&self, e: Entity) -> Option<&T>
-        ensures { Finds self.now.entities.now (T.Storage.part_at (D.lent self.now.store).inner) e (option_copied result) }
+        ensures { Finds self.now.entities.now (T.Storage.part_at (D.lent self.now.store).inner) e
+            (option_copied result) }
     {
         if self.contains(e) {
             Some(self.store.storage().get(e.id()))

@@ -16,6 +16,9 @@ mod drifts;
 mod entities;
 #[cfg(test)]
 mod entries;
+pub mod flagging;
+#[cfg(test)]
+mod flags;
 #[cfg(test)]
 mod joins;
 #[cfg(test)]

@@ -2,9 +2,9 @@
 ghost use Rattle.std.specs.Prelude.{[], All, map, option_map, option_and_then};
 ghost use Rattle.std.specs.Prelude.{◌≡◌};
 ghost use Rattle.serde_json.specs.View.{view};
-ghost use Rattle.scene_draft.specs.Drafts.{each, keys_within, entry_keys, entry_from, entries_from, system, read_or};
-ghost use Rattle.scene_draft.specs.DraftViews.{seen, config_seen, facts_of, plain_system, plain_entry, IsMadeAs, IsOfBook};
-ghost use Rattle.scene_draft.specs.ShapeWords.{items_seen, members_seen, system_in, Reads};
+ghost use Rattle.scene_draft.specs.Drafts.{each, keys_within, entry_keys, entry_from, entries_from, facts_in_shape, system, read_or};
+ghost use Rattle.scene_draft.specs.DraftViews.{seen, config_seen, facts_of, plain_system, plain_draft, IsMadeAs, IsOfBook};
+ghost use Rattle.scene_draft.specs.ShapeWords.{items_seen, members_seen, entry_in, Reads};
 
 use crate::draft::{EntryDraft, MadeDraft, SystemDraft};
 use crate::shape::fields::{has_only_keys, read_flag, read_name, read_names, read_text, says_true};
@@ -21,7 +21,7 @@ pub(crate) fn read_entries<'a, R: Rules>(
     found: Option<&'a Value>,
 ) -> Result<Vec<EntryDraft<'a, R::System>>, ReadError>
     ensures { Reads
-        (λ entries. map plain_entry entries.items)
+        (λ entries. map plain_draft entries.items)
         (λ entries. All (IsOfBook R.kind_of R.config_of (R.book rules.now)) entries.items)
         (read_or [] (entries_from (R.book rules.now)) (seen found.entry)) result }
 {
@@ -40,7 +40,7 @@ fn read_each_entry<'a, R: Rules>(
     values: &'a [Value],
 ) -> Result<Vec<EntryDraft<'a, R::System>>, ReadError>
     ensures { Reads
-        (λ entries. map plain_entry entries.items)
+        (λ entries. map plain_draft entries.items)
         (λ entries. All (IsOfBook R.kind_of R.config_of (R.book rules.now)) entries.items)
         (each (entry_from (R.book rules.now)) (items_seen values.now)) result }
 {
@@ -60,7 +60,7 @@ fn read_entry<'a, R: Rules>(
     rules: &R,
     value: &'a Value,
 ) -> Result<EntryDraft<'a, R::System>, ReadError>
-    ensures { Reads plain_entry
+    ensures { Reads plain_draft
         (IsOfBook R.kind_of R.config_of (R.book rules.now))
         (entry_from (R.book rules.now) (view value.now)) result }
 {
@@ -103,7 +103,7 @@ fn read_system<'a, R: Rules>(
     ensures { Reads
         (λ draft. system (plain_system draft))
         (λ draft. IsMadeAs R.kind_of R.config_of (R.book rules.now) draft.kind.now (config_seen (seen draft.config)) draft.made)
-        (system_in (R.book rules.now) (view value.now)) result }
+        (entry_in (R.book rules.now) (view value.now)) result }
 {
     let Some(kind) = read_text(value.get("kind")) else {
         return Err(ReadError::Shape);
@@ -140,7 +140,7 @@ fn make_system<R: Rules>(
     ensures { Reads
         (λ made. option_map facts_of made)
         (IsMadeAs R.kind_of R.config_of (R.book rules.now) kind.now (config_seen (seen found.entry)))
-        ((R.book rules.now).system kind.now (config_seen (seen found.entry))) result }
+        (facts_in_shape ((R.book rules.now).system kind.now (config_seen (seen found.entry)))) result }
 {
     match found {
         Some(config) => make_configured(alloc, rules, kind, config),
@@ -157,7 +157,7 @@ fn make_configured<R: Rules>(
     ensures { Reads
         (λ made. option_map facts_of made)
         (IsMadeAs R.kind_of R.config_of (R.book rules.now) kind.now (view config.now))
-        ((R.book rules.now).system kind.now (view config.now)) result }
+        (facts_in_shape ((R.book rules.now).system kind.now (view config.now))) result }
 {
     let Some(system) = rules.make_system(alloc, kind, config)? else {
         return Ok(None);

@@ -39,7 +39,8 @@ impl<A: BitSetLike, B: BitSetLike> BitAnd for (A, B) {
     ghost in_all = { λ sets index. A.members sets.0 index && B.members sets.1 index };
 
     fn and(self) -> BitSetAnd<A, B>
-        ensures members { (index : ℕ) → (A.members result.0 index && B.members result.1 index) ≡ (A.members self.0 index && B.members self.1 index) }
+        ensures members { (index : ℕ) → (A.members result.0 index && B.members result.1 index)
+            ≡ (A.members self.0 index && B.members self.1 index) }
         ensures first { result.0 ≡ self.0 }
         ensures second { result.1 ≡ self.1 }
     {
@@ -56,7 +57,8 @@ impl<A: BitSetLike, B: BitSetLike, C: BitSetLike> BitAnd for (A, B, C) {
     ghost in_all = { λ sets index. A.members sets.0 index && (B.members sets.1 index && C.members sets.2 index) };
 
     fn and(self) -> BitSetAnd<A, BitSetAnd<B, C>>
-        ensures members { (index : ℕ) → (A.members result.0 index && (B.members result.1.0 index && C.members result.1.1 index))
+        ensures members { (index : ℕ) → (A.members result.0 index
+            && (B.members result.1.0 index && C.members result.1.1 index))
             ≡ (A.members self.0 index && (B.members self.1 index && C.members self.2 index)) }
         ensures first { result.0 ≡ self.0 }
         ensures second { result.1.0 ≡ self.1 }
@@ -72,11 +74,14 @@ impl<A: BitSetLike, B: BitSetLike, C: BitSetLike, D: BitSetLike> BitAnd for (A, 
 
     ghost use Rattle.std.specs.Prelude.{◌&&◌};
 
-    ghost in_all = { λ sets index. (A.members sets.0 index && B.members sets.1 index) && (C.members sets.2 index && D.members sets.3 index) };
+    ghost in_all = { λ sets index. (A.members sets.0 index && B.members sets.1 index)
+        && (C.members sets.2 index && D.members sets.3 index) };
 
     fn and(self) -> BitSetAnd<BitSetAnd<A, B>, BitSetAnd<C, D>>
-        ensures members { (index : ℕ) → ((A.members result.0.0 index && B.members result.0.1 index) && (C.members result.1.0 index && D.members result.1.1 index))
-            ≡ ((A.members self.0 index && B.members self.1 index) && (C.members self.2 index && D.members self.3 index)) }
+        ensures members { (index : ℕ) → ((A.members result.0.0 index && B.members result.0.1 index)
+            && (C.members result.1.0 index && D.members result.1.1 index))
+            ≡ ((A.members self.0 index && B.members self.1 index)
+            && (C.members self.2 index && D.members self.3 index)) }
         ensures first { result.0.0 ≡ self.0 }
         ensures second { result.0.1 ≡ self.1 }
         ensures third { result.1.0 ≡ self.2 }

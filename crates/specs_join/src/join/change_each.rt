@@ -1,5 +1,6 @@
 //! Changes of the parts of a storage beside the items of a join.
 ghost use Rattle.std.specs.Prelude.{◌≡◌, ℕ, false, OnOk, IfErr};
+ghost use Rattle.specs_layouts.specs.Shows.{Shows};
 ghost use Rattle.specs_join.specs.ChangeEach.{AreChanged, AreChangedBelow, IsRefused, told_each, shared_indices};
 ghost use Rattle.specs_join.specs.EachErrors.{OnMemory, OnRefused};
 
@@ -20,12 +21,24 @@ pub fn change_each<T: Component, R: Join, C: Change<T, R>>(
 where
     R::Type: Drop,
     C::Refusal: Drop,
-    ensures ok { OnOk result (AreChanged (C.changed change.now) (T.Storage.part_at storage.old.inner) (R.joins read) (T.Storage.part_at storage.new.inner)) }
-    ensures events { OnOk result (T.Storage.events storage.new.inner ≡ told_each (T.Storage.emits storage.old.inner) (T.Storage.events storage.old.inner) (shared_indices storage.old.mask (R.joins read))) }
+    ensures ok { OnOk result (AreChanged (C.changed change.now) (T.Storage.part_at storage.old.inner) (R.joins read)
+        (T.Storage.part_at storage.new.inner)) }
+    ensures events { OnOk result (T.Storage.events storage.new.inner
+        ≡ told_each (T.Storage.emits storage.old.inner) (T.Storage.events storage.old.inner)
+        (shared_indices storage.old.mask (R.joins read))) }
     ensures succeeds { T.Storage.emits storage.old.inner ≡ false → IfErr result (OnMemory ⊥) }
-    ensures memory { IfErr result (OnMemory ((index : ℕ) × AreChangedBelow (C.changed change.now) (T.Storage.part_at storage.old.inner) (R.joins read) index (T.Storage.part_at storage.new.inner))) }
-    ensures refused { IfErr result (OnRefused (IsRefused (C.changed change.now) (T.Storage.part_at storage.old.inner) (R.joins read))) }
-    ensures below { IfErr result (OnRefused (λ index. AreChangedBelow (C.changed change.now) (T.Storage.part_at storage.old.inner) (R.joins read) index (T.Storage.part_at storage.new.inner))) }
+
+    // Also where it is refused, the events show what was changed.
+    ensures shows { Shows T.Storage.part_at T.Storage.events T.Storage.emits storage.old.inner storage.new.inner }
+
+    ensures memory { IfErr result (OnMemory
+        ((index : ℕ) × AreChangedBelow (C.changed change.now) (T.Storage.part_at storage.old.inner)
+        (R.joins read) index (T.Storage.part_at storage.new.inner))) }
+    ensures refused { IfErr result (OnRefused
+        (IsRefused (C.changed change.now) (T.Storage.part_at storage.old.inner) (R.joins read))) }
+    ensures below { IfErr result (OnRefused
+        (λ index. AreChangedBelow (C.changed change.now) (T.Storage.part_at storage.old.inner) (R.joins read) index
+        (T.Storage.part_at storage.new.inner))) }
 {
     let _mask = storage.mask();
     let mut cursor = JoinCursor::new(storage, read);

@@ -1,7 +1,7 @@
 //! A walk that lends one part after the other for writing.
-ghost use mir.Syntax.{named};
-ghost use Rattle.std.specs.Prelude.{◌≡◌, ℕ, ◌<◌, ◌&&◌, [], ◌∷◌, true, false, Some, is_some, unwrap_or, IsSome, IsTrue, IsOk, IfOk};
-ghost use Rattle.std.specs.Borrow.{sem, LendsIfOk};
+ghost use Rattle.std.specs.Prelude.{◌≡◌, ℕ, ◌<◌, ◌&&◌, [], ◌∷◌, true, false, Some, is_some, IsSome};
+ghost use Rattle.std.specs.Prelude.{IsTrue, IsOk, IfOk};
+ghost use Rattle.std.specs.Borrow.{sem};
 ghost use Rattle.specs_join.specs.ChangeEach.{shared_indices};
 
 use crate::join::Join;
@@ -40,15 +40,17 @@ impl<T: Component, R: Join> Drop for JoinCursor<'_, T, R> {
 }
 
 impl<'a, T: Component, R: Join> JoinCursor<'a, T, R> {
-    ghost use Rattle.specs_join.specs.contracts.join.cursor.JoinCursor.{the_row};
-    ghost use Rattle.specs_join.specs.Cursors.{storage_of, mask_of, values_of, index_of, indices_left, CanGoOn, StandsAt, with_part_written};
+    ghost use Rattle.specs_join.specs.CursorLends.{lends_values};
+    ghost use Rattle.specs_join.specs.Cursors.{storage_of, mask_of, values_of, index_of, indices_left, CanGoOn};
+    ghost use Rattle.specs_join.specs.Cursors.{StandsAt};
 
     /// A cursor before the first index that the storage and the join share.
     pub fn new(storage: &'a mut MaskedStorage<T>, read: R) -> Self
         ensures same_reference { (storage_of result).ghost_name ≡ storage.entry.ghost_name }
         ensures storage { (storage_of result).now ≡ storage.old }
         ensures left { indices_left R.Mask.members result ≡ shared_indices storage.old.mask (R.joins read) }
-        ensures values { (index : ℕ) → index < 16777216 → IsSome (R.joins read index) → R.value_at (values_of result) index ≡ R.joins read index }
+        ensures values { (index : ℕ) → index < 16777216 → IsSome (R.joins read index)
+            → R.value_at (values_of result) index ≡ R.joins read index }
         ensures ready { CanGoOn R.Mask.members R.value_at result }
     {
         let (mask, values) = read.open();
@@ -91,7 +93,8 @@ impl<'a, T: Component, R: Join> JoinCursor<'a, T, R> {
     /// What the join has at the index.
     pub fn item(&self) -> R::Type
         requires { (index : ℕ) × StandsAt R.value_at self.now index }
-        ensures { (index : ℕ) → index_of self.now ≡ Some index → R.value_at (values_of self.now) index ≡ Some (R.show result) }
+        ensures { (index : ℕ) → index_of self.now ≡ Some index
+            → R.value_at (values_of self.now) index ≡ Some (R.show result) }
     {
         let Some(id) = self.index else { unreachable!() };
         R::get(&self.values, id)
@@ -102,11 +105,10 @@ impl<'a, T: Component, R: Join> JoinCursor<'a, T, R> {
     /// Errors: `AllocError`, where the storage emits, and nothing changed.
     pub fn values(&mut self) -> Result<&mut T, AllocError>
         requires { (index : ℕ) × StandsAt R.value_at self.old index }
-        ensures* writes_back { sem 𝓛 (LendsIfOk (the_row (record { mir = named 1; lft = [] }) T.row R.row T.Storage.row R.Type.row R.Shown.row R.Value.row R.Mask.row
-            (record { part_at = T.Storage.part_at; written = T.Storage.written; events = T.Storage.events; emits = T.Storage.emits; has_room = T.Storage.has_room })
-            (record { is_default = T.Storage.is_default; always = T.Storage.always })) T.row self.entry result
-            (with_part_written T.Storage.written self.old (unwrap_or (index_of self.old) 0)) self.old) }
-        ensures part { IfOk result (λ part. (index : ℕ) → index_of self.old ≡ Some index → T.Storage.part_at (storage_of self.old).now.inner index ≡ Some part.now) }
+        ensures* writes_back { sem 𝓛 (lends_values T.row R.row T.Storage.row R.Type.row R.Shown.row R.Value.row
+            R.Mask.row T.Storage.UnprotectedStorage self.entry result) }
+        ensures part { IfOk result (λ part. (index : ℕ) → index_of self.old ≡ Some index
+            → T.Storage.part_at (storage_of self.old).now.inner index ≡ Some part.now) }
         ensures succeeds { T.Storage.emits (storage_of self.old).now.inner ≡ false → IsOk result }
         ensures within_room { T.Storage.has_room (storage_of self.old).now.inner 1 → IsOk result }
     {

@@ -27,16 +27,23 @@ impl<J: Join> Model for JoinIter<J> {
 
     ghost coded = { joining_code J.Mask.code J.Value.code };
 
-    ghost view = { λ it. record { indices = left_of J.Mask.members it.keys; mask = walked_set it.keys; values = it.values; unread = unread J.Mask.reads J.Mask.words it.keys } };
+    ghost view = { λ it. record {
+      indices = left_of J.Mask.members it.keys;
+      mask = walked_set it.keys;
+      values = it.values;
+      unread = unread J.Mask.reads J.Mask.words it.keys;
+    } };
 
-    ghost invariant = { λ it. IsJoining (J.Mask.members (walked_set it.keys)) (J.value_at it.values) (left_of J.Mask.members it.keys) };
+    ghost invariant = { λ it. IsJoining (J.Mask.members (walked_set it.keys)) (J.value_at it.values)
+        (left_of J.Mask.members it.keys) };
 }
 
 impl<J: Join> JoinIter<J> {
     /// A walk over the items of a join, as `Join::join` gives it.
     pub fn new(join: J) -> Self
         ensures items { items_left J.value_at result ≡ join_list (J.joins join) }
-        ensures found { (index : ℕ) → index < 16777216 → found J.Mask.members J.value_at result index ≡ J.joins join index }
+        ensures found { (index : ℕ) → index < 16777216
+            → found J.Mask.members J.value_at result index ≡ J.joins join index }
     {
         JoinIter::new_counted(join, &mut Uncounted)
     }
@@ -44,9 +51,11 @@ impl<J: Join> JoinIter<J> {
     /// The same walk, telling of the words that making it reads from the mask.
     pub fn new_counted<C: Counter>(join: J, count: &mut C) -> Self
         ensures items { items_left J.value_at result ≡ join_list (J.joins join) }
-        ensures found { (index : ℕ) → index < 16777216 → found J.Mask.members J.value_at result index ≡ J.joins join index }
+        ensures found { (index : ℕ) → index < 16777216
+            → found J.Mask.members J.value_at result index ≡ J.joins join index }
         ensures mask { J.opens join result.mask }
-        ensures unread { J.Mask.reads result.mask 3 + result.unread ≡ words_walked (J.Mask.reads result.mask) (J.Mask.words result.mask) }
+        ensures unread { J.Mask.reads result.mask 3 + result.unread
+            ≡ words_walked (J.Mask.reads result.mask) (J.Mask.words result.mask) }
         ensures counted { C.ticked count.old (J.Mask.reads result.mask 3) count.new }
     {
         let (mask, values) = join.open();
@@ -60,7 +69,8 @@ impl<J: Join> JoinIter<J> {
     ///
     /// An entity that isn't alive has no item, whatever its index has.
     pub fn get(&self, entity: Entity, entities: &EntitiesRes) -> Option<J::Type>
-        ensures alive { IsAlive entities.now entity → shown_of J.show result ≡ found J.Mask.members J.value_at self.now entity.id }
+        ensures alive { IsAlive entities.now entity
+            → shown_of J.show result ≡ found J.Mask.members J.value_at self.now entity.id }
         ensures dead { ¬ (IsAlive entities.now entity) → result ≡ None }
     {
         if entities.is_alive(entity) {

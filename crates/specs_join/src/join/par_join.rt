@@ -50,10 +50,12 @@ where
         f: F,
     ) -> Result<Vec<T>, AllocError>
         requires { F.IsAlwaysCallable f }
-        ensures each { IfOk result (λ v. AllZip (Answers J.show (λ item t. F.post f item t)) (join_list (J.joins self.0)) v.items) }
+        ensures each { IfOk result (λ v. AllZip (Answers J.show (λ item t. F.post f item t))
+            (join_list (J.joins self.0)) v.items) }
 
         // Where the answer hangs on what the item shows alone, this is the plain map.
-        ensures plain { (answer : J.Shown → T) → Hangs J.show (λ item t. F.post f item t) answer → IfOk result (λ v. v.items ≡ map answer (join_list (J.joins self.0))) }
+        ensures plain { (answer : J.Shown → T) → Hangs J.show (λ item t. F.post f item t) answer
+            → IfOk result (λ v. v.items ≡ map answer (join_list (J.joins self.0))) }
     {
         let JoinParIter(join) = self;
         let (mask, values) = join.open();
@@ -73,9 +75,11 @@ fn fold_parts<J: Join + Sync, R: Threads + Sync, T: Send + Drop, F: Fn(J::Type) 
 where
     J::Mask: Sync,
     J::Value: Sync,
-    requires known { (index : ℕ) → index < 16777216 → J.Mask.members mask.now index ≡ true → IsSome (J.value_at values.now index) }
+    requires known { (index : ℕ) → index < 16777216 → J.Mask.members mask.now index ≡ true
+        → IsSome (J.value_at values.now index) }
     requires callable { F.IsAlwaysCallable f.now }
-    ensures { IfOk result (IsCollected (at_members (J.Mask.members mask.now) (J.value_at values.now)) (Answers J.show (λ item t. F.post f.now item t)) (walk (J.Mask.members mask.now))) }
+    ensures { IfOk result (IsCollected (at_members (J.Mask.members mask.now) (J.value_at values.now))
+        (Answers J.show (λ item t. F.post f.now item t)) (walk (J.Mask.members mask.now))) }
 {
     BitParIter::new(mask).fold(
         rt,
@@ -85,8 +89,10 @@ where
             ensures { IfOk result (λ v. v.items ≡ []) }
         { Ok(Vec::new(alloc)) },
         |sofar: Result<Vec<T>, AllocError>, id: Index| -> Result<Vec<T>, AllocError>
-            requires { ((index : ℕ) → index < 16777216 → J.Mask.members mask.now index ≡ true → IsSome (J.value_at values.now index)) × F.IsAlwaysCallable f.now }
-            ensures { AnswersNext (at_members (J.Mask.members mask.entry.now) (J.value_at values.entry.now)) J.show (λ item t. F.post f.entry.now item t) id sofar result }
+            requires { ((index : ℕ) → index < 16777216 → J.Mask.members mask.now index ≡ true
+                → IsSome (J.value_at values.now index)) × F.IsAlwaysCallable f.now }
+            ensures { AnswersNext (at_members (J.Mask.members mask.entry.now) (J.value_at values.entry.now)) J.show
+                (λ item t. F.post f.entry.now item t) id sofar result }
         { answer_next::<J, T, F>(mask, values, f, sofar, id) },
         |sofar: Result<Vec<T>, AllocError>, more: Result<Vec<T>, AllocError>| -> Result<
             Vec<T>,
@@ -99,7 +105,8 @@ where
 
 /// The item at an index below `MAX_EID` that the mask has.
 fn item_at<J: Join>(mask: &J::Mask, values: &J::Value, id: Index) -> Option<J::Type>
-    requires { (index : ℕ) → index < 16777216 → J.Mask.members mask.now index ≡ true → IsSome (J.value_at values.now index) }
+    requires { (index : ℕ) → index < 16777216 → J.Mask.members mask.now index ≡ true
+        → IsSome (J.value_at values.now index) }
     ensures { shown_of J.show result ≡ at_members (J.Mask.members mask.now) (J.value_at values.now) id }
 {
     if (id as usize) < MAX_EID && mask.contains(id) {
@@ -117,9 +124,11 @@ fn answer_next<J: Join, T: Drop, F: Fn(J::Type) -> T>(
     sofar: Result<Vec<T>, AllocError>,
     id: Index,
 ) -> Result<Vec<T>, AllocError>
-    requires known { (index : ℕ) → index < 16777216 → J.Mask.members mask.now index ≡ true → IsSome (J.value_at values.now index) }
+    requires known { (index : ℕ) → index < 16777216 → J.Mask.members mask.now index ≡ true
+        → IsSome (J.value_at values.now index) }
     requires callable { F.IsAlwaysCallable f.now }
-    ensures { AnswersNext (at_members (J.Mask.members mask.now) (J.value_at values.now)) J.show (λ item t. F.post f.now item t) id sofar result }
+    ensures { AnswersNext (at_members (J.Mask.members mask.now) (J.value_at values.now)) J.show
+        (λ item t. F.post f.now item t) id sofar result }
 {
     let list = sofar?;
     let Some(item) = item_at::<J>(mask, values, id) else {

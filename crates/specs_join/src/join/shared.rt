@@ -3,7 +3,7 @@ ghost use Rattle.std.specs.Prelude.{◌≡◌, [], ◌∷◌, MatchOption};
 ghost use Rattle.hibitset_sets.specs.Walk.{walk, IsPlaced};
 ghost use Rattle.specs_join.specs.Cursor.{shared};
 
-use hibitset::{BitIter, BitSet, BitSetAnd, BitSetLike, Index, Uncounted};
+use hibitset::{BitIter, BitSet, BitSetAnd, BitSetLike, Index, Uncounted, take_in_word};
 
 /// How far a walk over the indices that two sets share has come, ascending.
 #[derive(Drop)]
@@ -29,8 +29,24 @@ impl SharedSteps {
     /// come is told of sets that are as they were at the steps before.
     pub fn step<M: BitSetLike + Drop>(&mut self, parts: &BitSet, mask: &M) -> Option<Index>
         ensures { MatchOption result
-            ((still_shared M.members parts.now mask.now self.old ≡ []) × (still_shared M.members parts.now mask.now self.new ≡ []))
-            (λ index. still_shared M.members parts.now mask.now self.old ≡ index ∷ still_shared M.members parts.now mask.now self.new) }
+            ((still_shared M.members parts.now mask.now self.old ≡ [])
+            × (still_shared M.members parts.now mask.now self.new ≡ []))
+            (λ index. still_shared M.members parts.now mask.now self.old
+            ≡ index ∷ still_shared M.members parts.now mask.now self.new) }
+    {
+        if self.masks[0] != 0 {
+            return Some(take_in_word(&mut self.masks, &self.prefix));
+        }
+        self.search(parts, mask)
+    }
+
+    /// `step` by a step of a walk, which looks for the next word.
+    fn search<M: BitSetLike + Drop>(&mut self, parts: &BitSet, mask: &M) -> Option<Index>
+        ensures { MatchOption result
+            ((still_shared M.members parts.now mask.now self.old ≡ [])
+            × (still_shared M.members parts.now mask.now self.new ≡ []))
+            (λ index. still_shared M.members parts.now mask.now self.old
+            ≡ index ∷ still_shared M.members parts.now mask.now self.new) }
     {
         let mut walk = BitIter::new(BitSetAnd(parts, mask), self.masks, self.prefix);
         let next = walk.next_counted(&mut Uncounted);

@@ -61,7 +61,8 @@ impl<A: Join, B: Join, C: Join> Join for (A, B, C) {
 
     ghost unconstrained = { A.unconstrained && (B.unconstrained && C.unconstrained) };
 
-    ghost value_at = { λ values index. all_three (A.value_at values.0 index) (B.value_at values.1 index) (C.value_at values.2 index) };
+    ghost value_at = { λ values index. all_three (A.value_at values.0 index) (B.value_at values.1 index)
+        (C.value_at values.2 index) };
 
     fn open(
         self,
@@ -106,13 +107,16 @@ impl<A: Join, B: Join, C: Join, D: Join> Join for (A, B, C, D) {
 
     ghost show = { λ item. (A.show item.0, B.show item.1, C.show item.2, D.show item.3) };
 
-    ghost joins = { λ join index. all_four (A.joins join.0 index) (B.joins join.1 index) (C.joins join.2 index) (D.joins join.3 index) };
+    ghost joins = { λ join index. all_four (A.joins join.0 index) (B.joins join.1 index) (C.joins join.2 index)
+        (D.joins join.3 index) };
 
-    ghost opens = { λ join mask. A.opens join.0 mask.0.0 × B.opens join.1 mask.0.1 × C.opens join.2 mask.1.0 × D.opens join.3 mask.1.1 };
+    ghost opens = { λ join mask. A.opens join.0 mask.0.0 × B.opens join.1 mask.0.1 × C.opens join.2 mask.1.0
+        × D.opens join.3 mask.1.1 };
 
     ghost unconstrained = { (A.unconstrained && B.unconstrained) && (C.unconstrained && D.unconstrained) };
 
-    ghost value_at = { λ values index. all_four (A.value_at values.0 index) (B.value_at values.1 index) (C.value_at values.2 index) (D.value_at values.3 index) };
+    ghost value_at = { λ values index. all_four (A.value_at values.0 index) (B.value_at values.1 index)
+        (C.value_at values.2 index) (D.value_at values.3 index) };
 
     fn open(
         self,

@@ -1,5 +1,6 @@
 //! A slot for each index, with defaults in the gaps.
-ghost use Rattle.std.specs.Prelude.{◌≡◌, ◌≢◌, ℕ, ◌+◌, ◌<◌, ◌≤◌, max, None, Some, is_some, IsSome, IfSome, IfOk, IfErr, IsOk, OnOk, OnErr, length, slice_get};
+ghost use Rattle.std.specs.Prelude.{◌≡◌, ◌≢◌, ℕ, ◌+◌, ◌<◌, ◌≤◌, max, None, Some, is_some, IsSome, IfSome, IfOk};
+ghost use Rattle.std.specs.Prelude.{IfErr, IsOk, OnOk, OnErr, length, slice_get};
 ghost use Rattle.std.specs.Borrow.{sem};
 ghost use Rattle.specs_layouts.specs.Parts.{Puts, SameParts, HasNone};
 ghost use Rattle.specs_layouts.specs.Defaults.{filled_part};
@@ -140,7 +141,8 @@ impl<T: Default + Drop> UnprotectedStorage<T> for DefaultVecStorage<T> {
 
         // Each part leaves a default in its slot.
         ensures len { length self.new.values ≡ length self.old.values }
-        ensures gaps { (index : ℕ) → IsSome (filled_part self.old index) → IfSome (slice_get self.new.values index) T.is_default }
+        ensures gaps { (index : ℕ) → IsSome (filled_part self.old index)
+            → IfSome (slice_get self.new.values index) T.is_default }
     {
         let mut left = has.iter();
         while let Some(id) = left.next_counted(&mut Uncounted) {
@@ -165,8 +167,10 @@ impl<T: Default + Drop> UnprotectedStorage<T> for DefaultVecStorage<T> {
 
         // Slots before a new index get defaults, and the others stay as they were.
         ensures len { OnOk result (length self.new.values ≡ max (length self.old.values) (id + 1)) }
-        ensures gaps { OnOk result ((index : ℕ) → index ≢ id → length self.old.values ≤ index → IfSome (slice_get self.new.values index) T.is_default) }
-        ensures slots { OnOk result ((index : ℕ) → index ≢ id → index < length self.old.values → slice_get self.new.values index ≡ slice_get self.old.values index) }
+        ensures gaps { OnOk result ((index : ℕ) → index ≢ id → length self.old.values ≤ index
+            → IfSome (slice_get self.new.values index) T.is_default) }
+        ensures slots { OnOk result ((index : ℕ) → index ≢ id → index < length self.old.values
+            → slice_get self.new.values index ≡ slice_get self.old.values index) }
     {
         let place = id as usize;
         if extend_defaults(&mut self.slots, place + 1).is_err() {
@@ -205,7 +209,8 @@ impl<T: Default> SliceAccess<T> for DefaultVecStorage<T> {
 
     fn as_slice(&self) -> &[T]
         ensures value { result.now ≡ self.now.values }
-        ensures parts { (index : ℕ) → IsSome (filled_part self.now index) → slice_get result.now index ≡ filled_part self.now index }
+        ensures parts { (index : ℕ) → IsSome (filled_part self.now index)
+            → slice_get result.now index ≡ filled_part self.now index }
     {
         self.slots.as_slice()
     }

@@ -1,5 +1,6 @@
 //! Parts without gaps.
-ghost use Rattle.std.specs.Prelude.{◌≡◌, ℕ, ◌+◌, ◌<◌, ◌≤◌, ◌∷◌, ◌++◌, [], None, Some, IsSome, IsOk, IfOk, IfErr, OnOk, OnErr, length, slice_get, slice_index};
+ghost use Rattle.std.specs.Prelude.{◌≡◌, ℕ, ◌+◌, ◌<◌, ◌≤◌, ◌∷◌, ◌++◌, [], None, Some, IsSome, IsOk, IfOk, IfErr};
+ghost use Rattle.std.specs.Prelude.{OnOk, OnErr, length, slice_get, slice_index};
 ghost use Rattle.std.specs.Borrow.{sem};
 ghost use Rattle.std.specs.List.{swap_remove};
 ghost use Rattle.specs_layouts.specs.Parts.{Puts, SameParts};
@@ -144,7 +145,8 @@ impl<T: Drop> UnprotectedStorage<T> for DenseVecStorage<T> {
         ensures succeeds { IsOk result }
 
         // The last part takes the place of the one that is taken out.
-        ensures slice { IfOk result (λ part. self.new.parts ≡ swap_remove self.old.parts (slice_index self.old.places id) part) }
+        ensures slice { IfOk result (λ part. self.new.parts
+            ≡ swap_remove self.old.parts (slice_index self.old.places id) part) }
     {
         let place = self.places[id as usize];
         let last = self.owners[self.owners.len() - 1];
@@ -167,8 +169,10 @@ impl<T> SliceAccess<T> for DenseVecStorage<T> {
         ensures value { result.now ≡ self.now.parts }
 
         // Each place has the part of the index that owns it, and each part has a place.
-        ensures owners { (place : ℕ) → place < length result.now → dense_part self.now (slice_index self.now.owners place) ≡ slice_get result.now place }
-        ensures places { (index : ℕ) → IsSome (dense_part self.now index) → slice_get result.now (slice_index self.now.places index) ≡ dense_part self.now index }
+        ensures owners { (place : ℕ) → place < length result.now
+            → dense_part self.now (slice_index self.now.owners place) ≡ slice_get result.now place }
+        ensures places { (index : ℕ) → IsSome (dense_part self.now index)
+            → slice_get result.now (slice_index self.now.places index) ≡ dense_part self.now index }
     {
         self.parts.as_slice()
     }

@@ -33,7 +33,8 @@ fn value_mut<K: Eq + Hash, V, S: BuildHasher, A: Allocator>(
 where
     K: Drop,
     requires { IsSome (get_by (K.eq key) entries.old) }
-    ensures* writes_back { sem 𝓛 (lends_of_table K.row V.row S.row A.row S.Hasher.row K.Hash S.BuildHasher S.Hasher.Hasher A.Allocator entries.entry key result) }
+    ensures* writes_back { sem 𝓛 (lends_of_table K.row V.row S.row A.row S.Hasher.row K.Hash S.BuildHasher
+        S.Hasher.Hasher A.Allocator entries.entry key result) }
     ensures value { IfOk result (λ value. get_by (K.eq key) entries.old ≡ Some value.now) }
     ensures succeeds { IsOk result }
 {

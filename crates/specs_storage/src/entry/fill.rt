@@ -18,10 +18,13 @@ impl<'a, T: Component> StorageEntry<'a, T> {
     ///
     /// Errors: want of memory, which hands `part` back, and each index has the part that it had.
     pub fn or_insert(self, part: T) -> Result<&'a mut T, AllocFailed<T>>
-        ensures* writes_back { sem 𝓛 (lends_or T.row T.Storage.row T.Storage.UnprotectedStorage (store_of self.entry) (id_of self.entry) result) }
-        ensures value { IfOk result (λ lent. lent.now ≡ unwrap_or (T.Storage.part_at (store_of self.entry).now.inner (id_of self.entry)) part) }
+        ensures* writes_back { sem 𝓛 (lends_or T.row T.Storage.row T.Storage.UnprotectedStorage
+            (store_of self.entry) (id_of self.entry) result) }
+        ensures value { IfOk result (λ lent. lent.now
+            ≡ unwrap_or (T.Storage.part_at (store_of self.entry).now.inner (id_of self.entry)) part) }
         ensures handed_back { IfErr result (λ refused. refused.value ≡ part) }
-        ensures succeeds { IsSome (T.Storage.part_at (store_of self.entry).now.inner (id_of self.entry)) → T.Storage.emits (store_of self.entry).now.inner ≡ false → IsOk result }
+        ensures succeeds { IsSome (T.Storage.part_at (store_of self.entry).now.inner (id_of self.entry))
+            → T.Storage.emits (store_of self.entry).now.inner ≡ false → IsOk result }
     {
         match self {
             StorageEntry::Occupied(entry) => lend(entry, part),
@@ -40,12 +43,17 @@ impl<'a, T: Component> StorageEntry<'a, T> {
         default: F,
     ) -> Result<&'a mut T, EntryError<T>>
         requires { is_some (T.Storage.part_at (store_of self).now.inner (id_of self)) ≡ false → F.pre default }
-        ensures* writes_back { sem 𝓛 (lends_or T.row T.Storage.row T.Storage.UnprotectedStorage (store_of self.entry) (id_of self.entry) result) }
-        ensures value { IfOk result (λ lent. UnwrapsOrElse (T.Storage.part_at (store_of self.entry).now.inner (id_of self.entry)) (F.post default) lent.now) }
+        ensures* writes_back { sem 𝓛 (lends_or T.row T.Storage.row T.Storage.UnprotectedStorage
+            (store_of self.entry) (id_of self.entry) result) }
+        ensures value { IfOk result (λ lent. UnwrapsOrElse
+            (T.Storage.part_at (store_of self.entry).now.inner (id_of self.entry)) (F.post default) lent.now) }
         ensures handed_back { (value : T) → IsErrOf result (refusal.Refused value) → F.post default value }
-        ensures refused { (value : T) → IsErrOf result (refusal.Refused value) → is_some (T.Storage.part_at (store_of self.entry).now.inner (id_of self.entry)) ≡ false }
-        ensures not_lent { IsErrOf result refusal.NotLent → IsSome (T.Storage.part_at (store_of self.entry).now.inner (id_of self.entry)) }
-        ensures succeeds { IsSome (T.Storage.part_at (store_of self.entry).now.inner (id_of self.entry)) → T.Storage.emits (store_of self.entry).now.inner ≡ false → IsOk result }
+        ensures refused { (value : T) → IsErrOf result (refusal.Refused value)
+            → is_some (T.Storage.part_at (store_of self.entry).now.inner (id_of self.entry)) ≡ false }
+        ensures not_lent { IsErrOf result refusal.NotLent
+            → IsSome (T.Storage.part_at (store_of self.entry).now.inner (id_of self.entry)) }
+        ensures succeeds { IsSome (T.Storage.part_at (store_of self.entry).now.inner (id_of self.entry))
+            → T.Storage.emits (store_of self.entry).now.inner ≡ false → IsOk result }
     {
         match self {
             StorageEntry::Occupied(entry) => lend_or_tell(entry),
@@ -56,7 +64,8 @@ impl<'a, T: Component> StorageEntry<'a, T> {
 
 /// The part at a place that has one, or `part` where it isn't lent.
 fn lend<'a, T: Component>(entry: OccupiedEntry<'a, T>, part: T) -> Result<&'a mut T, AllocFailed<T>>
-    ensures* writes_back { sem 𝓛 (lends_at T.row T.Storage.row T.Storage.UnprotectedStorage entry.entry.store entry.entry.id result) }
+    ensures* writes_back { sem 𝓛 (lends_at T.row T.Storage.row T.Storage.UnprotectedStorage entry.entry.store
+        entry.entry.id result) }
     ensures value { IfOk result (λ lent. T.Storage.part_at entry.entry.store.now.inner entry.entry.id ≡ Some lent.now) }
     ensures handed_back { IfErr result (λ refused. refused.value ≡ part) }
     ensures succeeds { T.Storage.emits entry.entry.store.now.inner ≡ false → IsOk result }
@@ -85,7 +94,8 @@ fn lend_at<T: Component>(
 
 /// The part at a place that has one.
 fn lend_or_tell<'a, T: Component>(entry: OccupiedEntry<'a, T>) -> Result<&'a mut T, EntryError<T>>
-    ensures* writes_back { sem 𝓛 (lends_at T.row T.Storage.row T.Storage.UnprotectedStorage entry.entry.store entry.entry.id result) }
+    ensures* writes_back { sem 𝓛 (lends_at T.row T.Storage.row T.Storage.UnprotectedStorage entry.entry.store
+        entry.entry.id result) }
     ensures value { IfOk result (λ part. T.Storage.part_at entry.entry.store.now.inner entry.entry.id ≡ Some part.now) }
     ensures not_lent { IfErr result (λ refused. refused ≡ refusal.NotLent) }
     ensures succeeds { T.Storage.emits entry.entry.store.now.inner ≡ false → IsOk result }
@@ -100,7 +110,8 @@ fn put_or_tell<'a, T: Component>(
     entry: VacantEntry<'a, T>,
     part: T,
 ) -> Result<&'a mut T, EntryError<T>>
-    ensures* writes_back { sem 𝓛 (lends_put T.row T.Storage.row T.Storage.UnprotectedStorage entry.entry.store entry.entry.id result) }
+    ensures* writes_back { sem 𝓛 (lends_put T.row T.Storage.row T.Storage.UnprotectedStorage entry.entry.store
+        entry.entry.id result) }
     ensures value { IfOk result (λ lent. lent.now ≡ part) }
     ensures handed_back { IfErr result (λ refused. refused ≡ refusal.Refused part) }
 {

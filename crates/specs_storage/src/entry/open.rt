@@ -22,7 +22,9 @@ impl<'e, T: Component> Storage<'e, T, &'e mut MaskedStorage<T>> {
         ensures value { IfOk result (λ entry. (store_of entry).now ≡ self.old.store.now) }
         ensures id { IfOk result (λ entry. id_of entry ≡ e.id) }
         ensures succeeds { IsOk result ↔ IsAlive self.old.entities.now e }
-        ensures wrong_generation { IfErr result (λ refusal. (refusal.entity ≡ e) × (refusal.actual_gen ≡ unwrap_or (persistent_at self.old.entities.now e.id) first_life)) }
+        ensures wrong_generation { IfErr result
+            (λ refusal. (refusal.entity ≡ e) × (refusal.actual_gen
+            ≡ unwrap_or (persistent_at self.old.entities.now e.id) first_life)) }
     {
         let asked = self.entry_of(e);
         asked.open()
@@ -30,7 +32,8 @@ impl<'e, T: Component> Storage<'e, T, &'e mut MaskedStorage<T>> {
 
     /// The parts, with what is known of an entity.
     fn entry_of(&mut self, e: Entity) -> EntryOf<'_, T>
-        ensures* writes_back { sem 𝓛 (lends_store T.row T.Storage.row T.Storage.UnprotectedStorage self.entry result.store) }
+        ensures* writes_back { sem 𝓛 (lends_store T.row T.Storage.row T.Storage.UnprotectedStorage self.entry
+            result.store) }
         ensures value { result.store.now ≡ self.old.store.now }
         ensures entity { result.entity ≡ e }
         ensures alive { IsTrue result.is_alive ↔ IsAlive self.old.entities.now e }
@@ -55,7 +58,8 @@ impl<'a, T: Component> EntryOf<'a, T> {
         ensures value { IfOk result (λ entry. (store_of entry).now ≡ self.entry.store.now) }
         ensures id { IfOk result (λ entry. id_of entry ≡ self.entry.entity.id) }
         ensures succeeds { IsOk result ↔ IsTrue self.entry.is_alive }
-        ensures wrong_generation { IfErr result (λ refusal. (refusal.entity ≡ self.entry.entity) × (refusal.actual_gen ≡ self.entry.last)) }
+        ensures wrong_generation { IfErr result
+            (λ refusal. (refusal.entity ≡ self.entry.entity) × (refusal.actual_gen ≡ self.entry.last)) }
     {
         let EntryOf {
             store,

@@ -18,11 +18,15 @@ impl<'a, T: Component> StorageEntry<'a, T> {
     ///
     /// Errors: want of memory, which hands `part` back, and each index has the part that it had.
     pub fn replace(self, part: T) -> Result<Option<T>, AllocFailed<T>>
-        ensures value { IfOk result (λ old. old ≡ T.Storage.part_at (store_of self.entry).now.inner (id_of self.entry)) }
-        ensures ok { OnOk result (IsSettled T.Storage.UnprotectedStorage (store_of self.entry).now (id_of self.entry) part (left_of self.exit).now) }
-        ensures err { OnErr result (IsLeft T.Storage.UnprotectedStorage (store_of self.entry).now (left_of self.exit).now) }
+        ensures value { IfOk result (λ old. old
+            ≡ T.Storage.part_at (store_of self.entry).now.inner (id_of self.entry)) }
+        ensures ok { OnOk result (IsSettled T.Storage.UnprotectedStorage (store_of self.entry).now
+            (id_of self.entry) part (left_of self.exit).now) }
+        ensures err { OnErr result (IsLeft T.Storage.UnprotectedStorage (store_of self.entry).now
+            (left_of self.exit).now) }
         ensures handed_back { IfErr result (λ refused. refused.value ≡ part) }
-        ensures succeeds { IsSome (T.Storage.part_at (store_of self.entry).now.inner (id_of self.entry)) → T.Storage.emits (store_of self.entry).now.inner ≡ false → IsOk result }
+        ensures succeeds { IsSome (T.Storage.part_at (store_of self.entry).now.inner (id_of self.entry))
+            → T.Storage.emits (store_of self.entry).now.inner ≡ false → IsOk result }
     {
         let spot = self.spot();
         spot.put(part)
@@ -62,10 +66,12 @@ impl<'a, T: Component> Spot<'a, T> {
     /// Puts a part there, and answers the one that was there, or none.
     fn put(self, part: T) -> Result<Option<T>, AllocFailed<T>>
         ensures value { IfOk result (λ old. old ≡ T.Storage.part_at self.entry.store.now.inner self.entry.id) }
-        ensures ok { OnOk result (IsSettled T.Storage.UnprotectedStorage self.entry.store.now self.entry.id part self.exit.0.now) }
+        ensures ok { OnOk result (IsSettled T.Storage.UnprotectedStorage self.entry.store.now self.entry.id part
+            self.exit.0.now) }
         ensures err { OnErr result (IsLeft T.Storage.UnprotectedStorage self.entry.store.now self.exit.0.now) }
         ensures handed_back { IfErr result (λ refused. refused.value ≡ part) }
-        ensures succeeds { IsSome (T.Storage.part_at self.entry.store.now.inner self.entry.id) → T.Storage.emits self.entry.store.now.inner ≡ false → IsOk result }
+        ensures succeeds { IsSome (T.Storage.part_at self.entry.store.now.inner self.entry.id)
+            → T.Storage.emits self.entry.store.now.inner ≡ false → IsOk result }
     {
         let id = self.id;
         put(self.store, id, part)
@@ -83,7 +89,8 @@ fn put<T: Component>(
     ensures ok { OnOk result (IsSettled T.Storage.UnprotectedStorage store.old id part store.new) }
     ensures err { OnErr result (IsLeft T.Storage.UnprotectedStorage store.old store.new) }
     ensures handed_back { IfErr result (λ refused. refused.value ≡ part) }
-    ensures succeeds { IsSome (T.Storage.part_at store.old.inner id) → T.Storage.emits store.old.inner ≡ false → IsOk result }
+    ensures succeeds { IsSome (T.Storage.part_at store.old.inner id) → T.Storage.emits store.old.inner ≡ false
+        → IsOk result }
 {
     if store.contains(id) {
         let old = swap(store, id, part)?;

@@ -1,7 +1,7 @@
 //! Places without a part.
 ghost use Rattle.std.specs.Prelude.{◌≡◌, ◌<◌, is_some, false, Some, IfOk, IfErr};
 ghost use Rattle.std.specs.Borrow.{sem};
-ghost use Rattle.specs_layouts.specs.Parts.{Puts, told};
+ghost use Rattle.specs_layouts.specs.MaskedChanges.{PutsIn, told_in};
 ghost use Rattle.specs_layouts.specs.declared.track.ComponentEvent.TheVariants as event;
 ghost use Rattle.specs_storage.specs.EntryLends.{rests_if_refused, lends_put};
 
@@ -17,7 +17,8 @@ impl<'a, T: Component> VacantEntry<'a, T> {
     ///
     /// Errors: want of memory, which hands `part` back, and each index has the part that it had.
     pub fn insert(self, part: T) -> Result<&'a mut T, AllocFailed<T>>
-        ensures* writes_back { sem 𝓛 (lends_put T.row T.Storage.row T.Storage.UnprotectedStorage self.entry.store self.entry.id result) }
+        ensures* writes_back { sem 𝓛 (lends_put T.row T.Storage.row T.Storage.UnprotectedStorage self.entry.store
+            self.entry.id result) }
         ensures value { IfOk result (λ lent. lent.now ≡ part) }
         ensures handed_back { IfErr result (λ refused. refused.value ≡ part) }
     {
@@ -29,13 +30,17 @@ impl<'a, T: Component> VacantEntry<'a, T> {
     ///
     /// Errors: want of memory, which hands `part` back, and each index has the part that it had.
     pub fn insert_entry(self, part: T) -> Result<OccupiedEntry<'a, T>, AllocFailed<T>>
-        ensures* rests { sem 𝓛 (rests_if_refused T.row T.Storage.row T.Storage.UnprotectedStorage self.entry.store result) }
+        ensures* rests { sem 𝓛 (rests_if_refused T.row T.Storage.row T.Storage.UnprotectedStorage self.entry.store
+            result) }
         ensures same_reference { IfOk result (λ entry. entry.store.ghost_name ≡ self.entry.store.ghost_name) }
         ensures id { IfOk result (λ entry. entry.id ≡ self.entry.id) }
-        ensures ok { IfOk result (λ entry. Puts (T.Storage.part_at self.entry.store.now.inner) self.entry.id (Some part) (T.Storage.part_at entry.store.now.inner)) }
+        ensures ok { IfOk result (λ entry. PutsIn T.Storage.part_at self.entry.store.now self.entry.id
+            (Some part) entry.store.now) }
         ensures handed_back { IfErr result (λ refused. refused.value ≡ part) }
-        ensures events { IfOk result (λ entry. T.Storage.events entry.store.now.inner ≡ told (T.Storage.emits self.entry.store.now.inner) (T.Storage.events self.entry.store.now.inner) (event.Inserted self.entry.id)) }
-        ensures emission { IfOk result (λ entry. T.Storage.emits entry.store.now.inner ≡ T.Storage.emits self.entry.store.now.inner) }
+        ensures events { IfOk result (λ entry. T.Storage.events entry.store.now.inner
+            ≡ told_in T.Storage.emits T.Storage.events self.entry.store.now (event.Inserted self.entry.id)) }
+        ensures emission { IfOk result (λ entry. T.Storage.emits entry.store.now.inner
+            ≡ T.Storage.emits self.entry.store.now.inner) }
     {
         let VacantEntry { store, id } = self;
         put(store, id, part)
@@ -53,9 +58,10 @@ fn put<T: Component>(
     ensures* rests { sem 𝓛 (rests_if_refused T.row T.Storage.row T.Storage.UnprotectedStorage store.entry result) }
     ensures same_reference { IfOk result (λ entry. entry.store.ghost_name ≡ store.entry.ghost_name) }
     ensures id { IfOk result (λ entry. entry.id ≡ id) }
-    ensures ok { IfOk result (λ entry. Puts (T.Storage.part_at store.old.inner) id (Some part) (T.Storage.part_at entry.store.now.inner)) }
+    ensures ok { IfOk result (λ entry. PutsIn T.Storage.part_at store.old id (Some part) entry.store.now) }
     ensures handed_back { IfErr result (λ refused. refused.value ≡ part) }
-    ensures events { IfOk result (λ entry. T.Storage.events entry.store.now.inner ≡ told (T.Storage.emits store.old.inner) (T.Storage.events store.old.inner) (event.Inserted id)) }
+    ensures events { IfOk result (λ entry. T.Storage.events entry.store.now.inner
+        ≡ told_in T.Storage.emits T.Storage.events store.old (event.Inserted id)) }
     ensures emission { IfOk result (λ entry. T.Storage.emits entry.store.now.inner ≡ T.Storage.emits store.old.inner) }
 {
     store.insert(id, part)?;

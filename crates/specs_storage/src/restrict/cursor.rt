@@ -1,9 +1,8 @@
 //! A walk over the parts of a storage, which lends one pair after the other.
-ghost use mir.Syntax.{named};
-ghost use Rattle.std.specs.Prelude.{◌≡◌, ◌↔◌, ℕ, ◌<◌, ◌&&◌, [], ◌∷◌, true, false, Some, is_some, option_copied, unwrap_or, IsSome, IsTrue, IsOk, IfOk, IsErrOf};
-ghost use Rattle.std.specs.Borrow.{sem, Lends, LendsIfOk};
+ghost use Rattle.std.specs.Prelude.{◌≡◌, ◌↔◌, ℕ, ◌<◌, ◌&&◌, [], ◌∷◌, true, false, Some, is_some, option_copied};
+ghost use Rattle.std.specs.Prelude.{unwrap_or, IsSome, IsTrue, IsOk, IfOk, IsErrOf};
+ghost use Rattle.std.specs.Borrow.{sem};
 ghost use Rattle.specs_join.specs.ChangeEach.{shared_indices};
-ghost use Rattle.specs_storage.specs.StorageLends.{masked_row};
 ghost use Rattle.specs_storage.specs.Found.{Finds, HasPart};
 ghost use Rattle.specs_storage.specs.declared.storage.LendError.TheVariants as lending;
 
@@ -55,8 +54,10 @@ impl<'a, T: Component> RestrictedStorageMut<'a, T, SequentialRestriction> {
         ensures same_reference { (store_of result).ghost_name ≡ (restricted.store_of self.entry).ghost_name }
         ensures store { (store_of result).now ≡ (restricted.store_of self.entry).now }
         ensures entities { (entities_of result).now ≡ (restricted.entities_of self.entry).now }
-        ensures left { indices_left R.Mask.members result ≡ shared_indices (restricted.store_of self.entry).now.mask (R.joins read) }
-        ensures values { (index : ℕ) → index < 16777216 → IsSome (R.joins read index) → R.value_at (values_of result) index ≡ R.joins read index }
+        ensures left { indices_left R.Mask.members result
+            ≡ shared_indices (restricted.store_of self.entry).now.mask (R.joins read) }
+        ensures values { (index : ℕ) → index < 16777216 → IsSome (R.joins read index)
+            → R.value_at (values_of result) index ≡ R.joins read index }
         ensures ready { CanGoOn R.Mask.members R.value_at result }
     {
         let RestrictedStorageMut {
@@ -78,8 +79,9 @@ impl<'a, T: Component> RestrictedStorageMut<'a, T, SequentialRestriction> {
 }
 
 impl<'a, T: Component, R: Join> PairCursor<'a, T, R> {
-    ghost use Rattle.specs_storage.specs.contracts.restrict.cursor.PairCursor.{the_row};
-    ghost use Rattle.specs_storage.specs.PairCursors.{store_of, entities_of, mask_of, values_of, index_of, indices_left, CanGoOn, StandsAt, with_store, with_part_written};
+    ghost use Rattle.specs_storage.specs.PairCursorLends.{lends_store, lends_part};
+    ghost use Rattle.specs_storage.specs.PairCursors.{store_of, entities_of, mask_of, values_of, index_of};
+    ghost use Rattle.specs_storage.specs.PairCursors.{indices_left, CanGoOn, StandsAt};
     ghost use Rattle.specs_storage.specs.PairedMut as paired;
 
     /// Goes on to the next index, or answers false where there is none.
@@ -103,7 +105,8 @@ impl<'a, T: Component, R: Join> PairCursor<'a, T, R> {
     /// What the join has at the index.
     pub fn item(&self) -> R::Type
         requires { (index : ℕ) × StandsAt R.value_at self.now index }
-        ensures { (index : ℕ) → index_of self.now ≡ Some index → R.value_at (values_of self.now) index ≡ Some (R.show result) }
+        ensures { (index : ℕ) → index_of self.now ≡ Some index
+            → R.value_at (values_of self.now) index ≡ Some (R.show result) }
     {
         let Some(id) = self.index else { unreachable!() };
         R::get(&self.values, id)
@@ -112,10 +115,8 @@ impl<'a, T: Component, R: Join> PairCursor<'a, T, R> {
     /// The storage at the index, whose part can be read and written.
     pub fn pair(&mut self) -> PairedStorageMut<'_, T>
         requires { (index : ℕ) × StandsAt R.value_at self.old index }
-        ensures* writes_back { sem 𝓛 (Lends (the_row (record { mir = named 1; lft = [] }) T.row R.row T.Storage.row R.Type.row R.Shown.row R.Value.row R.Mask.row
-            (record { part_at = T.Storage.part_at; written = T.Storage.written; events = T.Storage.events; emits = T.Storage.emits; has_room = T.Storage.has_room })
-            (record { is_default = T.Storage.is_default; always = T.Storage.always })) (masked_row T.row T.Storage.row T.Storage.UnprotectedStorage) self.entry (paired.store_of result)
-            (with_store self.old)) }
+        ensures* writes_back { sem 𝓛 (lends_store T.row R.row T.Storage.row R.Type.row R.Shown.row R.Value.row
+            R.Mask.row T.Storage.UnprotectedStorage self.entry (paired.store_of result)) }
         ensures store { (paired.store_of result).now ≡ (store_of self.old).now }
         ensures entities { (paired.entities_of result).now ≡ (entities_of self.old).now }
         ensures index { index_of self.old ≡ Some (paired.index_of result) }
@@ -136,11 +137,10 @@ impl<'a, T: Component, R: Join> PairCursor<'a, T, R> {
     /// Errors: `AllocError`, where the storage emits, and nothing changed.
     pub fn values(&mut self) -> Result<&mut T, AllocError>
         requires { (index : ℕ) × StandsAt R.value_at self.old index }
-        ensures* writes_back { sem 𝓛 (LendsIfOk (the_row (record { mir = named 1; lft = [] }) T.row R.row T.Storage.row R.Type.row R.Shown.row R.Value.row R.Mask.row
-            (record { part_at = T.Storage.part_at; written = T.Storage.written; events = T.Storage.events; emits = T.Storage.emits; has_room = T.Storage.has_room })
-            (record { is_default = T.Storage.is_default; always = T.Storage.always })) T.row self.entry result
-            (with_part_written T.Storage.written self.old (unwrap_or (index_of self.old) 0)) self.old) }
-        ensures part { IfOk result (λ part. (index : ℕ) → index_of self.old ≡ Some index → T.Storage.part_at (store_of self.old).now.inner index ≡ Some part.now) }
+        ensures* writes_back { sem 𝓛 (lends_part T.row R.row T.Storage.row R.Type.row R.Shown.row R.Value.row
+            R.Mask.row T.Storage.UnprotectedStorage self.entry (unwrap_or (index_of self.old) 0) result) }
+        ensures part { IfOk result (λ part. (index : ℕ) → index_of self.old ≡ Some index
+            → T.Storage.part_at (store_of self.old).now.inner index ≡ Some part.now) }
         ensures succeeds { T.Storage.emits (store_of self.old).now.inner ≡ false → IsOk result }
     {
         let Some(place) = self.index else {
@@ -153,7 +153,8 @@ impl<'a, T: Component, R: Join> PairCursor<'a, T, R> {
     /// The storage's part at the index.
     pub fn get_unchecked(&self) -> &T
         requires { (index : ℕ) × StandsAt R.value_at self.now index }
-        ensures { (index : ℕ) → index_of self.now ≡ Some index → T.Storage.part_at (store_of self.now).now.inner index ≡ Some result.now }
+        ensures { (index : ℕ) → index_of self.now ≡ Some index
+            → T.Storage.part_at (store_of self.now).now.inner index ≡ Some result.now }
     {
         let Some(index) = self.index else {
             unreachable!()
@@ -164,7 +165,8 @@ impl<'a, T: Component, R: Join> PairCursor<'a, T, R> {
 
     /// The storage's part of an entity, or none where the entity isn't alive or has none.
     pub fn get(&self, entity: Entity) -> Option<&T>
-        ensures { Finds (entities_of self.now).now (T.Storage.part_at (store_of self.now).now.inner) entity (option_copied result) }
+        ensures { Finds (entities_of self.now).now (T.Storage.part_at (store_of self.now).now.inner) entity
+            (option_copied result) }
     {
         part_of(self.store, self.entities, entity)
     }
@@ -173,13 +175,15 @@ impl<'a, T: Component, R: Join> PairCursor<'a, T, R> {
     ///
     /// Errors: `Absent` if the entity isn't alive or has no part, and `Memory`, where the storage emits. Nothing changed.
     pub fn get_mut(&mut self, entity: Entity) -> Result<&mut T, LendError>
-        ensures* writes_back { sem 𝓛 (LendsIfOk (the_row (record { mir = named 1; lft = [] }) T.row R.row T.Storage.row R.Type.row R.Shown.row R.Value.row R.Mask.row
-            (record { part_at = T.Storage.part_at; written = T.Storage.written; events = T.Storage.events; emits = T.Storage.emits; has_room = T.Storage.has_room })
-            (record { is_default = T.Storage.is_default; always = T.Storage.always })) T.row self.entry result
-            (with_part_written T.Storage.written self.old entity.id) self.old) }
-        ensures value { IfOk result (λ part. T.Storage.part_at (store_of self.old).now.inner entity.id ≡ Some part.now) }
-        ensures absent { IsErrOf result lending.Absent ↔ ¬ (HasPart (entities_of self.old).now (T.Storage.part_at (store_of self.old).now.inner) entity) }
-        ensures succeeds { T.Storage.emits (store_of self.old).now.inner ≡ false → HasPart (entities_of self.old).now (T.Storage.part_at (store_of self.old).now.inner) entity → IsOk result }
+        ensures* writes_back { sem 𝓛 (lends_part T.row R.row T.Storage.row R.Type.row R.Shown.row R.Value.row
+            R.Mask.row T.Storage.UnprotectedStorage self.entry entity.id result) }
+        ensures value { IfOk result (λ part. T.Storage.part_at (store_of self.old).now.inner entity.id
+            ≡ Some part.now) }
+        ensures absent { IsErrOf result lending.Absent
+            ↔ ¬ (HasPart (entities_of self.old).now (T.Storage.part_at (store_of self.old).now.inner) entity) }
+        ensures succeeds { T.Storage.emits (store_of self.old).now.inner ≡ false
+            → HasPart (entities_of self.old).now (T.Storage.part_at (store_of self.old).now.inner) entity
+            → IsOk result }
     {
         let entities = self.entities;
         if !has_part(self.store, entities, entity) {

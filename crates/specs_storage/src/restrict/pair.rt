@@ -48,7 +48,8 @@ impl<'a, T: Component, R: ImmutableAliasing> PairedStorage<'a, T, R> {
 
     /// The part of an entity, or none where the entity isn't alive or has none.
     pub fn get(&self, entity: Entity) -> Option<&T>
-        ensures { Finds (entities_of self.now).now (T.Storage.part_at (store_of self.now).now.inner) entity (option_copied result) }
+        ensures { Finds (entities_of self.now).now (T.Storage.part_at (store_of self.now).now.inner) entity
+            (option_copied result) }
     {
         part_of(self.store, self.entities, entity)
     }
@@ -68,7 +69,8 @@ impl<'a, T: Component> PairedStorageMut<'a, T> {
 
     /// The part of an entity, or none where the entity isn't alive or has none.
     pub fn get(&self, entity: Entity) -> Option<&T>
-        ensures { Finds (entities_of self.now).now (T.Storage.part_at (store_of self.now).now.inner) entity (option_copied result) }
+        ensures { Finds (entities_of self.now).now (T.Storage.part_at (store_of self.now).now.inner) entity
+            (option_copied result) }
     {
         let entities = self.entities;
         part_of(self.store, entities, entity)
@@ -79,7 +81,8 @@ impl<'a, T: Component> PairedStorageMut<'a, T> {
     /// Errors: `AllocError`, where the storage emits, and nothing changed.
     pub fn get_mut_unchecked(&mut self) -> Result<&mut T, AllocError>
         ensures* writes_back { sem 𝓛 (lends_pair T.row T.Storage.row self.entry (index_of self.old) result) }
-        ensures value { IfOk result (λ part. T.Storage.part_at (store_of self.old).now.inner (index_of self.old) ≡ Some part.now) }
+        ensures value { IfOk result (λ part. T.Storage.part_at (store_of self.old).now.inner (index_of self.old)
+            ≡ Some part.now) }
         ensures succeeds { T.Storage.emits (store_of self.old).now.inner ≡ false → IsOk result }
     {
         let index = self.index;
@@ -91,9 +94,13 @@ impl<'a, T: Component> PairedStorageMut<'a, T> {
     /// Errors: `Absent` if the entity isn't alive or has no part, and `Memory`, where the storage emits. Nothing changed.
     pub fn get_mut(&mut self, entity: Entity) -> Result<&mut T, LendError>
         ensures* writes_back { sem 𝓛 (lends_pair T.row T.Storage.row self.entry entity.id result) }
-        ensures value { IfOk result (λ part. T.Storage.part_at (store_of self.old).now.inner entity.id ≡ Some part.now) }
-        ensures absent { IsErrOf result lending.Absent ↔ ¬ (HasPart (entities_of self.old).now (T.Storage.part_at (store_of self.old).now.inner) entity) }
-        ensures succeeds { T.Storage.emits (store_of self.old).now.inner ≡ false → HasPart (entities_of self.old).now (T.Storage.part_at (store_of self.old).now.inner) entity → IsOk result }
+        ensures value { IfOk result (λ part. T.Storage.part_at (store_of self.old).now.inner entity.id
+            ≡ Some part.now) }
+        ensures absent { IsErrOf result lending.Absent
+            ↔ ¬ (HasPart (entities_of self.old).now (T.Storage.part_at (store_of self.old).now.inner) entity) }
+        ensures succeeds { T.Storage.emits (store_of self.old).now.inner ≡ false
+            → HasPart (entities_of self.old).now (T.Storage.part_at (store_of self.old).now.inner) entity
+            → IsOk result }
     {
         let entities = self.entities;
         if !has_part(self.store, entities, entity) {

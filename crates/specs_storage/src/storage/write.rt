@@ -1,7 +1,9 @@
 //! Storages that are lent for writing.
-ghost use Rattle.std.specs.Prelude.{◌≡◌, ◌↔◌, false, Some, None, IsSome, is_some, IsOk, IfOk, IfErr, IsErrOf, OnOk, OnErr, if◌then◌else◌};
+ghost use Rattle.std.specs.Prelude.{◌≡◌, ◌↔◌, false, Some, None, IsSome, is_some, IsOk, IfOk, IfErr, IsErrOf, OnOk};
+ghost use Rattle.std.specs.Prelude.{OnErr, if◌then◌else◌};
 ghost use Rattle.std.specs.Borrow.{sem};
-ghost use Rattle.specs_layouts.specs.Parts.{Puts, SameParts, HasNone, told};
+ghost use Rattle.specs_layouts.specs.Parts.{HasNone};
+ghost use Rattle.specs_layouts.specs.MaskedChanges.{PutsIn, KeepsParts, told_in};
 ghost use Rattle.specs_layouts.specs.declared.track.ComponentEvent.TheVariants as event;
 ghost use Rattle.specs_entity.specs.Births.{IsAlive, latest};
 ghost use Rattle.specs_storage.specs.declared.storage.LendError.TheVariants as lending;
@@ -19,10 +21,13 @@ impl<'e, T: Component> Storage<'e, T, &'e mut MaskedStorage<T>> {
     ///
     /// Errors: `Absent` if the entity isn't alive or has no part, and `Memory`, where the storage emits. Nothing changed.
     pub fn get_mut(&mut self, e: Entity) -> Result<&mut T, LendError>
-        ensures* writes_back { sem 𝓛 (lends_part T.row T.Storage.row T.Storage.UnprotectedStorage self.entry e.id result) }
+        ensures* writes_back { sem 𝓛 (lends_part T.row T.Storage.row T.Storage.UnprotectedStorage self.entry e.id
+            result) }
         ensures value { IfOk result (λ part. T.Storage.part_at self.old.store.now.inner e.id ≡ Some part.now) }
-        ensures absent { IsErrOf result lending.Absent ↔ ¬ (HasPart self.old.entities.now (T.Storage.part_at self.old.store.now.inner) e) }
-        ensures succeeds { T.Storage.emits self.old.store.now.inner ≡ false → HasPart self.old.entities.now (T.Storage.part_at self.old.store.now.inner) e → IsOk result }
+        ensures absent { IsErrOf result lending.Absent
+            ↔ ¬ (HasPart self.old.entities.now (T.Storage.part_at self.old.store.now.inner) e) }
+        ensures succeeds { T.Storage.emits self.old.store.now.inner ≡ false
+            → HasPart self.old.entities.now (T.Storage.part_at self.old.store.now.inner) e → IsOk result }
     {
         if !self.contains(e) {
             return Err(LendError::Absent);
@@ -39,17 +44,21 @@ impl<'e, T: Component> Storage<'e, T, &'e mut MaskedStorage<T>> {
     /// entity isn't alive; `Memory`. Both hand `part` back, and each index has the part that it had.
     pub fn insert(&mut self, e: Entity, part: T) -> InsertResult<T>
         ensures value { IfOk result (λ old. old ≡ T.Storage.part_at self.old.store.now.inner e.id) }
-        ensures ok { OnOk result (Puts (T.Storage.part_at self.old.store.now.inner) e.id (Some part) (T.Storage.part_at self.new.store.now.inner)) }
-        ensures err { OnErr result (SameParts (T.Storage.part_at self.old.store.now.inner) (T.Storage.part_at self.new.store.now.inner)) }
+        ensures ok { OnOk result (PutsIn T.Storage.part_at self.old.store.now e.id (Some part) self.new.store.now) }
+        ensures err { OnErr result (KeepsParts T.Storage.part_at self.old.store.now self.new.store.now) }
         ensures handed_back { IfErr result (λ refused. refused.1 ≡ part) }
         ensures alive { OnOk result (IsAlive self.old.entities.now e) }
         ensures refused { IfErr result (λ refused. RefusesInsert self.old.entities.now e refused.0) }
-        ensures succeeds { IsAlive self.old.entities.now e → IsSome (T.Storage.part_at self.old.store.now.inner e.id) → T.Storage.emits self.old.store.now.inner ≡ false → IsOk result }
+        ensures succeeds { IsAlive self.old.entities.now e
+            → IsSome (T.Storage.part_at self.old.store.now.inner e.id)
+            → T.Storage.emits self.old.store.now.inner ≡ false → IsOk result }
 
         // One event tells of it, and a refusal writes none.
-        ensures events { IfOk result (λ old. T.Storage.events self.new.store.now.inner ≡ told (T.Storage.emits self.old.store.now.inner) (T.Storage.events self.old.store.now.inner)
+        ensures events { IfOk result (λ old. T.Storage.events self.new.store.now.inner
+            ≡ told_in T.Storage.emits T.Storage.events self.old.store.now
             (if is_some old then event.Modified e.id else event.Inserted e.id)) }
-        ensures silent { OnErr result (T.Storage.events self.new.store.now.inner ≡ T.Storage.events self.old.store.now.inner) }
+        ensures silent { OnErr result (T.Storage.events self.new.store.now.inner
+            ≡ T.Storage.events self.old.store.now.inner) }
         ensures emission { T.Storage.emits self.new.store.now.inner ≡ T.Storage.emits self.old.store.now.inner }
         ensures loans { KeepsLoans self.old self.new }
     {
@@ -67,15 +76,18 @@ impl<'e, T: Component> Storage<'e, T, &'e mut MaskedStorage<T>> {
     /// Errors: `AllocError`, where the storage emits and has no room, and each index has the part that it had.
     pub fn remove(&mut self, e: Entity) -> Result<Option<T>, AllocError>
         ensures value { IfOk result (Finds self.old.entities.now (T.Storage.part_at self.old.store.now.inner) e) }
-        ensures ok { OnOk result (IsAlive self.old.entities.now e → Puts (T.Storage.part_at self.old.store.now.inner) e.id None (T.Storage.part_at self.new.store.now.inner)) }
+        ensures ok { OnOk result (IsAlive self.old.entities.now e
+            → PutsIn T.Storage.part_at self.old.store.now e.id None self.new.store.now) }
         ensures dead { ¬ (IsAlive self.old.entities.now e) → self.new.store.now ≡ self.old.store.now }
-        ensures err { OnErr result (SameParts (T.Storage.part_at self.old.store.now.inner) (T.Storage.part_at self.new.store.now.inner)) }
+        ensures err { OnErr result (KeepsParts T.Storage.part_at self.old.store.now self.new.store.now) }
         ensures succeeds { T.Storage.emits self.old.store.now.inner ≡ false → IsOk result }
 
         // One event tells of a part that was taken out, and a refusal writes none.
         ensures events { IfOk result (λ part. T.Storage.events self.new.store.now.inner ≡ (if is_some part
-            then told (T.Storage.emits self.old.store.now.inner) (T.Storage.events self.old.store.now.inner) (event.Removed e.id) else T.Storage.events self.old.store.now.inner)) }
-        ensures silent { OnErr result (T.Storage.events self.new.store.now.inner ≡ T.Storage.events self.old.store.now.inner) }
+            then told_in T.Storage.emits T.Storage.events self.old.store.now (event.Removed e.id)
+            else T.Storage.events self.old.store.now.inner)) }
+        ensures silent { OnErr result (T.Storage.events self.new.store.now.inner
+            ≡ T.Storage.events self.old.store.now.inner) }
         ensures emission { T.Storage.emits self.new.store.now.inner ≡ T.Storage.emits self.old.store.now.inner }
         ensures loans { KeepsLoans self.old self.new }
     {

@@ -1,9 +1,10 @@
-use Rattle.std.proofs.Common.{◌≡◌, ◌∙◌, subst}
+use Rattle.std.proofs.Common.{◌≡◌, ◌∙◌, ap, subst}
 use Rattle.scene_draft.specs.Texts.{scene_json, text_of, ReadsBack}
 use Rattle.scene_rules.specs.Scenes.{IsProper}
+use Rattle.scene.specs.Runs.{CanBegin}
 use Rattle.scene.specs.Outcomes.{bounds_of}
 use Rattle.scene.specs.Turns.{shown_of, rules_of, RunsOut}
-use Rattle.scene.proofs.OutcomeLemmas.{run_of, sound-proper}
+use Rattle.scene.proofs.OutcomeLemmas.{run_of, can_begin, sound-proper}
 use Rattle.scene.proofs.runner.play.Goals as goal
 
 pub returns : goal.returns
@@ -13,6 +14,7 @@ returns g c =
     let same : rules_of c.run_to_end.new.scene ≡ c.args.rules = c.run_to_end.ensures.rules ∙ opened.same_rules in
     run_of (g.R.Rules.book c.args.rules) (bounds_of c.args.limits) c.args.bytes.now from.0 opened.document.0 (shown_of g.R.Rules.part_of g.R.Rules.global_of g.R.Rules.kind_of g.R.Rules.config_of g.R.Rules.book c.in-Ok.scene) (shown_of g.R.Rules.part_of g.R.Rules.global_of g.R.Rules.kind_of g.R.Rules.config_of g.R.Rules.book c.run_to_end.new.scene) c.into_report.result c.in-Ok-snapshot.text.items
     from.1 opened.document.1 opened.document.2
+    (subst (λ one. CanBegin (g.R.Rules.book one) opened.document.0) opened.same_rules (can_begin g.R.Rules.part_of g.R.Rules.global_of g.R.Rules.kind_of g.R.Rules.config_of (g.R.Rules.book (rules_of c.in-Ok.scene)) c.in-Ok.scene.loaded opened.document.0 opened.ready (ap (λ shown. shown.scene) opened.document.2) (ap (λ shown. shown.frames) opened.document.2)))
     (subst (λ one. RunsOut (g.R.Rules.book one) (shown_of g.R.Rules.part_of g.R.Rules.global_of g.R.Rules.kind_of g.R.Rules.config_of g.R.Rules.book c.in-Ok.scene) (shown_of g.R.Rules.part_of g.R.Rules.global_of g.R.Rules.kind_of g.R.Rules.config_of g.R.Rules.book c.run_to_end.new.scene)) opened.same_rules c.run_to_end.ensures.end)
     (subst (λ one. IsProper (g.R.Rules.book one) (shown_of g.R.Rules.part_of g.R.Rules.global_of g.R.Rules.kind_of g.R.Rules.config_of g.R.Rules.book c.run_to_end.new.scene).scene) same
     (sound-proper g.R.Rules.part_of g.R.Rules.global_of (g.R.Rules.book (rules_of c.run_to_end.new.scene)) c.run_to_end.new.scene.loaded.next c.run_to_end.new.scene.loaded.ids.items c.run_to_end.new.scene.loaded.columns c.run_to_end.ensures.ready.sound))

@@ -2,8 +2,8 @@ use Rattle.std.proofs.Common.{rules, arith, ◌≡◌, ◌≢◌, ◌<◌, ◌�
 use Rattle.std.proofs.lemmas.Grind.{common_steps}
 use Rattle.std.proofs.lemmas.Option.{slice_get_read, slice_get_within}
 use Rattle.std.specs.List.{slice_get}
-use Rattle.scene_rules.specs.Slots.{in_column}
-use Rattle.scene_commands.specs.Over.{slot_in, put_over}
+use Rattle.scene_rules.specs.Slots.{in_column, slot_in}
+use Rattle.scene_commands.specs.Over.{put_over}
 use Rattle.scene_commands.proofs.CommitLemmas.{taken_front, put-place}
 use Rattle.scene_rules.proofs.CallerLemmas.{slice_get-set_other, taken_last}
 use Rattle.scene_commands.proofs.commit.put_columns.Goals as goal

@@ -1,6 +1,6 @@
 use Rattle.std.proofs.Common.{◌≡◌, ◌<◌, ℕ, nat_le, vec_len, slice_get, take, if◌then◌else◌}
-use Rattle.scene_rules.specs.Slots.{in_column}
-use Rattle.scene_commands.specs.Over.{slot_in, put_over}
+use Rattle.scene_rules.specs.Slots.{in_column, slot_in}
+use Rattle.scene_commands.specs.Over.{put_over}
 use Rattle.scene_commands.proofs.commit.put_columns.Given as goal
 
 abbrev pub decreases-loop-one : goal.decreases-loop-one

@@ -1,8 +1,8 @@
 use Rattle.std.proofs.Common.{◌≡◌, map}
 use Rattle.std.specs.List.{filter_map}
-use Rattle.scene_rules.specs.Queues.{plain_entry as plain_pair}
+use Rattle.scene_rules.specs.Queues.{plain_entry}
 use Rattle.scene_draft.specs.DraftViews.{plain_part}
 use Rattle.scene_document.proofs.commands.known_parts.Given as goal
 
 abbrev pub invariant-loop-part : goal.invariant-loop-part
-invariant-loop-part g l = map (plain_pair g.R.Rules.part_of) l.known.items ≡ filter_map (λ part. part) (map (plain_part g.R.Rules.part_of) l.yielded)
+invariant-loop-part g l = map (plain_entry g.R.Rules.part_of) l.known.items ≡ filter_map (λ part. part) (map (plain_part g.R.Rules.part_of) l.yielded)

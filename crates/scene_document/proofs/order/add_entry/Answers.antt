@@ -1,7 +1,7 @@
 use Rattle.std.proofs.Common.{◌≡◌, ◌∷◌, [], ap, sym, ◌∙◌}
 use Rattle.std.specs.List.{fold, filter_map}
 use Rattle.scene_rules.specs.Lent.{texts}
-use Rattle.scene_draft.specs.DraftViews.{plain_entry}
+use Rattle.scene_draft.specs.DraftViews.{plain_draft}
 use Rattle.scene_document.specs.Openings.{same_resource, staged}
 use Rattle.scene_document.specs.Placing.{kept_place, told_of}
 use Rattle.shred_plan.specs.Plan.{added, placing}
@@ -19,4 +19,4 @@ returns g c = λ all h.
     let told : c.in_ok-adding_of.field-0 ≡ told_of place (filter_map lookup (texts system.after.items)) made = c.in_ok-adding_of.ensures ∙ ap (λ list. told_of place list made) after in
     c.in_ok-add.ensures.ok ∙ ap (λ one. added same_resource planner (placing one)) told
     ∙ ap (fold (added same_resource) planner) (sym (told-plain all place lookup system made c.if-system.false c.in-Some.is h))
-    ∙ ap (λ one. fold (added same_resource) planner (staged all place (plain_entry one ∷ []))) (sym c.in-System.is)
+    ∙ ap (λ one. fold (added same_resource) planner (staged all place (plain_draft one ∷ []))) (sym c.in-System.is)

@@ -1,5 +1,5 @@
 use Rattle.std.proofs.Common.{◌≡◌, suc, ◌+◌, ◌-◌, ◌∷◌, cond, Some, drop, map, ap, sym, ◌∙◌, arith}
-use Rattle.scene_draft.specs.DraftViews.{plain_entry}
+use Rattle.scene_draft.specs.DraftViews.{plain_draft}
 use Rattle.scene_document.specs.Names.{has_name}
 use Rattle.scene_document.specs.Openings.{place_named}
 use Rattle.scene_document.specs.Placing.{kept_place}
@@ -18,6 +18,6 @@ loop-index-preserved g c = λ name.
     let turn : drop before entries ≡ one ∷ rest = drop_last entries c.loop-index.index one (omega arith) (omega arith) ∙ ap (λ first. first ∷ rest) (sym c.index-entries-index.is) in
     c.in_ok-put_place.ensures name
     ∙ ap (λ p. cond (has_name name one) (Some p) (kept_place c.loop-index.places name)) next
-    ∙ ap (λ later. cond (has_name name one) (Some (suc before)) later) (c.loop-index.invariant name ∙ ap (λ p. place_named (suc p) (map plain_entry rest) name) (sym up))
+    ∙ ap (λ later. cond (has_name name one) (Some (suc before)) later) (c.loop-index.invariant name ∙ ap (λ p. place_named (suc p) (map plain_draft rest) name) (sym up))
     ∙ sym (named_more (suc before) name one rest)
-    ∙ ap (λ list. place_named (suc before) (map plain_entry list) name) (sym turn)
+    ∙ ap (λ list. place_named (suc before) (map plain_draft list) name) (sym turn)

@@ -5,4 +5,4 @@ pub returns : goal.returns
 returns g c =
     let rules = c.args.scene.now.rules in
     let loaded = c.args.scene.now.loaded in
-    can-be-read g.R.Rules.part_of g.R.Rules.global_of (g.R.Rules.book rules) loaded.next loaded.ids.items loaded.columns c.requires.sound (g.met.R.Rules.reads_back rules) (g.met.R.Rules.global_reads_back rules)
+    can-be-read g.R.Rules.part_of g.R.Rules.global_of (g.R.Rules.book rules) loaded.next loaded.ids.items loaded.columns c.requires.sound (g.met.R.Rules.reads_back rules)

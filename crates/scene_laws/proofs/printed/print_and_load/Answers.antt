@@ -20,7 +20,7 @@ returns-clause-same g c =
     let made : document_from book indices (scene_json book scene) ≡ Ok document.0 =
     sym (c.requires.book indices (scene_json book scene)) ∙ (ap (document_from (g.R.Rules.book c.args.rules) indices) (sym json) ∙ document.1) in
     ap (λ shown. shown.scene) document.2
-    ∙ read-again g.R.Rules.part_of g.R.Rules.global_of book loaded.next loaded.ids.items loaded.columns c.requires.ready.sound (g.met.R.Rules.reads_back rules) (g.met.R.Rules.global_reads_back rules) (g.met.R.Rules.kinds_ascend rules) (g.met.R.Rules.globals_ascend rules) indices document.0 made)
+    ∙ read-again g.R.Rules.part_of g.R.Rules.global_of book loaded.next loaded.ids.items loaded.columns c.requires.ready.sound (g.met.R.Rules.reads_back rules) (g.met.R.Rules.kinds_ascend rules) (g.met.R.Rules.globals_ascend rules) indices document.0 made)
     c.open.ensures
 
 pub returns-clause-err : goal.returns-clause-err

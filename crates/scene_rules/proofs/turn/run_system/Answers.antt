@@ -1,10 +1,10 @@
 use Rattle.std.proofs.Common.{◌≡◌, ℕ, ap, subst, sym, ◌∙◌, option_map}
 use Rattle.scene_rules.specs.Rulebook.{leaves}
 use Rattle.scene_rules.specs.Queues.{waiting, plain_commands}
-use Rattle.scene_rules.specs.Scenes.{RefsLive, PartsAdmitted, IsLawfullyLeft, with_left}
+use Rattle.scene_rules.specs.Scenes.{RefsLive, PartsAdmitted, GlobalsReadable, IsLawfullyLeft, with_left}
 use Rattle.scene_rules.specs.Lending.{scene_in, system_in, PutsBack}
 use Rattle.scene_rules.specs.Lent.{kinds, globals, shown, lent, access_of, texts, datum, value}
-use Rattle.scene_rules.proofs.FragmentLemmas.{admitted-lent, living-lent, stop_refused, put_scene, admitted-left, living-left}
+use Rattle.scene_rules.proofs.FragmentLemmas.{owned-held, admitted-lent, living-lent, readable-lent, stop_refused, put_scene, admitted-left, living-left, readable-left}
 use Rattle.scene_rules.proofs.turn.run_system.Given.{Over}
 use Rattle.scene_rules.proofs.turn.run_system.Goals.{After-put_back-2}
 use Rattle.scene_rules.proofs.turn.run_system.Goals as goal
@@ -14,6 +14,9 @@ run-requires-clause-admitted g c = admitted-lent (g.R.Rules.book c.args.rules.no
 
 pub run-requires-clause-living : goal.run-requires-clause-living
 run-requires-clause-living g c = living-lent (access_of c.args.placed.now.accessor) (scene_in g.R.Rules.part_of g.R.Rules.global_of (g.R.Rules.book c.args.rules.now) 0 c.args.ids.now c.args.columns.now) (lent g.R.Rules.part_of g.R.Rules.global_of c.in-Ok.view) (shown c.in-Ok.view) c.in-Ok.ensures.shown (c.in-Ok.ensures.lent 0) c.requires.living
+
+pub run-requires-clause-readable : goal.run-requires-clause-readable
+run-requires-clause-readable g c = readable-lent (g.R.Rules.book c.args.rules.now) (access_of c.args.placed.now.accessor) (scene_in g.R.Rules.part_of g.R.Rules.global_of (g.R.Rules.book c.args.rules.now) 0 c.args.ids.now c.args.columns.now) (lent g.R.Rules.part_of g.R.Rules.global_of c.in-Ok.view) (c.in-Ok.ensures.lent 0) c.requires.readable
 
 pub returns-in-Err-run-clause-turn : goal.returns-in-Err-run-clause-turn
 returns-in-Err-run-clause-turn g c = λ next. rw c.refusal_of.ensures (stop_refused (g.R.Rules.book c.args.rules.now) (system_in g.R.Rules.kind_of g.R.Rules.config_of c.args.placed.now) (scene_in g.R.Rules.part_of g.R.Rules.global_of (g.R.Rules.book c.args.rules.now) next c.args.ids.now c.args.columns.now) (lent g.R.Rules.part_of g.R.Rules.global_of c.in-Ok.view) (plain_commands g.R.Rules.part_of (waiting c.run.new.queue)) c.in-Err-run.stop (c.in-Ok.ensures.lent next) c.in-Err-run.ensures.meets)
@@ -39,9 +42,11 @@ returns-clause-turn g c = λ next. (
   subst (λ f. (g.R.Rules.book c.args.rules.now).meets (g.R.Rules.kind_of c.args.placed.now.system) (g.R.Rules.config_of c.args.placed.now.system) f (leaves (lent g.R.Rules.part_of g.R.Rules.global_of c.run.new.view) (plain_commands g.R.Rules.part_of (waiting c.run.new.queue)))) (c.in-Ok.ensures.lent next) c.in-Ok-run.ensures.meets,
   subst (λ f. IsLawfullyLeft (g.R.Rules.book c.args.rules.now) f (lent g.R.Rules.part_of g.R.Rules.global_of c.run.new.view) (plain_commands g.R.Rules.part_of (waiting c.run.new.queue))) (c.in-Ok.ensures.lent next) (record {
     ids = c.in-Ok-run.ensures.loan.same_ids;
+    owned = owned-held g.R.Rules.part_of (kinds c.run.new.view) (shown c.run.new.view) c.run.new.view.columns c.run.new.view.own;
     living = c.in-Ok-run.ensures.living;
     admitted = c.in-Ok-run.ensures.admitted;
     valued = c.in-Ok-run.ensures.valued;
+    readable = c.in-Ok-run.ensures.readable;
     known = c.in-Ok-run.ensures.lawful;
   }),
   put g c next,
@@ -49,6 +54,9 @@ returns-clause-turn g c = λ next. (
 
 pub returns-clause-admitted : goal.returns-clause-admitted
 returns-clause-admitted g c = subst (λ scene. PartsAdmitted (g.R.Rules.book c.args.rules.now) scene.part) (sym (put g c 0)) (admitted-left (g.R.Rules.book c.args.rules.now) (access_of c.args.placed.now.accessor) (lent g.R.Rules.part_of g.R.Rules.global_of c.run.new.view) (scene_in g.R.Rules.part_of g.R.Rules.global_of (g.R.Rules.book c.args.rules.now) 0 c.args.ids.now c.args.columns.now) c.requires.admitted c.in-Ok-run.ensures.admitted)
+
+pub returns-clause-readable : goal.returns-clause-readable
+returns-clause-readable g c = subst (λ scene. GlobalsReadable (g.R.Rules.book c.args.rules.now) scene.global) (sym (put g c 0)) (readable-left (g.R.Rules.book c.args.rules.now) (access_of c.args.placed.now.accessor) (lent g.R.Rules.part_of g.R.Rules.global_of c.run.new.view) (scene_in g.R.Rules.part_of g.R.Rules.global_of (g.R.Rules.book c.args.rules.now) 0 c.args.ids.now c.args.columns.now) c.requires.readable c.in-Ok-run.ensures.readable)
 
 pub returns-clause-living : goal.returns-clause-living
 returns-clause-living g c =

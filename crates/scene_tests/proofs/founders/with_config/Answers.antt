@@ -1,6 +1,7 @@
 use Rattle.std.proofs.Common.{◌≡◌, true, cond, Some, None, is_some, refl, ◌∙◌, ap, sym}
 use Rattle.serde_json.specs.View.{view}
 use Rattle.serde_json.specs.Find.{as_null}
+use Rattle.scene_rules.specs.Rulebook.{known, misshapen}
 use Rattle.scene_tests.specs.Founders.{founding}
 use Rattle.scene_tests.specs.FounderLaws.{plain-null}
 use Rattle.scene_tests.proofs.founders.with_config.Goals as goal
@@ -8,4 +9,4 @@ use Rattle.scene_tests.proofs.founders.with_config.Goals as goal
 pub returns-then-is_null : goal.returns-then-is_null
 returns-then-is_null c =
     let null : is_some (as_null (view c.args.config.now)) ≡ true = sym c.is_null.ensures ∙ c.if-is_null.true in
-    (founding, ap (λ b. cond b (Some (Some founding)) None) null, refl, plain-null (view c.args.config.now) null)
+    (founding, ap (λ b. cond b (known founding) misshapen) null, refl, plain-null (view c.args.config.now) null)

@@ -73,7 +73,7 @@ returns g c =
     let whole = ap (λ plan. length plan.stages) c.self.view_is in
     let none : NoneAdmits same first one stages 0 (min c.in-Some.ready (length stages)) = rw c.in_default-2.is at c.in_ok-place.ensures in
     let early = before-start same first one stages c.in-Some.ready c.max-start.result (c.max-start.ensures ∙ ap (λ plan. max c.in-Some.ready plan.first) c.self.view_is) none in
-    first-after same first one stages 0 c.max-start.result (length stages) (length stages) c.place_from.result (omega arith)
+    first-after same first one stages 0 c.max-start.result (length stages) (length stages) c.in_ok-found.found (omega arith)
     (λ place low high. early place high (omega arith))
     (λ place low high. absurd (omega arith))
-    (omega arith) c.place_from.ensures
+    (omega arith) c.in_ok-found.ensures

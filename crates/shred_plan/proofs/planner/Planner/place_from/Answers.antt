@@ -6,12 +6,12 @@ use Rattle.shred_plan.proofs.planner.Planner.place_from.Goals as goal
 pub returns-in-Some : goal.returns-in-Some
 returns-in-Some g c =
     let whole = ap (λ plan. length plan.stages) c.self.view_is in
-    first-wider g.K.PartialEq.eq c.args.self.now.first c.args.adding.now c.args.self.now.stages c.args.start c.first_outside-free.result (length c.args.self.now.stages) c.in-Some.place (omega (arith, c.first_outside-free.ensures.end)) (rw c.in-Some.is at c.place_joined.ensures)
+    first-wider g.K.PartialEq.eq c.args.self.now.first c.args.adding.now c.args.self.now.stages c.args.start c.first_outside-free.result (length c.args.self.now.stages) c.in-Some.place (omega (arith, c.first_outside-free.ensures.end)) (rw c.in-Some.is at c.in_ok-place.ensures)
 
 pub returns-then-free-end : goal.returns-then-free-end
 returns-then-free-end g c =
     let whole = ap (λ plan. length plan.stages) c.self.view_is in
-    let none : NoneAdmits g.K.PartialEq.eq c.args.self.now.first c.args.adding.now c.args.self.now.stages c.args.start c.first_outside-free.result = rw c.in_default.is at c.place_joined.ensures in
+    let none : NoneAdmits g.K.PartialEq.eq c.args.self.now.first c.args.adding.now c.args.self.now.stages c.args.start c.first_outside-free.result = rw c.in_default.is at c.in_ok-place.ensures in
     λ place low high. none place low (omega arith)
 
 pub returns : goal.returns
@@ -20,7 +20,7 @@ returns g c =
     let stages = c.args.self.now.stages in
     let free = c.first_outside-free.result in
     let whole = ap (λ plan. length plan.stages) c.self.view_is in
-    let none : NoneAdmits same c.args.self.now.first c.args.adding.now stages c.args.start free = rw c.in_default.is at c.place_joined.ensures in
+    let none : NoneAdmits same c.args.self.now.first c.args.adding.now stages c.args.start free = rw c.in_default.is at c.in_ok-place.ensures in
     let out : is_blocked same c.args.adding.now (stage_at stages free) ≡ false = sym (c.requires.blocks free) ∙ c.first_outside-free.ensures.found (omega arith) in (
       omega (arith, c.first_outside-free.ensures.from),
       omega arith,

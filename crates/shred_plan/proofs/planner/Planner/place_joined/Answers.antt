@@ -1,7 +1,7 @@
-use Rattle.std.proofs.Common.{◌≡◌, ◌<◌, [], length, get_or, ap, ◌∙◌, arith, None, Some}
-use Rattle.std.proofs.lemmas.List.{get_or_read}
-use Rattle.shred_plan.specs.Index.{stage_at, way_at}
-use Rattle.shred_plan.proofs.FirstLemmas.{tight-passed, loose-way, one-then}
+use Rattle.std.proofs.Common.{◌≡◌, ◌∙◌, arith, None, Some}
+use Rattle.shred_plan.specs.Index.{way_at}
+use Rattle.shred_plan.proofs.FirstLemmas.{tight-passed, one-then}
+use Rattle.shred_plan.proofs.SeatLemmas.{seats-hit}
 use Rattle.shred_plan.proofs.planner.Planner.place_joined.Goals as goal
 
 pub loop-place-init : goal.loop-place-init
@@ -19,11 +19,7 @@ loop-place-preserved g c =
     let one = c.args.adding.now in
     let at = c.loop-place.place in
     let next = c.next_loose-place-in-loop-place.ensures in
-    let whole = ap (λ plan. length plan.stages) c.self.view_is in
-    let within : at < length stages = omega arith in
-    let read : c.index-stage.result.now ≡ stage_at stages at = get_or_read c.self.inside.stages.items at _ (omega arith) c.index-stage.ensures [] ∙ ap (λ plan. get_or plan.stages at []) c.self.view_is in
-    let way : way_at same first one stages at ≡ None =
-    loose-way same first one stages at c.index-stage.result.now c.joined_way.result (omega arith) (c.requires.ready at (omega arith) (omega arith)) read c.joined_way.ensures ∙ c.in_default.is in (
+    let way : way_at same first one stages at ≡ None = c.joined_way.ensures ∙ c.in_default.is in (
       omega arith,
       next.end,
       one-then same first one stages c.args.start at c.next_loose-place-in-loop-place.result c.loop-place.invariant.2 way
@@ -32,14 +28,12 @@ loop-place-preserved g c =
 
 pub returns-in-Some : goal.returns-in-Some
 returns-in-Some g c =
-    let same = g.K.PartialEq.eq in
-    let stages = c.args.self.now.stages in
-    let first = c.args.self.now.first in
-    let one = c.args.adding.now in
-    let at = c.loop-place.place in
-    let whole = ap (λ plan. length plan.stages) c.self.view_is in
-    let within : at < length stages = omega arith in
-    let read : c.index-stage.result.now ≡ stage_at stages at = get_or_read c.self.inside.stages.items at _ (omega arith) c.index-stage.ensures [] ∙ ap (λ plan. get_or plan.stages at []) c.self.view_is in
-    let way : way_at same first one stages at ≡ Some c.in-Some.way =
-    loose-way same first one stages at c.index-stage.result.now c.joined_way.result (omega arith) (c.requires.ready at (omega arith) (omega arith)) read c.joined_way.ensures ∙ c.in-Some.is in
+    let way : way_at g.K.PartialEq.eq c.args.self.now.first c.args.adding.now c.args.self.now.stages c.loop-place.place ≡ Some c.in-Some.way = c.joined_way.ensures ∙ c.in-Some.is in
     (omega arith, omega arith, way, c.loop-place.invariant.2)
+
+pub returns-then-place-end : goal.returns-then-place-end
+returns-then-place-end g c =
+    λ place low high. tight-passed g.K.PartialEq.eq c.args.self.now.first c.args.adding.now c.args.self.now.stages place (c.requires.blocked place low high) (c.requires.keeps.loose place (c.next_loose-place.ensures.passed place low (omega arith)))
+
+pub joined_way-requires-clause-hits : goal.joined_way-requires-clause-hits
+joined_way-requires-clause-hits g c = seats-hit g.K.Ord.cmp g.K.PartialEq.eq g.met.K.Eq.laws.symm c.args.index.now.seats c.args.adding.now c.args.self.now.stages c.in_ok-seats.seats c.requires.keeps.seats c.in_ok-seats.ensures

@@ -5,8 +5,8 @@ use Rattle.shred_plan.specs.Kept.{Keeps}
 use Rattle.shred_plan.proofs.KeepLemmas.{keeps-tight}
 use Rattle.shred_plan.proofs.planner.Planner.tighten.Goals as goal
 
-pub invariant_of-self : goal.invariant_of-self
-invariant_of-self g c =
+pub invariant_of-self-in-Some-2 : goal.invariant_of-self-in-Some-2
+invariant_of-self-in-Some-2 g c =
     let cmp = g.K.Ord.cmp in
     let same = g.K.PartialEq.eq in
     let stages = c.self.inside.stages.items in

@@ -4,7 +4,9 @@ use Rattle.hibitset_sets.specs.BitSet.{has_member}
 use Rattle.hibitset_sets.specs.Walk.{walk}
 use Rattle.specs_join.specs.Cursors.{indices_left}
 use Rattle.specs_layouts.specs.Parts.{Puts}
+use Rattle.specs_layouts.specs.Shows.{Shows}
 use Rattle.specs_layouts.specs.ToCome.{IsToCome}
+use Rattle.specs_layouts.proofs.CallerLemmas.{shows-refl, shows-trans, shows-written}
 use Rattle.specs_join.proofs.NewLemmas.{walk-members}
 use Rattle.std.proofs.lemmas.Bool.{and_parts, false≢true}
 use Rattle.specs_layouts.specs.Parts.{told}
@@ -17,6 +19,7 @@ use Rattle.specs_join.proofs.join.change_each.change_each.Goals as goal
 
 pub loop-cursor-init : goal.loop-cursor-init
 loop-cursor-init g c =
+    let layout = g.T.Storage.UnprotectedStorage in
     let part_at = g.T.Storage.UnprotectedStorage.part_at in
     let joins = g.R.Join.joins c.args.read in
     let cursor = c.new-cursor.result in
@@ -29,6 +32,7 @@ loop-cursor-init g c =
           new.values index has.1 (and_parts (has_member old.mask index) (is_some (joins index)) has.0).1;
       emission = ap (λ m. g.T.Storage.UnprotectedStorage.emits m.inner) new.storage;
       events = ap (told_each (g.T.Storage.UnprotectedStorage.emits old.inner) (g.T.Storage.UnprotectedStorage.events cursor.storage.now.inner)) new.left ∙ ap (λ m. told_each (g.T.Storage.UnprotectedStorage.emits old.inner) (g.T.Storage.UnprotectedStorage.events m.inner) (shared_indices old.mask joins)) new.storage;
+      shows = subst (λ m. Shows part_at layout.events layout.emits old.inner m.inner) (sym new.storage) (shows-refl part_at layout.events layout.emits old.inner);
       under = subst (λ m. IsUnderWay (g.C.Change.changed c.args.change.now) (part_at old.inner) joins (part_at m.inner) (indices_left g.R.Mask.BitSetLike.members cursor)) (sym new.storage)
           (starts (g.C.Change.changed c.args.change.now) (part_at old.inner) joins (has_member old.mask) _ c.mask-mask.ensures.agrees c.mask-mask.ensures.range new.left);
     }
@@ -42,8 +46,18 @@ shorter left rest index is = subst (λ l. length rest < length l) (sym is) (omeg
 pub loop-cursor-smaller : goal.loop-cursor-smaller
 loop-cursor-smaller g c = let next = c.loop-cursor-test.ensures.some refl in shorter _ _ next.0 next.2
 
+-- what was shown is shown with the part at the next index written, too
+shows-next : (g : given.Over) → let layout = g.T.Storage.UnprotectedStorage in (old now : g.row.T-Storage.Denot) (at : Option ℕ) (index : ℕ) (part : g.row.T.Denot) → at ≡ Some index → IsSome (layout.part_at now index) → Shows layout.part_at layout.events layout.emits old now → Shows layout.part_at layout.events layout.emits old (layout.written now (unwrap_or at 0) part)
+shows-next g old now at index part is there shown =
+    let layout = g.T.Storage.UnprotectedStorage in
+    let law = g.met.T.Storage.UnprotectedStorage in
+    let here = subst (λ i. IsSome (layout.part_at now i)) (sym (ap (λ o. unwrap_or o 0) is)) there in
+    shows-trans layout.part_at layout.events layout.emits old now (layout.written now (unwrap_or at 0) part) shown
+    (shows-written layout.part_at layout.events layout.emits layout.written law.written_puts law.written_tells law.written_emits now (unwrap_or at 0) part here)
+
 pub loop-cursor-preserved : goal.loop-cursor-preserved
 loop-cursor-preserved g c =
+    let layout = g.T.Storage.UnprotectedStorage in
     let under = subst (λ m. IsUnderWay (g.C.Change.changed c.args.change.now) (g.T.Storage.UnprotectedStorage.part_at c.args.storage.now.inner) (g.R.Join.joins c.args.read) (g.T.Storage.UnprotectedStorage.part_at m.inner) (indices_left g.R.Mask.BitSetLike.members c.loop-cursor.cursor)) (sym c.advance.ensures.storage) c.loop-cursor.invariant.under in
     let part_at = g.T.Storage.UnprotectedStorage.part_at in
     let written = g.T.Storage.UnprotectedStorage.written in
@@ -72,6 +86,7 @@ loop-cursor-preserved g c =
           ∙ (ap (λ i. told_each emits (told emits (g.T.Storage.UnprotectedStorage.events inner) (event.Modified i)) (indices_left g.R.Mask.BitSetLike.members c.advance.new.self)) (ap (λ o. unwrap_or o 0) next.1.0)
           ∙ (ap (told_each emits (g.T.Storage.UnprotectedStorage.events inner)) (sym next.2)
           ∙ (ap (λ m. told_each emits (g.T.Storage.UnprotectedStorage.events m.inner) (indices_left g.R.Mask.BitSetLike.members c.loop-cursor.cursor)) moved.storage ∙ invariant.events))));
+      shows = shows-next g c.args.storage.now.inner inner c.advance.new.self.index index part' next.1.0 (ap is_some there) (subst (λ m. Shows part_at layout.events layout.emits c.args.storage.now.inner m.inner) (sym moved.storage) invariant.shows);
       under = steps changed (part_at c.args.storage.now.inner) joins (part_at inner) _ index _ _ next.2 (walk-later _ index _ next.2) under _ part' _ there has c.in_default.ensures.done puts;
     }
 
@@ -122,3 +137,16 @@ returns-in-Err-change-clause-below g c =
     let below = subst (λ i. AreChangedBelow changed (part_at c.args.storage.now.inner) joins i (part_at (written inner (unwrap_or c.advance.new.self.index 0) part'))) (sym (ap (λ o. unwrap_or o 0) (sym c.index-index.ensures ∙ next.1.0)))
     (stops changed (part_at c.args.storage.now.inner) joins (part_at inner) _ next.0 _ _ next.2 (walk-later _ next.0 _ next.2) under stays) in
     search (below, told_so, same, rules)
+
+pub returns-in-Err-change-clause-shows : goal.returns-in-Err-change-clause-shows
+returns-in-Err-change-clause-shows g c =
+    let layout = g.T.Storage.UnprotectedStorage in
+    let next = c.loop-cursor-test.ensures.some refl in
+    let inner = c.advance.new.self.storage.now.inner in
+    let there = c.in-Ok.ensures.part next.0 next.1.0 in
+    let same = c.advance.ensures.same_reference ∙ (c.loop-cursor.invariant.same_reference ∙ c.new-cursor.ensures.same_reference) in
+    let told_so = c.drop-cursor.ensures in
+    let shown =
+    shows-next g c.args.storage.now.inner inner c.advance.new.self.index next.0 c.change.new.part next.1.0 (ap is_some there)
+    (subst (λ m. Shows layout.part_at layout.events layout.emits c.args.storage.now.inner m.inner) (sym c.advance.ensures.storage) c.loop-cursor.invariant.shows) in
+    search (shown, told_so, same, rules)

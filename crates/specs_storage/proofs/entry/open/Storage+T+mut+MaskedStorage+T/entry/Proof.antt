@@ -46,7 +46,8 @@ use Rattle.specs_storage.proofs.entry.open.Storage+T+mut+MaskedStorage+T.entry_o
 use Rattle.specs_storage.proofs.entry.open.Storage+T+mut+MaskedStorage+T.entry.Code as code
 use Rattle.specs_storage.proofs.entry.open.Storage+T+mut+MaskedStorage+T.entry.Statement.{statement}
 use Rattle.specs_storage.specs.EntryLends.{lends_open, lends_entry, store_of, id_of}
-use Rattle.specs_storage.specs.StorageLends.{lends_store, masked_row}
+use Rattle.specs_layouts.specs.MaskedLends.{masked_row}
+use Rattle.specs_storage.specs.StorageLends.{lends_store}
 use Rattle.specs_storage.specs.contracts.entry.EntryOf.{the_row as Question}
 use Rattle.specs_storage.specs.contracts.entry.EntryOf.open as opened
 use Rattle.specs_storage.specs.contracts.entry.StorageEntry.{the_row as Entry}

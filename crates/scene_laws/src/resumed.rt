@@ -1,0 +1,176 @@
+//! A run that is printed, put back and run on.
+ghost use Rattle.std.specs.Prelude.{◌≡◌, Some, IfOk, IsTrue};
+ghost use Rattle.scene_rules.specs.declared.refusals.Report.{Report};
+ghost use Rattle.serde_json.specs.View.{view};
+ghost use Rattle.scene_draft.specs.Texts.{json_of};
+ghost use Rattle.scene.specs.Limits.{AreLimits};
+ghost use Rattle.scene_laws.specs.OneOutcome.{OneOutcome, HadMemory};
+ghost use Rattle.scene_laws.specs.Printed.{with_course};
+ghost use Rattle.scene_laws.specs.Resumed.{IsFinished, GoesOn};
+
+use scene::{DocRefusal, FrameRefusal, Limits, LoadError, Report, Rules, Scene, run_to_end};
+use scene_draft::{JsonError, read_json};
+use serde_json::{Value, put};
+use std::alloc::{AllocError, Global};
+
+/// What a document asks for beside its scene: `systems`, `frames` and `commands`, as they stand in its JSON.
+#[derive(Drop)]
+pub struct Course {
+    /// The list of systems.
+    pub systems: Value,
+    /// How many frames are asked for.
+    pub frames: Value,
+    /// The lists of commands, the first of them for the first frame.
+    pub commands: Value,
+}
+
+/// Why a run in two parts gave no texts.
+#[derive(Clone, Copy, Debug, PartialEq, Eq)]
+pub enum ResumeError {
+    /// One of the documents is no scene, or there was no memory to load it.
+    Load(LoadError),
+    /// A frame of the first part was refused.
+    Refused,
+    /// Memory was wanting.
+    Memory,
+}
+
+impl From<AllocError> for ResumeError {
+    ghost use Rattle.scene_laws.specs.declared.resumed.ResumeError.TheVariants.{Memory};
+
+    ghost from_gives = { λ _ error. error ≡ Memory };
+
+    fn from(_error: AllocError) -> ResumeError {
+        ResumeError::Memory
+    }
+}
+
+/// A run to its end: the rules that it ran under, its report, and the text of the scene that it reached.
+#[derive(Drop)]
+struct Finished<R: Drop> {
+    rules: R,
+    report: Report,
+    text: Vec<u8>,
+}
+
+/// Whether a report does not end in a want of memory.
+fn had_memory(report: &Report) -> bool
+    ensures { IsTrue result → HadMemory report.now }
+{
+    match &report.refused {
+        Some((_, FrameRefusal::Memory)) => false,
+        _ => true,
+    }
+}
+
+/// Runs the document that a JSON is to its end.
+///
+/// Errors: `Load`, where it is none; `Memory`, also where a frame was refused for it.
+fn finish<R: Rules + Drop, H: AllocGlobal>(
+    rt: &H,
+    rules: R,
+    limits: Limits,
+    document: &Value,
+) -> Result<Finished<R>, ResumeError>
+    requires { AreLimits limits }
+    ensures rules { IfOk result (λ done. done.rules ≡ rules) }
+    ensures done { IfOk result (λ done. IsFinished (R.book rules) limits (view document.now) done.report done.text.items) }
+{
+    let mut scene = match Scene::load(rt.alloc(), rules, limits, document) {
+        Ok(scene) => scene,
+        Err(error) => return Err(ResumeError::Load(error)),
+    };
+    run_to_end(rt, &mut scene);
+    let text = scene.snapshot(rt.alloc())?;
+    let (rules, report) = scene.into_parts();
+    if !had_memory(&report) {
+        return Err(ResumeError::Memory);
+    }
+    Ok(Finished {
+        rules,
+        report,
+        text,
+    })
+}
+
+/// Puts a course into the JSON of a scene, which is then that of a document.
+fn put_back(alloc: Global, scene: Value, course: Course) -> Result<Value, AllocError>
+    ensures { IfOk result (λ value. view value
+        ≡ with_course (view course.systems) (view course.frames) (view course.commands) (view scene)) }
+{
+    let Course {
+        systems,
+        frames,
+        commands,
+    } = course;
+    match scene {
+        Value::Object(mut members) => {
+            put(&mut members, alloc, "commands", commands)?;
+            put(&mut members, alloc, "frames", frames)?;
+            put(&mut members, alloc, "systems", systems)?;
+            Ok(Value::Object(members))
+        }
+        other => Ok(other),
+    }
+}
+
+/// The JSON that a text reads as.
+///
+/// Errors: `Load` with `Unreadable` where it has none; `Memory`.
+fn read_back(alloc: Global, text: &[u8]) -> Result<Value, ResumeError>
+    ensures { IfOk result (λ value. json_of text.now ≡ Some (view value)) }
+{
+    match read_json(alloc, text) {
+        Ok(value) => Ok(value),
+        Err(JsonError::Unreadable) => Err(ResumeError::Load(LoadError::Document(
+            DocRefusal::Unreadable,
+        ))),
+        Err(JsonError::Memory) => Err(ResumeError::Memory),
+    }
+}
+
+/// Runs a document at once, and then its frames in two parts: those of the first document, of which the scene is printed, read,
+/// put back with the rest of the systems, frames and commands, and run on. Answers both texts.
+///
+/// Where the documents go on so, and each system allows one outcome of what it may be lent, the two texts are one.
+///
+/// The limits are at most the greatest ones, and `generation` is at least 1.
+///
+/// Errors: `Load`, with the least refusal that stands of the first of the three documents that is none; `Refused`, where a frame
+/// of the first part is refused; `Memory`, also where a frame is refused for it.
+pub fn run_in_parts<R: Rules + Drop, H: AllocGlobal>(
+    rt: &H,
+    rules: R,
+    limits: Limits,
+    whole: &Value,
+    first: &Value,
+    rest: Course,
+) -> Result<(Vec<u8>, Vec<u8>), ResumeError>
+    requires { AreLimits limits }
+    ensures whole { IfOk result (λ texts. (report : Report) × IsFinished (R.book rules) limits (view whole.now) report texts.0.items) }
+    ensures same { IfOk result (λ texts. OneOutcome (R.book rules)
+        → GoesOn (R.book rules) limits.indices (view whole.now) (view first.now) (view rest.systems) (view rest.frames) (view rest.commands)
+        → texts.0.items ≡ texts.1.items) }
+{
+    let Finished {
+        rules,
+        report: _,
+        text: at_once,
+    } = finish(rt, rules, limits, whole)?;
+    let Finished {
+        rules,
+        report,
+        text: middle,
+    } = finish(rt, rules, limits, first)?;
+    if report.refused.is_some() {
+        return Err(ResumeError::Refused);
+    }
+    let scene = read_back(rt.alloc(), middle.as_slice())?;
+    let document = put_back(rt.alloc(), scene, rest)?;
+    let Finished {
+        rules: _,
+        report: _,
+        text: in_parts,
+    } = finish(rt, rules, limits, &document)?;
+    Ok((at_once, in_parts))
+}

@@ -1,0 +1,23 @@
+-- What holds of a refused frame, by its cause.
+use Rattle.std.specs.Prelude.{ℕ, List}
+use Rattle.scene_rules.specs.declared.refusals.FrameRefusal.{FrameRefusal}
+use Rattle.scene_rules.specs.declared.refusals.FrameRefusal.TheVariants.{System, GoneReference, IdsSpent, IndicesSpent, GenerationsSpent, TooManyCommands, Memory, Threads}
+
+-- what each cause says: a system's place and text, the id that holds a reference that is gone, that ids are spent, that there are
+-- too many commands
+pub record Causes : Type 1 where
+  pub system : ℕ → List ℕ → Type 0
+  pub gone : ℕ → Type 0
+  pub ids : Type 0
+  pub commands : Type 0
+
+-- what the cause says; want of memory says nothing, and frames over plain maps have no other cause
+abbrev pub Says : Causes → FrameRefusal → Type 0
+Says causes (System position text) = causes.system position text
+Says causes (GoneReference id) = causes.gone id
+Says causes IdsSpent = causes.ids
+Says causes IndicesSpent = ⊥
+Says causes GenerationsSpent = ⊥
+Says causes TooManyCommands = causes.commands
+Says causes Memory = Unit {0}
+Says causes Threads = ⊥
