@@ -24,7 +24,8 @@ pub trait BatchController<V, S>: Sized {
     ghost use Rattle.shred_stages.specs.Staging.{Staging};
 
     /// What a run may do, where a run of the stages' systems may do what is said first: the controller and the stages before, what they see, why it refuses, both after, and what they leave.
-    ghost meets: { (S → Holding V → Option Refusal → S → Holding V → Type 0) → Self → Staging S → Holding V → Option Refusal → Self → Staging S → Holding V → Type 0 };
+    ghost meets: { (S → Holding V → Option Refusal → S → Holding V → Type 0) → Self → Staging S → Holding V
+        → Option Refusal → Self → Staging S → Holding V → Type 0 };
 
     /// The ids that it reads, in order.
     ghost read_list: { Self → List Id };
@@ -50,7 +51,8 @@ pub trait BatchController<V, S>: Sized {
     where
         V: Drop,
         S: System<V> + Drop,
-        ensures meets { meets S.meets self.old stages.old (W.slots view.old) (error_of result) self.new stages.new (W.slots view.new) }
+        ensures meets { meets S.meets self.old stages.old (W.slots view.old) (error_of result) self.new stages.new
+            (W.slots view.new) }
         ensures leaves { Leaves (W.slots view.old) (W.slots view.new) }
         ensures plan { stages.new.planning ≡ stages.old.planning }
         ensures reads { read_list self.new ≡ read_list self.old }
@@ -110,11 +112,13 @@ impl<V, S, C> Batch<V, S, C> {
 }
 
 impl<V: Drop, S: System<V> + Drop, C: BatchController<V, S> + Drop> System<V> for Batch<V, S, C> {
-    ghost meets = { λ before w refused after w_after. C.meets S.meets before.controller before.staging w refused after.controller after.staging w_after × (after.staging.planning ≡ before.staging.planning) };
+    ghost meets = { λ before w refused after w_after. C.meets S.meets before.controller before.staging w refused
+        after.controller after.staging w_after × (after.staging.planning ≡ before.staging.planning) };
 
     ghost read_list = { λ batch. all_reads batch.staging.planning.stages ++ C.read_list batch.controller };
 
-    ghost write_list = { λ batch. all_writes batch.staging.planning.stages ++ (C.read_list batch.controller ++ C.write_list batch.controller) };
+    ghost write_list = { λ batch. all_writes batch.staging.planning.stages
+        ++ (C.read_list batch.controller ++ C.write_list batch.controller) };
 
     ghost said_time = { λ batch. C.said_time batch.controller };
 

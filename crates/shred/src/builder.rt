@@ -32,7 +32,11 @@ impl<V, S, C, L> Model for DispatcherBuilder<V, S, C, L> {
 
     ghost Value = { Drafting (Works S (Batched S C)) L };
 
-    ghost view = { λ builder. record { building = builder.systems; locals = builder.locals.items; workers = builder.workers } };
+    ghost view = { λ builder. record {
+      building = builder.systems;
+      locals = builder.locals.items;
+      workers = builder.workers;
+    } };
 }
 
 impl<
@@ -60,10 +64,13 @@ impl<
     /// system is handed back.
     pub fn add(&mut self, system: S, name: &str, after: &[&str]) -> Result<SystemId, (AddError, S)>
         ensures taken { OnOk result (refusal self.old.building name.now (texts after.now) ≡ None) }
-        ensures refused { IfErr result (λ refused. Refuses (refusal self.old.building name.now (texts after.now)) refused.0) }
+        ensures refused { IfErr result (λ refused. Refuses (refusal self.old.building name.now (texts after.now))
+            refused.0) }
         ensures number { IfOk result (λ id. id.0 ≡ length self.old.building.staging.systems) }
-        ensures ok { OnOk result (self.new ≡ with_building self.old (built_with ⟦<ResourceId as PartialEq>⟧.eq self.old.building (OfSystem system)
-            (record { reads = S.read_list system; writes = S.write_list system; time = S.said_time system }) name.now (texts after.now))) }
+        ensures ok { OnOk result (self.new ≡ with_building self.old
+            (built_with ⟦<ResourceId as PartialEq>⟧.eq self.old.building (OfSystem system)
+            (record { reads = S.read_list system; writes = S.write_list system; time = S.said_time system })
+            name.now (texts after.now))) }
         ensures err { OnErr result (self.new ≡ self.old) }
         ensures handed_back { IfErr result (λ refused. refused.1 ≡ system) }
     {
@@ -87,9 +94,12 @@ impl<
         after: &[&str],
     ) -> Result<SystemId, (AddError, C, StagesBuilder<V, S>)>
         ensures taken { OnOk result (refusal self.old.building name.now (texts after.now) ≡ None) }
-        ensures refused { IfErr result (λ refused. Refuses (refusal self.old.building name.now (texts after.now)) refused.0) }
+        ensures refused { IfErr result (λ refused. Refuses (refusal self.old.building name.now (texts after.now))
+            refused.0) }
         ensures number { IfOk result (λ id. id.0 ≡ length self.old.building.staging.systems) }
-        ensures ok { OnOk result (self.new ≡ with_building self.old (built_with ⟦<ResourceId as PartialEq>⟧.eq self.old.building (OfBatch (record { controller = controller; staging = stages }))
+        ensures ok { OnOk result (self.new ≡ with_building self.old
+            (built_with ⟦<ResourceId as PartialEq>⟧.eq self.old.building
+            (OfBatch (record { controller = controller; staging = stages }))
             (record {
               reads = all_reads stages.planning.stages ++ C.read_list controller;
               writes = all_writes stages.planning.stages ++ (C.read_list controller ++ C.write_list controller);
@@ -114,7 +124,11 @@ impl<
     ///
     /// Errors: want of memory, which leaves the builder as it was and hands the system back.
     pub fn add_thread_local(&mut self, local: L) -> Result<(), AllocFailed<L>>
-        ensures ok { OnOk result (self.new ≡ record { building = self.old.building; locals = self.old.locals ++ local ∷ []; workers = self.old.workers }) }
+        ensures ok { OnOk result (self.new ≡ record {
+          building = self.old.building;
+          locals = self.old.locals ++ local ∷ [];
+          workers = self.old.workers;
+        }) }
         ensures err { OnErr result (self.new ≡ self.old) }
         ensures handed_back { IfErr result (λ refused. refused.value ≡ local) }
     {
@@ -127,7 +141,10 @@ impl<
 
     /// What is added from now on runs in later stages than what was added so far.
     pub fn add_barrier(&mut self)
-        ensures { self.new ≡ with_building self.old (record { staging = fenced ⟦<ResourceId as PartialEq>⟧.eq self.old.building.staging; names = self.old.building.names }) }
+        ensures { self.new ≡ with_building self.old (record {
+          staging = fenced ⟦<ResourceId as PartialEq>⟧.eq self.old.building.staging;
+          names = self.old.building.names;
+        }) }
     {
         self.systems.add_barrier();
     }

@@ -26,9 +26,12 @@ impl<
         after: &[&str],
     ) -> Result<Self, (AddError, Self, S)>
         ensures taken { OnOk result (refusal self.building name.now (texts after.now) ≡ None) }
-        ensures refused { IfErr result (λ refused. Refuses (refusal self.building name.now (texts after.now)) refused.0) }
-        ensures ok { IfOk result (λ builder. builder ≡ with_building self (built_with ⟦<ResourceId as PartialEq>⟧.eq self.building (OfSystem system)
-            (record { reads = S.read_list system; writes = S.write_list system; time = S.said_time system }) name.now (texts after.now))) }
+        ensures refused { IfErr result (λ refused. Refuses (refusal self.building name.now (texts after.now))
+            refused.0) }
+        ensures ok { IfOk result (λ builder. builder ≡ with_building self
+            (built_with ⟦<ResourceId as PartialEq>⟧.eq self.building (OfSystem system)
+            (record { reads = S.read_list system; writes = S.write_list system; time = S.said_time system })
+            name.now (texts after.now))) }
         ensures builder_back { IfErr result (λ refused. refused.1 ≡ self) }
         ensures system_back { IfErr result (λ refused. refused.2 ≡ system) }
     {
@@ -49,8 +52,11 @@ impl<
         after: &[&str],
     ) -> Result<Self, (AddError, Self, C, StagesBuilder<V, S>)>
         ensures taken { OnOk result (refusal self.building name.now (texts after.now) ≡ None) }
-        ensures refused { IfErr result (λ refused. Refuses (refusal self.building name.now (texts after.now)) refused.0) }
-        ensures ok { IfOk result (λ builder. builder ≡ with_building self (built_with ⟦<ResourceId as PartialEq>⟧.eq self.building (OfBatch (record { controller = controller; staging = stages }))
+        ensures refused { IfErr result (λ refused. Refuses (refusal self.building name.now (texts after.now))
+            refused.0) }
+        ensures ok { IfOk result (λ builder. builder ≡ with_building self
+            (built_with ⟦<ResourceId as PartialEq>⟧.eq self.building
+            (OfBatch (record { controller = controller; staging = stages }))
             (record {
               reads = all_reads stages.planning.stages ++ C.read_list controller;
               writes = all_writes stages.planning.stages ++ (C.read_list controller ++ C.write_list controller);
@@ -70,7 +76,8 @@ impl<
     ///
     /// Errors: want of memory; the builder is handed back as it was, and the system.
     pub fn with_thread_local(mut self, local: L) -> Result<Self, AllocFailed<(Self, L)>>
-        ensures ok { IfOk result (λ builder. builder ≡ record { building = self.building; locals = self.locals ++ local ∷ []; workers = self.workers }) }
+        ensures ok { IfOk result (λ builder. builder
+            ≡ record { building = self.building; locals = self.locals ++ local ∷ []; workers = self.workers }) }
         ensures builder_back { IfErr result (λ refused. refused.value.0 ≡ self) }
         ensures local_back { IfErr result (λ refused. refused.value.1 ≡ local) }
     {
@@ -84,7 +91,10 @@ impl<
 
     /// The builder with a barrier, as `add_barrier` makes it.
     pub fn with_barrier(mut self) -> Self
-        ensures { result ≡ with_building self (record { staging = fenced ⟦<ResourceId as PartialEq>⟧.eq self.building.staging; names = self.building.names }) }
+        ensures { result ≡ with_building self (record {
+          staging = fenced ⟦<ResourceId as PartialEq>⟧.eq self.building.staging;
+          names = self.building.names;
+        }) }
     {
         self.add_barrier();
         self

@@ -29,7 +29,11 @@ impl<V, S, L> Model for Dispatcher<V, S, L> {
 
     ghost Value = { Dispatching S L };
 
-    ghost view = { λ dispatcher. record { staging = dispatcher.stages; locals = dispatcher.locals.items; workers = dispatcher.workers } };
+    ghost view = { λ dispatcher. record {
+      staging = dispatcher.stages;
+      locals = dispatcher.locals.items;
+      workers = dispatcher.workers;
+    } };
 }
 
 /// The answer that tells the refusal of a local system.
@@ -90,11 +94,13 @@ impl<V: Drop, S: System<V> + Drop, L: RunNow<V> + Drop> Dispatcher<V, S, L> {
     where
         V: Send + Sync,
         S: Send,
-        ensures runs { DispatchesAll S.meets L.meets self.old (holding_of world.old) result self.new (holding_of world.new) }
+        ensures runs { DispatchesAll S.meets L.meets self.old (holding_of world.old) result self.new
+            (holding_of world.new) }
 
         // Where no staged system refuses, the same steps come to the same in each order that keeps those that are
         // bound to one another.
-        ensures any_order { DispatchesInAnyOrder S.meets L.meets self.old (holding_of world.old) result self.new (holding_of world.new) }
+        ensures any_order { DispatchesInAnyOrder S.meets L.meets self.old (holding_of world.old) result self.new
+            (holding_of world.new) }
 
         // The same ids have values as before.
         ensures leaves { Leaves (holding_of world.old) (holding_of world.new) }
@@ -120,8 +126,10 @@ impl<V: Drop, S: System<V> + Drop, L: RunNow<V> + Drop> Dispatcher<V, S, L> {
     where
         V: Send + Sync,
         S: Send,
-        ensures runs { DispatchesOnThreads S.meets L.meets self.old (holding_of world.old) result self.new (holding_of world.new) }
-        ensures any_order { RunsInAnyOrder S.meets self.old.staging (holding_of world.old) result self.new.staging (holding_of world.new) }
+        ensures runs { DispatchesOnThreads S.meets L.meets self.old (holding_of world.old) result self.new
+            (holding_of world.new) }
+        ensures any_order { RunsInAnyOrder S.meets self.old.staging (holding_of world.old) result self.new.staging
+            (holding_of world.new) }
         ensures leaves { Leaves (holding_of world.old) (holding_of world.new) }
     {
         self.stages.execute(rt, self.workers, world)
@@ -137,8 +145,10 @@ impl<V: Drop, S: System<V> + Drop, L: RunNow<V> + Drop> Dispatcher<V, S, L> {
         rt: &H,
         world: &mut World<V>,
     ) -> Result<(), DispatchError>
-        ensures runs { DispatchesStaged S.meets L.meets self.old (holding_of world.old) result self.new (holding_of world.new) }
-        ensures any_order { RunsInAnyOrder S.meets self.old.staging (holding_of world.old) result self.new.staging (holding_of world.new) }
+        ensures runs { DispatchesStaged S.meets L.meets self.old (holding_of world.old) result self.new
+            (holding_of world.new) }
+        ensures any_order { RunsInAnyOrder S.meets self.old.staging (holding_of world.old) result self.new.staging
+            (holding_of world.new) }
         ensures leaves { Leaves (holding_of world.old) (holding_of world.new) }
     {
         self.dispatch_staged(rt, world)
@@ -152,7 +162,8 @@ impl<V: Drop, S: System<V> + Drop, L: RunNow<V> + Drop> Dispatcher<V, S, L> {
         rt: &H,
         world: &mut World<V>,
     ) -> Result<(), DispatchError>
-        ensures runs { DispatchesLocals S.meets L.meets self.old (holding_of world.old) result self.new (holding_of world.new) }
+        ensures runs { DispatchesLocals S.meets L.meets self.old (holding_of world.old) result self.new
+            (holding_of world.new) }
         ensures leaves { Leaves (holding_of world.old) (holding_of world.new) }
     {
         self.dispatch_locals(rt, world)
@@ -179,8 +190,10 @@ impl<V: Drop, S: System<V> + Drop, L: RunNow<V> + Drop> Dispatcher<V, S, L> {
         rt: &H,
         world: &mut W,
     ) -> Result<(), DispatchError>
-        ensures runs { DispatchesStaged S.meets L.meets self.old (W.slots world.old) result self.new (W.slots world.new) }
-        ensures any_order { RunsInAnyOrder S.meets self.old.staging (W.slots world.old) result self.new.staging (W.slots world.new) }
+        ensures runs { DispatchesStaged S.meets L.meets self.old (W.slots world.old) result self.new
+            (W.slots world.new) }
+        ensures any_order { RunsInAnyOrder S.meets self.old.staging (W.slots world.old) result self.new.staging
+            (W.slots world.new) }
         ensures leaves { Leaves (W.slots world.old) (W.slots world.new) }
     {
         self.stages.execute_seq(rt, world)
@@ -192,7 +205,8 @@ impl<V: Drop, S: System<V> + Drop, L: RunNow<V> + Drop> Dispatcher<V, S, L> {
         rt: &H,
         world: &mut W,
     ) -> Result<(), DispatchError>
-        ensures runs { DispatchesLocals S.meets L.meets self.old (W.slots world.old) result self.new (W.slots world.new) }
+        ensures runs { DispatchesLocals S.meets L.meets self.old (W.slots world.old) result self.new
+            (W.slots world.new) }
         ensures leaves { Leaves (W.slots world.old) (W.slots world.new) }
     {
         told_local(run_locals(rt, world, self.locals.as_mut_slice(), 0))

@@ -24,12 +24,14 @@ use shred_world::ResourceId;
 /// The plan of a builder is that of what it was told, one thing after another, so the planner's laws hold of it.
 pub fn builders_plan<S>()
     ensures { (list : List (Asked S)) → (built_from ⟦<ResourceId as PartialEq>⟧.eq nothing_built list).staging.planning
-        ≡ fold (added ⟦<ResourceId as PartialEq>⟧.eq) (record { first = 0; stages = [] }) (told ⟦<ResourceId as PartialEq>⟧.eq nothing_built list) }
+        ≡ fold (added ⟦<ResourceId as PartialEq>⟧.eq) (record { first = 0; stages = [] })
+        (told ⟦<ResourceId as PartialEq>⟧.eq nothing_built list) }
 {}
 
 /// Each system stands in a later stage than those whose names it comes after, or later in their group.
 pub fn named_systems_wait<S>()
-    ensures { (list : List (Asked S)) → StagesWait [] (built_from ⟦<ResourceId as PartialEq>⟧.eq nothing_built list).staging.planning.stages }
+    ensures { (list : List (Asked S))
+        → StagesWait [] (built_from ⟦<ResourceId as PartialEq>⟧.eq nothing_built list).staging.planning.stages }
 {}
 
 /// A system that is taken comes after the systems of all the names that it was given.
@@ -40,7 +42,9 @@ pub fn no_name_is_passed_over<S>()
 
 /// A builder's plan is that of its systems, numbered in the order in which they were added.
 pub fn builders_number_their_systems<S>()
-    ensures { (list : List (Asked S)) → IsPlannedIn ⟦<ResourceId as PartialEq>⟧.eq (built_from ⟦<ResourceId as PartialEq>⟧.eq nothing_built list) }
+    ensures { (list : List (Asked S))
+        → IsPlannedIn ⟦<ResourceId as PartialEq>⟧.eq
+        (built_from ⟦<ResourceId as PartialEq>⟧.eq nothing_built list) }
 {}
 
 /// In each stage of a dispatcher that was built, two groups share no system, and no id that either of them writes.
@@ -55,7 +59,8 @@ pub fn groups_of_a_stage_are_free<S, L>()
 pub fn named_systems_run_earlier<S, L>()
     ensures { (early late : List (Asked S)) (one : S) (declared : Declared) (name : List ℕ) (after : List (List ℕ))
         (other : List ℕ) (draft : Drafting S L)
-        → draft.building ≡ built_from ⟦<ResourceId as PartialEq>⟧.eq nothing_built (early ++ adding one declared name after ∷ late)
+        → draft.building ≡ built_from ⟦<ResourceId as PartialEq>⟧.eq nothing_built
+        (early ++ adding one declared name after ∷ late)
         → refusal (built_from ⟦<ResourceId as PartialEq>⟧.eq nothing_built early) name after ≡ None
         → Contains after other
         → (number : ℕ) × (number_under draft.building.names other ≡ Some number)
@@ -78,6 +83,7 @@ pub fn systems_apart_commute<V, S: System<V>>()
 
 /// Two systems whose resources stand under different dynamic numbers don't conflict.
 pub fn different_numbers_do_not_conflict()
-    ensures { (number another : ℕ) (one other : Placing Id) → number ≢ another → IsUnder number one → IsUnder another other
+    ensures { (number another : ℕ) (one other : Placing Id) → number ≢ another → IsUnder number one
+        → IsUnder another other
         → conflict same_id one other ≡ false }
 {}

@@ -44,7 +44,8 @@ pub(crate) fn run_locals<V, L: RunNow<V>, H: AllocGlobal, W: Holder<V>>(
     place: usize,
 ) -> Result<(), LocalRefusal>
     requires place { place + length locals.old < 18446744073709551616 }
-    ensures runs { LocalsRun L.meets place locals.old (W.slots world.old) (local_refusal result) locals.new (W.slots world.new) }
+    ensures runs { LocalsRun L.meets place locals.old (W.slots world.old) (local_refusal result) locals.new
+        (W.slots world.new) }
 {
     match locals {
         [] => Ok(()),

@@ -36,7 +36,8 @@ fn run_times<V: Drop, S: System<V> + Drop, H: AllocGlobal, W: Holder<V>>(
     times: usize,
 ) -> Result<(), Refusal>
     ensures plan { stages.new.planning ≡ stages.old.planning }
-    ensures runs { TimesRun S.meets times stages.old.planning.stages (record { systems = stages.old.systems; held = W.slots view.old }) (refusal_of result)
+    ensures runs { TimesRun S.meets times stages.old.planning.stages
+        (record { systems = stages.old.systems; held = W.slots view.old }) (refusal_of result)
         (record { systems = stages.new.systems; held = W.slots view.new }) }
     ensures leaves { Leaves (W.slots view.old) (W.slots view.new) }
 {
@@ -50,7 +51,8 @@ fn run_times<V: Drop, S: System<V> + Drop, H: AllocGlobal, W: Holder<V>>(
 }
 
 impl<V, S, C: MultiDispatchController<V>> BatchController<V, S> for MultiDispatcher<C> {
-    ghost meets = { λ meets before staging w refused after staging_after w_after. RunsAsPlanned C.plans meets before.controller staging w refused after.controller staging_after w_after };
+    ghost meets = { λ meets before staging w refused after staging_after w_after. RunsAsPlanned C.plans meets
+        before.controller staging w refused after.controller staging_after w_after };
 
     ghost read_list = { λ multi. C.read_list multi.controller };
 
@@ -58,7 +60,8 @@ impl<V, S, C: MultiDispatchController<V>> BatchController<V, S> for MultiDispatc
 
     ghost said_time = { λ _. 3 };
 
-    ghost sets_up = { λ before accepted w after w_after. C.sets_up before.controller accepted w after.controller w_after };
+    ghost sets_up = { λ before accepted w after w_after. C.sets_up before.controller accepted w after.controller
+        w_after };
 
     fn run<H: AllocGlobal, W: Holder<V>>(
         &mut self,

@@ -13,7 +13,8 @@ use std::alloc::{AllocError, Global};
 pub struct NoBatch;
 
 impl<V, S> BatchController<V, S> for NoBatch {
-    ghost meets = { λ _ _ staging w refused _ staging_after w_after. ChangesNothing w refused w_after × (staging_after ≡ staging) };
+    ghost meets = { λ _ _ staging w refused _ staging_after w_after. ChangesNothing w refused w_after
+        × (staging_after ≡ staging) };
 
     ghost read_list = { λ _. [] };
 

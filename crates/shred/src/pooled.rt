@@ -8,9 +8,11 @@ use std::alloc::AllocError;
 
 /// A tree runs on the caller's thread where it is a local system; letting it go does nothing.
 impl<V: Drop, T: RunWithPool<V> + Drop> RunNow<V> for ParSeq<T> {
-    ghost meets = { λ before w refused after w_after. T.meets before.tree w refused after.tree w_after × (after.workers ≡ before.workers) };
+    ghost meets = { λ before w refused after w_after. T.meets before.tree w refused after.tree w_after
+        × (after.workers ≡ before.workers) };
 
-    ghost sets_up = { λ before accepted w after w_after. T.sets_up before.tree accepted w after.tree w_after × (after.workers ≡ before.workers) };
+    ghost sets_up = { λ before accepted w after w_after. T.sets_up before.tree accepted w after.tree w_after
+        × (after.workers ≡ before.workers) };
 
     ghost disposes = { λ _ refused w w_after. (refused ≡ None) × (w_after ≡ w) };
 

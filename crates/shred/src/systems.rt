@@ -52,7 +52,8 @@ impl<V: Drop, S: System<V> + Drop> SystemsBuilder<V, S> {
         ensures refused { IfErr result (λ refused. Refuses (refusal self.old name.now (texts after.now)) refused.0) }
         ensures number { IfOk result (λ id. id.0 ≡ length self.old.staging.systems) }
         ensures ok { OnOk result (self.new ≡ built_with ⟦<ResourceId as PartialEq>⟧.eq self.old system
-            (record { reads = S.read_list system; writes = S.write_list system; time = S.said_time system }) name.now (texts after.now)) }
+            (record { reads = S.read_list system; writes = S.write_list system; time = S.said_time system })
+            name.now (texts after.now)) }
         ensures err { OnErr result (self.new ≡ self.old) }
         ensures handed_back { IfErr result (λ refused. refused.1 ≡ system) }
     {
@@ -91,7 +92,10 @@ impl<V: Drop, S: System<V> + Drop> SystemsBuilder<V, S> {
 
     /// What is added from now on runs in later stages than what was added so far.
     pub fn add_barrier(&mut self)
-        ensures { self.new ≡ record { staging = fenced ⟦<ResourceId as PartialEq>⟧.eq self.old.staging; names = self.old.names } }
+        ensures { self.new ≡ record {
+          staging = fenced ⟦<ResourceId as PartialEq>⟧.eq self.old.staging;
+          names = self.old.names;
+        } }
     {
         self.stages.add_barrier();
     }

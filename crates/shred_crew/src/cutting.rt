@@ -11,7 +11,8 @@ use std::cmp::Reverse;
 ///
 /// Errors: want of memory.
 fn by_falling_time(alloc: Global, times: &[u32]) -> Result<Vec<(Reverse<u32>, usize)>, AllocError>
-    ensures value { IfOk result (λ order. map (λ one. (one.1, one.0.0)) order.items ≡ by_time (enumerate_from 0 times.now)) }
+    ensures value { IfOk result (λ order. map (λ one. (one.1, one.0.0)) order.items
+        ≡ by_time (enumerate_from 0 times.now)) }
     ensures range { IfOk result (λ order. All (λ one. one.1 < length times.now) order.items) }
 {
     let mut order = Vec::with_capacity(alloc, times.len())?;
@@ -56,7 +57,8 @@ fn send_each(order: &[(Reverse<u32>, usize)], sums: &mut Vec<u128>, workers: &mu
     requires none { sums.old.items ≡ replicate (length sums.old.items) 0 }
     requires range { All (λ one. one.1 < length workers.old.items) order.now }
     requires known { All (λ worker. worker < length sums.old.items) workers.old.items }
-    ensures value { workers.new.items ≡ went_to sums.old.items (map (λ one. (one.1, one.0.0)) order.now) workers.old.items }
+    ensures value { workers.new.items ≡ went_to sums.old.items (map (λ one. (one.1, one.0.0)) order.now)
+        workers.old.items }
     ensures count { length workers.new.items ≡ length workers.old.items }
     ensures known { All (λ worker. worker < length sums.old.items) workers.new.items }
 {

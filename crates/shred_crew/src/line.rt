@@ -79,7 +79,8 @@ impl<C, T: Load<C>> Outcome<Packet<C, T>, Hand<C, T>> for Taken {
     ghost use Rattle.shred_crew.specs.declared.line.Errand.{Errand};
     ghost use Rattle.shred_crew.specs.declared.line.Hand.TheVariants.{Worker};
 
-    ghost then = { λ before packet after. (errand : Errand _ _) × (after ≡ Worker (Some errand)) × Serves T.does errand packet };
+    ghost then = { λ before packet after. (errand : Errand _ _) × (after ≡ Worker (Some errand))
+        × Serves T.does errand packet };
 }
 
 /// The worker answers.
@@ -107,7 +108,8 @@ impl<C, T: Load<C>> Outcome<Packet<C, T>, Hand<C, T>> for Settled {
     ghost use Rattle.shred_crew.specs.declared.line.Errand.{Errand};
     ghost use Rattle.shred_crew.specs.declared.line.Hand.TheVariants.{Caller};
 
-    ghost then = { λ before packet after. (after ≡ Caller None) × ((errand : Errand _ _) × (before ≡ Caller (Some errand)) × Serves T.does errand packet) };
+    ghost then = { λ before packet after. (after ≡ Caller None)
+        × ((errand : Errand _ _) × (before ≡ Caller (Some errand)) × Serves T.does errand packet) };
 }
 
 /// A line between the caller and a worker.

@@ -27,7 +27,9 @@ impl<T> Model for Room<T> {
 
     ghost view = { λ room. record { count = room.count; shares = lists room.shares.items } };
 
-    ghost invariant = { λ room. IsShared room.count (lists room.shares.items) × AreRoomy room.shares.items room.rows.items × (room.slots.items ≡ []) × (room.count ≤ vec_capacity room.slots) };
+    ghost invariant = { λ room. IsShared room.count (lists room.shares.items)
+        × AreRoomy room.shares.items room.rows.items × (room.slots.items ≡ [])
+        × (room.count ≤ vec_capacity room.slots) };
 }
 
 impl<T: Drop> Room<T> {

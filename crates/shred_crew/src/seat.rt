@@ -31,7 +31,8 @@ impl<C, T: Load<C>> Model for Seat<C, T> {
 
     ghost view = { λ seat. asked_by (hand_of seat.grip) };
 
-    ghost invariant = { λ seat. IsLine (arc_value seat.line) seat.grip × (hand_of seat.grip ≡ Caller (asked_by (hand_of seat.grip))) };
+    ghost invariant = { λ seat. IsLine (arc_value seat.line) seat.grip
+        × (hand_of seat.grip ≡ Caller (asked_by (hand_of seat.grip))) };
 }
 
 impl<C: Drop, T: Load<C> + Drop> Seat<C, T> {

@@ -6,7 +6,7 @@ pub use Rattle.shred_stages.proofs.LendLemmas.{left-other}
 pub use Rattle.shred_stages.proofs.LiftLemmas.{TurnOf, lent-owned, lent-read, list-turns, plan-turn, stages-turns, step-lifted, turn-of, turns-in-any-order, turns-in-order}
 pub use Rattle.shred_stages.proofs.NeighbourLemmas.{same-again, same-itself, same-turned}
 pub use Rattle.shred_stages.proofs.PlanLemmas.{contains-in, in-contains}
-pub use Rattle.shred_stages.proofs.SetupLemmas.{set-up-first, set-up-none, set-up-one, set-up-both, set-up-stops}
+pub use Rattle.shred_stages.proofs.SetupLemmas.{set-up-one, set-up-both, set-up-stops}
 pub use Rattle.shred_stages.proofs.TurnLemmas.{neighbours-commute, turns-commute}
 pub use Rattle.shred_stages.proofs.ViewLemmas.{turn-seat, turn-slots, turn-step}
 use Rattle.std.proofs.Common.{◌≡◌, Bool, true, false, refl, ap, sym, ◌∙◌, subst, Some}

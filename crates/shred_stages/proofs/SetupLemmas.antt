@@ -17,19 +17,6 @@ module _ {V S : Type 0} (sets_up : S → Bool → Slots V → S → Slots V → 
   set-up-one system true w left w2 s = (true, left, [], w2, s, refl, (refl, refl, refl))
   set-up-one system false w left w2 s = (false, left, [], w2, s, refl, (refl, refl, refl))
 
-  -- the first, and then the others
-  pub set-up-first : (systems : List S) (system left : S) (others others2 : List S) (accepted : Bool) (w between w2 : Slots V) → systems ≡ system ∷ others → sets_up system true w left between
-      → SetsUpEach sets_up others accepted between others2 w2 → SetsUpEach sets_up systems accepted w (left ∷ others2) w2
-  set-up-first systems system left others others2 accepted w between w2 is one rest =
-      let P : List S → Type 0 = λ list. SetsUpEach sets_up list accepted w (left ∷ others2) w2 in
-      subst P (sym is) (true, left, others2, between, one, refl, rest)
-
-  pub set-up-none : (systems : List S) (system left : S) (others : List S) (w w2 : Slots V) → systems ≡ system ∷ others → sets_up system false w left w2
-      → SetsUpEach sets_up systems false w (left ∷ others) w2
-  set-up-none systems system left others w w2 is one =
-      let P : List S → Type 0 = λ list. SetsUpEach sets_up list false w (left ∷ others) w2 in
-      subst P (sym is) (false, left, others, w2, one, refl, (refl, refl, refl))
-
   -- all of some, and then others
   pub set-up-both : (systems lefts others others2 : List S) (accepted : Bool) (w between w2 : Slots V) → SetsUpEach sets_up systems true w lefts between → SetsUpEach sets_up others accepted between others2 w2
       → SetsUpEach sets_up (systems ++ others) accepted w (lefts ++ others2) w2

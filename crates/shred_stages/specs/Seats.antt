@@ -12,9 +12,13 @@ use Rattle.shred_stages.specs.declared.run.Refusal.{Refusal}
 use Rattle.shred_stages.specs.Moves.{IsSeat}
 use Rattle.shred_stages.specs.Runs.{State}
 
+-- the systems by number
+abbrev pub systems_of : {V S : Type 0} → List (Staged V S) → List S
+systems_of staged = map (λ one. one.system) staged
+
 -- the systems by number, and what is held
 abbrev pub state_of : {V S : Type 0} → List (Staged V S) → Holding V → State V S
-state_of staged w = record { systems = map (λ one. one.system) staged; held = w }
+state_of staged w = record { systems = systems_of staged; held = w }
 
 -- which system refused, and why
 abbrev pub refusal_of : {A : Type 0} → Result A Refusal → Option (ℕ × Stop)

@@ -4,6 +4,7 @@ use Rattle.std.specs.FinMap as map
 use Rattle.shred_world.specs.declared.resource_id.ResourceId.{ResourceId}
 use Rattle.shred_world.specs.Worlds.{Slots, value_at}
 use Rattle.shred_world.specs.Bundles.{Slot, absent, out, shared, owned, Holding, readable, takable, is_listed}
+pub use Rattle.shred_world.specs.Leaving.{IsLeft, Leaves}
 
 -- a value that can be read is lent for reading, where its id is declared
 abbrev pub shared_of : {V : Type 0} → Option V → Slot V
@@ -29,17 +30,6 @@ view_slots reads writes w seat id = if is_listed writes id then owned_of (value_
 -- a seat has a slot for each id that is written, and no other
 abbrev pub FitsSeat : {V : Type 0} → List ResourceId → Slots V → Type 0
 FitsSeat writes seat = (id : ResourceId) → is_some (map.get seat id) ≡ is_listed writes id
-
--- a slot that is left as it was, save for the value that may be taken out
-abbrev pub IsLeft : {V : Type 0} → (before after : Slot V) → Type 0
-IsLeft absent after = after ≡ absent
-IsLeft out after = after ≡ out
-IsLeft (shared v) after = after ≡ shared v
-IsLeft {V} (owned v) after = (left : V) × (after ≡ owned left)
-
--- the same ids have values, and those that were lent for reading are the same
-abbrev pub Leaves : {V : Type 0} → (before after : Holding V) → Type 0
-Leaves before after = (id : ResourceId) → IsLeft (before id) (after id)
 
 -- what is held at an id, once what was taken out comes back
 abbrev pub merged : {V : Type 0} → (after before : Slot V) → Slot V

@@ -51,7 +51,8 @@ fn list_stage(
     access: Access,
     stage: &[Group<ResourceId>],
 ) -> Result<(), AllocError>
-    ensures { OnOk result (list.new.items ≡ list.old.items ++ flat_map (λ group. flat_map (declared_ids access) group) stage.now) }
+    ensures { OnOk result (list.new.items
+        ≡ list.old.items ++ flat_map (λ group. flat_map (declared_ids access) group) stage.now) }
 {
     for group in stage {
         list_group(list, access, group.systems())?;

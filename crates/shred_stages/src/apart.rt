@@ -58,8 +58,10 @@ fn tour_manned<
     ensures stages { result.0.stages ≡ tour.stages }
     ensures seats { SeatsKept tour.staged result.0.staged }
     ensures count { length result.0.staged ≡ length tour.staged }
-    ensures ran { IfNone result.1 (StagesRun S.meets tour.stages (state_of tour.staged (holding_of tour.world)) result.0.refused (state_of result.0.staged (holding_of result.0.world))) }
-    ensures still { IfSome result.1 (λ _. state_of result.0.staged (holding_of result.0.world) ≡ state_of tour.staged (holding_of tour.world)) }
+    ensures ran { IfNone result.1 (StagesRun S.meets tour.stages (state_of tour.staged (holding_of tour.world))
+        result.0.refused (state_of result.0.staged (holding_of result.0.world))) }
+    ensures still { IfSome result.1 (λ _. state_of result.0.staged (holding_of result.0.world)
+        ≡ state_of tour.staged (holding_of tour.world)) }
 {
     match with_crew(rt, workers, tour) {
         Ok(after) => (after, None),
@@ -78,7 +80,8 @@ fn embark<V: Drop, S: Drop>(
 ) -> Result<Tour<V, S>, AllocError>
     requires free { All AreFree berths.old.items }
     requires seated { StagesAreSeated berths.old.items staged.old.items }
-    ensures ok { IfOk result (λ tour. tour ≡ record { stages = berths.old.items; staged = staged.old.items; world = world.old; refused = None }) }
+    ensures ok { IfOk result (λ tour. tour
+        ≡ record { stages = berths.old.items; staged = staged.old.items; world = world.old; refused = None }) }
     ensures none { OnOk result (staged.new.items ≡ []) }
     ensures room { OnOk result (length staged.old.items ≤ vec_capacity staged.new) }
     ensures world { OnErr result (world.new ≡ world.old) }
@@ -136,7 +139,8 @@ pub(crate) fn run_apart<
     requires some { 0 < length berths.old.items }
     requires free { All AreFree berths.old.items }
     requires seated { StagesAreSeated berths.old.items staged.old.items }
-    ensures ends { EndsAs S.meets berths.old.items (state_of staged.old.items (holding_of world.old)) result (state_of staged.new.items (holding_of world.new)) }
+    ensures ends { EndsAs S.meets berths.old.items (state_of staged.old.items (holding_of world.old)) result
+        (state_of staged.new.items (holding_of world.new)) }
     ensures seats { SeatsKept staged.old.items staged.new.items }
     ensures count { length staged.new.items ≡ length staged.old.items }
     ensures berths { berths.new.items ≡ berths.old.items }

@@ -41,7 +41,10 @@ impl<V, S> Model for Berth<V, S> {
     ghost view = { λ berth. berth.kits.items };
 
     ghost invariant = { λ berth. (berth.packs.items ≡ []) × (length berth.kits.items ≤ vec_capacity berth.packs)
-        × (berth.room ≡ record { count = length berth.kits.items; shares = cut (map time_of berth.kits.items) berth.workers }) };
+        × (berth.room ≡ record {
+          count = length berth.kits.items;
+          shares = cut (map time_of berth.kits.items) berth.workers;
+        }) };
 }
 
 /// How long the groups of a stage are said to run.
@@ -130,7 +133,8 @@ pub(crate) fn run_berth<V: Drop, S: System<V> + Drop, R: AllocGlobal + Wait>(
     requires free { AreFree berth.old }
     requires there { AreIn slots.old.items }
     requires seated { StageIsSeated berth.old (systems_in slots.old.items) }
-    ensures runs { StageRuns S.meets berth.old (state_of (systems_in slots.old.items) (holding_of world)) (refusal_of result.0) (state_of (systems_in slots.new.items) (holding_of result.1)) }
+    ensures runs { StageRuns S.meets berth.old (state_of (systems_in slots.old.items) (holding_of world))
+        (refusal_of result.0) (state_of (systems_in slots.new.items) (holding_of result.1)) }
     ensures there { AreIn slots.new.items }
     ensures seats { SeatsKept (systems_in slots.old.items) (systems_in slots.new.items) }
     ensures count { length (systems_in slots.new.items) ≡ length (systems_in slots.old.items) }

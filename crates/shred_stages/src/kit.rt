@@ -30,7 +30,8 @@ impl<V, S> Model for Kit<V, S> {
 
     ghost view = { λ kit. kit.group.items };
 
-    ghost invariant = { λ kit. (kit.reads.items ≡ group_reads kit.group.items) × (kit.writes.items ≡ group_writes kit.group.items) × IsSeat kit.writes.items kit.seat
+    ghost invariant = { λ kit. (kit.reads.items ≡ group_reads kit.group.items)
+        × (kit.writes.items ≡ group_writes kit.group.items) × IsSeat kit.writes.items kit.seat
         × (kit.staged.items ≡ []) × (length kit.group.items ≤ vec_capacity kit.staged) };
 }
 

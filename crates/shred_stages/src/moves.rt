@@ -25,8 +25,10 @@ pub(crate) fn move_values<V, A: Holder<V>, B: Holder<V>>(
 /// Moves the value of an id, where it may be taken, into the empty slot of another holder.
 fn move_value<V, A: Holder<V>, B: Holder<V>>(from: &mut A, to: &mut B, id: ResourceId)
     requires slot { IsSome (takable (A.slots from.old id)) → B.slots to.old id ≡ out }
-    ensures from { MatchOption (takable (A.slots from.old id)) (A.slots from.new ≡ A.slots from.old) (λ _. A.slots from.new ≡ with_slot (A.slots from.old) id out) }
-    ensures to { MatchOption (takable (A.slots from.old id)) (B.slots to.new ≡ B.slots to.old) (λ v. B.slots to.new ≡ with_slot (B.slots to.old) id (owned v)) }
+    ensures from { MatchOption (takable (A.slots from.old id)) (A.slots from.new ≡ A.slots from.old)
+        (λ _. A.slots from.new ≡ with_slot (A.slots from.old) id out) }
+    ensures to { MatchOption (takable (A.slots from.old id)) (B.slots to.new ≡ B.slots to.old)
+        (λ v. B.slots to.new ≡ with_slot (B.slots to.old) id (owned v)) }
 {
     if let Some(value) = from.take(id) {
         to.put(id, value);

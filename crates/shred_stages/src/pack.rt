@@ -30,7 +30,16 @@ impl<V, S> Model for Pack<V, S> {
 
     ghost coded = { Prim.hlevel (codes, map.code {R = id_cmp} coded_id (coded_option V.code)) };
 
-    ghost view = { λ pack. record { group = pack.group.items; reads = pack.reads.items; writes = pack.writes.items; seat = pack.seat; systems = each (λ one. one.system) pack.staged.items; refused = refusal_of pack.outcome } };
+    ghost view = { λ pack. record {
+      group = pack.group.items;
+      reads = pack.reads.items;
+      writes = pack.writes.items;
+      seat = pack.seat;
+      systems = each (λ one. one.system) pack.staged.items;
+      refused = refusal_of pack.outcome;
+    } };
 
-    ghost invariant = { λ pack. (pack.reads.items ≡ group_reads pack.group.items) × (pack.writes.items ≡ group_writes pack.group.items) × FitsSeat pack.writes.items pack.seat × ArePlaced pack.group.items pack.staged.items };
+    ghost invariant = { λ pack. (pack.reads.items ≡ group_reads pack.group.items)
+        × (pack.writes.items ≡ group_writes pack.group.items) × FitsSeat pack.writes.items pack.seat
+        × ArePlaced pack.group.items pack.staged.items };
 }

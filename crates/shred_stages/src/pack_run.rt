@@ -4,7 +4,7 @@ ghost use Rattle.std.specs.Option.{option_map};
 ghost use Rattle.shred_world.specs.Bundles.{holding_of};
 ghost use Rattle.shred_stages.specs.Views.{view_slots, FitsSeat, error_of};
 ghost use Rattle.shred_stages.specs.Apart.{group_reads, group_writes};
-ghost use Rattle.shred_stages.specs.Seats.{refusal_of};
+ghost use Rattle.shred_stages.specs.Seats.{refusal_of, systems_of};
 ghost use Rattle.shred_stages.specs.Packs.{ArePlaced, PlacesInView, PackRuns};
 
 use crate::pack::Pack;
@@ -43,7 +43,9 @@ fn run_single<V: Drop, S: System<V>, H: AllocGlobal>(
     requires seated { FitsSeat writes.now seat }
     requires reads { reads.now ≡ adding.now.reads }
     requires writes { writes.now ≡ adding.now.writes }
-    ensures runs { PlacesInView S.meets (adding.now ∷ []) (one.old.system ∷ []) (view_slots reads.now writes.now (holding_of world.now) seat) (refusal_of result.0) (one.new.system ∷ []) result.1 }
+    ensures runs { PlacesInView S.meets (adding.now ∷ []) (one.old.system ∷ [])
+        (view_slots reads.now writes.now (holding_of world.now) seat) (refusal_of result.0) (one.new.system ∷ [])
+        result.1 }
     ensures kept { one.new.seat ≡ one.old.seat }
     ensures fits { FitsSeat writes.now result.1 }
 {
@@ -65,7 +67,9 @@ fn run_list<V: Drop, S: System<V>, H: AllocGlobal>(
     requires writes { writes.now ≡ group_writes group.now }
     requires seated { FitsSeat writes.now seat }
     requires placed { ArePlaced group.now staged.old.items }
-    ensures runs { PlacesInView S.meets group.now (map (λ one. one.system) staged.old.items) (view_slots reads.now writes.now (holding_of world.now) seat) (refusal_of result.0) (map (λ one. one.system) staged.new.items) result.1 }
+    ensures runs { PlacesInView S.meets group.now (systems_of staged.old.items)
+        (view_slots reads.now writes.now (holding_of world.now) seat) (refusal_of result.0)
+        (systems_of staged.new.items) result.1 }
     ensures placed { ArePlaced group.now staged.new.items }
     ensures fits { FitsSeat writes.now result.1 }
 {

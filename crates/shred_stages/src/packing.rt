@@ -58,7 +58,8 @@ pub(crate) fn lend_all<V: Drop, S: System<V> + Drop>(
     requires free { AreFree kits.old.items }
     requires there { AreIn slots.old.items }
     requires seated { StageIsSeated kits.old.items (systems_in slots.old.items) }
-    ensures loaded { AreLoaded (systems_in slots.old.items) kits.old.items packs.new.items slots.new.items (holding_of world.old) (holding_of world.new) }
+    ensures loaded { AreLoaded (systems_in slots.old.items) kits.old.items packs.new.items slots.new.items
+        (holding_of world.old) (holding_of world.new) }
     ensures kits { kits.new.items ≡ [] }
     ensures kits_room { vec_capacity kits.new ≡ vec_capacity kits.old }
     ensures packs_room { vec_capacity packs.new ≡ vec_capacity packs.old }

@@ -1,7 +1,7 @@
 //! Runs of a group's systems by their places in it.
 ghost use Rattle.std.specs.Prelude.{◌≡◌, map};
 ghost use Rattle.shred_stages.specs.Apart.{PlacesRun};
-ghost use Rattle.shred_stages.specs.Seats.{refusal_of};
+ghost use Rattle.shred_stages.specs.Seats.{refusal_of, systems_of};
 ghost use Rattle.shred_stages.specs.Packs.{ArePlaced};
 
 use crate::run::Refusal;
@@ -18,7 +18,8 @@ pub(crate) fn run_places<V: Drop, S: System<V>, H: AllocGlobal, W: Holder<V>>(
     group: &[Adding<ResourceId>],
 ) -> Result<(), Refusal>
     requires placed { ArePlaced group.now staged.old }
-    ensures runs { PlacesRun S.meets group.now (map (λ one. one.system) staged.old) (W.slots view.old) (refusal_of result) (map (λ one. one.system) staged.new) (W.slots view.new) }
+    ensures runs { PlacesRun S.meets group.now (systems_of staged.old) (W.slots view.old) (refusal_of result)
+        (systems_of staged.new) (W.slots view.new) }
     ensures placed { ArePlaced group.now staged.new }
 {
     let Some((adding, later)) = group.split_first() else {

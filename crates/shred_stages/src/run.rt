@@ -26,7 +26,8 @@ fn run_turn<V: Drop, S: System<V>, H: AllocGlobal, W: Holder<V>>(
     adding: &Adding<ResourceId>,
 ) -> Result<(), Refusal>
     requires seated { IsSeated staged.old adding.now }
-    ensures runs { Turn S.meets adding.now (state_of staged.old (W.slots world.old)) (stop_of result) (state_of staged.new (W.slots world.new)) }
+    ensures runs { Turn S.meets adding.now (state_of staged.old (W.slots world.old)) (stop_of result)
+        (state_of staged.new (W.slots world.new)) }
     ensures number { IfErr result (λ refusal. refusal.system.0 ≡ adding.now.number) }
     ensures seats { SeatsKept staged.old staged.new }
 {
@@ -51,7 +52,8 @@ pub(crate) fn run_group<V: Drop, S: System<V>, H: AllocGlobal, W: Holder<V>>(
     group: &[Adding<ResourceId>],
 ) -> Result<(), Refusal>
     requires seated { AreSeated group.now staged.old }
-    ensures runs { GroupRuns S.meets group.now (state_of staged.old (W.slots world.old)) (refusal_of result) (state_of staged.new (W.slots world.new)) }
+    ensures runs { GroupRuns S.meets group.now (state_of staged.old (W.slots world.old)) (refusal_of result)
+        (state_of staged.new (W.slots world.new)) }
     ensures seats { SeatsKept staged.old staged.new }
 {
     for adding in group {
@@ -81,7 +83,8 @@ pub(crate) fn run_stage<V: Drop, S: System<V>, H: AllocGlobal, W: Holder<V>>(
     stage: &[Group<ResourceId>],
 ) -> Result<(), Refusal>
     requires seated { StageIsSeated stage.now staged.old }
-    ensures runs { StageRuns S.meets stage.now (state_of staged.old (W.slots world.old)) (refusal_of result) (state_of staged.new (W.slots world.new)) }
+    ensures runs { StageRuns S.meets stage.now (state_of staged.old (W.slots world.old)) (refusal_of result)
+        (state_of staged.new (W.slots world.new)) }
     ensures seats { SeatsKept staged.old staged.new }
 {
     let mut outcome = Ok(());
@@ -99,7 +102,8 @@ pub(crate) fn run_stages<V: Drop, S: System<V>, H: AllocGlobal, W: Holder<V>>(
     stages: &[Stage<ResourceId>],
 ) -> Result<(), Refusal>
     requires seated { StagesAreSeated stages.now staged.old }
-    ensures runs { StagesRun S.meets stages.now (state_of staged.old (W.slots world.old)) (refusal_of result) (state_of staged.new (W.slots world.new)) }
+    ensures runs { StagesRun S.meets stages.now (state_of staged.old (W.slots world.old)) (refusal_of result)
+        (state_of staged.new (W.slots world.new)) }
     ensures seats { SeatsKept staged.old staged.new }
 {
     for stage in stages {

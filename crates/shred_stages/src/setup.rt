@@ -3,7 +3,7 @@ ghost use Rattle.std.specs.Prelude.{◌≡◌, ◌≤◌, length, map, is_ok};
 ghost use Rattle.std.specs.Option.{option_map};
 ghost use Rattle.shred_stages.specs.Views.{error_of};
 ghost use Rattle.shred_stages.specs.Setups.{SetsUpEach, DisposesEach};
-ghost use Rattle.shred_stages.specs.Seats.{refusal_of, stop_of, SeatsKept};
+ghost use Rattle.shred_stages.specs.Seats.{refusal_of, stop_of, SeatsKept, systems_of};
 
 use crate::run::{Refusal, first_of};
 use crate::turn::Staged;
@@ -16,7 +16,8 @@ pub(crate) fn set_up_each<V, S: System<V>>(
     staged: &mut [Staged<V, S>],
     world: &mut World<V>,
 ) -> Result<(), AllocError>
-    ensures sets_up { SetsUpEach S.sets_up (map (λ one. one.system) staged.old) (is_ok result) world.old (map (λ one. one.system) staged.new) world.new }
+    ensures sets_up { SetsUpEach S.sets_up (systems_of staged.old) (is_ok result) world.old
+        (systems_of staged.new) world.new }
     ensures seats { map (λ one. one.seat) staged.new ≡ map (λ one. one.seat) staged.old }
 {
     match staged {
@@ -38,7 +39,8 @@ pub(crate) fn set_up_staged<V, S: System<V>>(
     staged: &mut [Staged<V, S>],
     world: &mut World<V>,
 ) -> Result<(), AllocError>
-    ensures sets_up { SetsUpEach S.sets_up (map (λ one. one.system) staged.old) (is_ok result) world.old (map (λ one. one.system) staged.new) world.new }
+    ensures sets_up { SetsUpEach S.sets_up (systems_of staged.old) (is_ok result) world.old
+        (systems_of staged.new) world.new }
     ensures seats { SeatsKept staged.old staged.new }
 {
     set_up_each(staged, world)
@@ -64,7 +66,7 @@ pub(crate) fn dispose_staged<V: Drop, S: System<V> + Drop>(
     world: &mut World<V>,
 ) -> Result<(), Refusal>
     requires few { length staged.items ≤ 65536 }
-    ensures { DisposesEach S.disposes 0 (map (λ one. one.system) staged.items) (refusal_of result) world.old world.new }
+    ensures { DisposesEach S.disposes 0 (systems_of staged.items) (refusal_of result) world.old world.new }
 {
     let mut outcome = Ok(());
     let mut number = 0;

@@ -79,16 +79,16 @@ pub struct StagesBuilder<V, S> {
 }
 
 impl<V, S> Model for StagesBuilder<V, S> {
-    ghost use Rattle.std.specs.Prelude.{map};
-    ghost use Rattle.shred_stages.specs.Seats.{IsStaged};
+    ghost use Rattle.shred_stages.specs.Seats.{IsStaged, systems_of};
     ghost use Rattle.shred_stages.specs.Staging.{Staging};
     ghost use Rattle.shred_stages.specs.Touring.{IsKept};
 
     ghost Value = { Staging S };
 
-    ghost view = { λ builder. record { planning = builder.planner; systems = map (λ one. one.system) builder.staged.items } };
+    ghost view = { λ builder. record { planning = builder.planner; systems = systems_of builder.staged.items } };
 
-    ghost invariant = { λ builder. IsStaged ⟦<ResourceId as PartialEq>⟧.eq builder.planner builder.staged.items × IsKept builder.planner.stages builder.berths.items };
+    ghost invariant = { λ builder. IsStaged ⟦<ResourceId as PartialEq>⟧.eq builder.planner builder.staged.items
+        × IsKept builder.planner.stages builder.berths.items };
 }
 
 impl<V: Drop, S: System<V> + Drop> StagesBuilder<V, S> {
@@ -112,7 +112,13 @@ impl<V: Drop, S: System<V> + Drop> StagesBuilder<V, S> {
         requires room { length self.old.systems < 65536 }
         ensures number { IfOk result (λ id. id.0 ≡ length self.old.systems) }
         ensures ok { OnOk result (self.new ≡ record {
-          planning = added ⟦<ResourceId as PartialEq>⟧.eq self.old.planning (placing (record { number = length self.old.systems; reads = S.read_list system; writes = S.write_list system; after = after.items; time = S.said_time system }));
+          planning = added ⟦<ResourceId as PartialEq>⟧.eq self.old.planning (placing (record {
+            number = length self.old.systems;
+            reads = S.read_list system;
+            writes = S.write_list system;
+            after = after.items;
+            time = S.said_time system;
+          }));
           systems = self.old.systems ++ system ∷ [];
         }) }
         ensures err { OnErr result (self.new ≡ self.old) }
@@ -150,7 +156,10 @@ impl<V: Drop, S: System<V> + Drop> StagesBuilder<V, S> {
 
     /// What is added from now on runs in later stages than what was added so far.
     pub fn add_barrier(&mut self)
-        ensures { self.new ≡ record { planning = added ⟦<ResourceId as PartialEq>⟧.eq self.old.planning fence; systems = self.old.systems } }
+        ensures { self.new ≡ record {
+          planning = added ⟦<ResourceId as PartialEq>⟧.eq self.old.planning fence;
+          systems = self.old.systems;
+        } }
     {
         self.planner.add_barrier();
     }
@@ -242,8 +251,10 @@ impl<V: Drop, S: System<V> + Drop> StagesBuilder<V, S> {
         S: Send,
         ensures plan { self.new.planning ≡ self.old.planning }
         ensures runs { RunsApart S.meets self.old (holding_of world.old) result self.new (holding_of world.new) }
-        ensures alone { workers < 2 → Runs S.meets self.old (holding_of world.old) result self.new (holding_of world.new) }
-        ensures any_order { RunsInAnyOrder S.meets self.old (holding_of world.old) result self.new (holding_of world.new) }
+        ensures alone { workers < 2 → Runs S.meets self.old (holding_of world.old) result self.new
+            (holding_of world.new) }
+        ensures any_order { RunsInAnyOrder S.meets self.old (holding_of world.old) result self.new
+            (holding_of world.new) }
 
         // The same ids have values as before.
         ensures leaves { Leaves (holding_of world.old) (holding_of world.new) }
@@ -274,7 +285,8 @@ impl<V: Drop, S: System<V> + Drop> StagesBuilder<V, S> {
         world: &mut W,
     ) -> Result<(), Refusal>
         ensures plan { self.new.planning ≡ self.old.planning }
-        ensures runs { StagesRun S.meets self.old.planning.stages (record { systems = self.old.systems; held = W.slots world.old }) (refusal_of result)
+        ensures runs { StagesRun S.meets self.old.planning.stages
+            (record { systems = self.old.systems; held = W.slots world.old }) (refusal_of result)
             (record { systems = self.new.systems; held = W.slots world.new }) }
         ensures any_order { RunsInAnyOrder S.meets self.old (W.slots world.old) result self.new (W.slots world.new) }
         ensures leaves { Leaves (W.slots world.old) (W.slots world.new) }

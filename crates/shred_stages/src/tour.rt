@@ -29,7 +29,8 @@ fn run_berths<V: Drop, S: System<V> + Drop, R: AllocGlobal + Wait>(
     requires free { All AreFree berths.old }
     requires there { AreIn slots.old.items }
     requires seated { StagesAreSeated berths.old (systems_in slots.old.items) }
-    ensures runs { StagesRun S.meets berths.old (state_of (systems_in slots.old.items) (holding_of world)) (refusal_of result.0) (state_of (systems_in slots.new.items) (holding_of result.1)) }
+    ensures runs { StagesRun S.meets berths.old (state_of (systems_in slots.old.items) (holding_of world))
+        (refusal_of result.0) (state_of (systems_in slots.new.items) (holding_of result.1)) }
     ensures there { AreIn slots.new.items }
     ensures seats { SeatsKept (systems_in slots.old.items) (systems_in slots.new.items) }
     ensures count { length (systems_in slots.new.items) ≡ length (systems_in slots.old.items) }
@@ -57,7 +58,8 @@ fn run_berth_list<V: Drop, S: System<V> + Drop, R: AllocGlobal + Wait>(
     requires free { All AreFree berths.old.items }
     requires there { AreIn slots.old.items }
     requires seated { StagesAreSeated berths.old.items (systems_in slots.old.items) }
-    ensures runs { StagesRun S.meets berths.old.items (state_of (systems_in slots.old.items) (holding_of world)) (refusal_of result.0) (state_of (systems_in slots.new.items) (holding_of result.1)) }
+    ensures runs { StagesRun S.meets berths.old.items (state_of (systems_in slots.old.items) (holding_of world))
+        (refusal_of result.0) (state_of (systems_in slots.new.items) (holding_of result.1)) }
     ensures there { AreIn slots.new.items }
     ensures seats { SeatsKept (systems_in slots.old.items) (systems_in slots.new.items) }
     ensures count { length (systems_in slots.new.items) ≡ length (systems_in slots.old.items) }
@@ -89,9 +91,15 @@ impl<V, S> Model for Tour<V, S> {
 
     ghost coded = { Prim.hlevel (codes, map.code {R = id_cmp} coded_id (coded_option V.code)) };
 
-    ghost view = { λ tour. record { stages = tour.berths.items; staged = systems_in tour.slots.items; world = tour.world; refused = refusal_of tour.outcome } };
+    ghost view = { λ tour. record {
+      stages = tour.berths.items;
+      staged = systems_in tour.slots.items;
+      world = tour.world;
+      refused = refusal_of tour.outcome;
+    } };
 
-    ghost invariant = { λ tour. All AreFree tour.berths.items × AreIn tour.slots.items × StagesAreSeated tour.berths.items (systems_in tour.slots.items) };
+    ghost invariant = { λ tour. All AreFree tour.berths.items × AreIn tour.slots.items
+        × StagesAreSeated tour.berths.items (systems_in tour.slots.items) };
 }
 
 impl<V: Drop, S: System<V> + Drop> Shift<World<V>, Pack<V, S>> for Tour<V, S> {

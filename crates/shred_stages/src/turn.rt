@@ -52,7 +52,8 @@ pub(crate) fn run_system<V: Drop, S: System<V>, H: AllocGlobal, W: Holder<V>>(
     writes: &[ResourceId],
 ) -> Result<(), Stop>
     requires seat { IsSeat writes.now staged.old.seat }
-    ensures step { Step S.meets reads.now writes.now staged.old.system (W.slots world.old) (error_of result) staged.new.system (W.slots world.new) }
+    ensures step { Step S.meets reads.now writes.now staged.old.system (W.slots world.old) (error_of result)
+        staged.new.system (W.slots world.new) }
     ensures seat { (id : Id) → map.get staged.new.seat id ≡ map.get staged.old.seat id }
 {
     let seat = mem::replace(&mut staged.seat, World::empty(rt.alloc()));

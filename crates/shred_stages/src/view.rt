@@ -3,7 +3,7 @@ ghost use Rattle.std.specs.Prelude.{◌≡◌, IfSome, IfNone, option_copied, ma
 ghost use Rattle.shred_world.specs.Bundles.{Holding, is_listed};
 ghost use Rattle.shred_stages.specs.Views.{view_slots, FitsSeat, error_of};
 ghost use Rattle.shred_stages.specs.Runs.{RunsInView};
-ghost use Rattle.shred_stages.specs.Seats.{refusal_of};
+ghost use Rattle.shred_stages.specs.Seats.{refusal_of, systems_of};
 ghost use Rattle.shred_stages.specs.Packs.{ArePlaced, PlacesInView};
 
 use crate::places::run_places;
@@ -56,7 +56,8 @@ pub(crate) fn run_in_view<V, S: System<V>, H: AllocGlobal, W: Holder<V>>(
     seat: World<V>,
 ) -> (Result<(), Stop>, World<V>)
     requires seated { FitsSeat writes.now seat }
-    ensures { RunsInView S.meets system.old (view_slots reads.now writes.now (W.slots world.now) seat) (error_of result.0) system.new result.1 }
+    ensures { RunsInView S.meets system.old (view_slots reads.now writes.now (W.slots world.now) seat)
+        (error_of result.0) system.new result.1 }
 {
     let mut view = View {
         world,
@@ -86,7 +87,9 @@ pub(crate) fn run_group_in_view<V: Drop, S: System<V>, H: AllocGlobal, W: Holder
 ) -> (Result<(), Refusal>, World<V>)
     requires seated { FitsSeat writes.now seat }
     requires placed { ArePlaced group.now staged.old }
-    ensures runs { PlacesInView S.meets group.now (map (λ one. one.system) staged.old) (view_slots reads.now writes.now (W.slots world.now) seat) (refusal_of result.0) (map (λ one. one.system) staged.new) result.1 }
+    ensures runs { PlacesInView S.meets group.now (systems_of staged.old)
+        (view_slots reads.now writes.now (W.slots world.now) seat) (refusal_of result.0) (systems_of staged.new)
+        result.1 }
     ensures placed { ArePlaced group.now staged.new }
     ensures fits { FitsSeat writes.now result.1 }
 {

@@ -1,6 +1,7 @@
 //! Bundles of each form and length: what they tell, what they lack, and that what they write stays.
+use crate::bundled::run_advance;
 use crate::values::{Kinds, Number, Score, Speed, Value, kinds_in, number_under, put_kinds};
-use shred_stages::BatchAccessor;
+use shred_stages::{BatchAccessor, Stop};
 use shred_world::{
     Accessor, DynamicSystemData, Missing, Read, ReadAccessor, ReadExpect, ResourceId, SystemData,
     World, Write, WriteAccessor, WriteExpect,
@@ -228,7 +229,7 @@ fn optional(world: &mut World<Value>) -> Option<(bool, bool)> {
     match world.system_data::<(Option<Read<Number>>, Option<Write<Score>>)>() {
         Ok(bundle) => {
             let told = (bundle.0.is_some(), bundle.1.is_some());
-            bundle.give_back(world);
+            SystemData::give_back(bundle, world);
             Some(told)
         }
         Err(_) => None,
@@ -311,6 +312,91 @@ fn count_under(world: &mut World<Value>, access: ReadAccessor) -> Result<u64, Mi
     let count = read.get_under(world, &access).0;
     <Read<Number> as DynamicSystemData<Value>>::give_back(read, &access, world);
     Ok(count)
+}
+
+/// The bundles under dynamic numbers, one of each length: the access of all but the last part, and that of the last.
+type Under = ((((), ReadAccessor), WriteAccessor), ReadAccessor);
+
+type UnderFour = (
+    (),
+    Option<Read<Number>>,
+    Option<Write<Number>>,
+    Read<Number>,
+);
+
+type UnderEight = (
+    Write<Number>,
+    (),
+    PhantomData<u8>,
+    (Read<Number>,),
+    (),
+    Option<Read<Number>>,
+    (),
+    Option<Write<Number>>,
+);
+
+/// The number under a dynamic number, for reading and for writing.
+fn reading(dynamic: u64) -> ReadAccessor {
+    ReadAccessor {
+        id: number_under(dynamic),
+    }
+}
+
+fn writing(dynamic: u64) -> WriteAccessor {
+    WriteAccessor {
+        id: number_under(dynamic),
+    }
+}
+
+/// Whether tuples of bundles are fetched under the numbers that their accessors tell, and tell their ids.
+fn tuples_reach_their_numbers(alloc: Global) -> Result<[bool; 5], AllocError> {
+    let mut world = World::empty(alloc);
+    world.insert_by_id(number_under(2), Number(20))?;
+    world.insert_by_id(number_under(4), Number(40))?;
+    let four: Under = ((((), reading(9)), writing(2)), reading(4));
+    let missing: Under = ((((), reading(2)), writing(4)), reading(4));
+    let eight = (
+        (
+            (
+                ((((writing(4), ()), PhantomData::<u8>), (reading(2),)), ()),
+                reading(4),
+            ),
+            (),
+        ),
+        writing(2),
+    );
+    Ok([
+        is_fetched::<UnderFour>(&four, &mut world),
+        !is_fetched::<UnderFour>(&missing, &mut world),
+        is_fetched::<UnderEight>(&eight, &mut world),
+        accesses(alloc, &four, 11, 1),
+        kinds_in(&world) == (None, None, None)
+            && is_fetched::<(Read<Number>, Read<Number>)>(&(reading(2), reading(4)), &mut world),
+    ])
+}
+
+#[test]
+fn tuples_are_fetched_under_dynamic_numbers(rt: HostRuntime) {
+    assert_eq!(rt; tuples_reach_their_numbers(rt.alloc()), Ok([true; 5]));
+}
+
+/// How a system that is made of a bundle ends over a world with these kinds, and what it leaves.
+fn left_by_a_bundle<H: AllocGlobal>(
+    rt: &H,
+    kinds: Kinds,
+) -> Result<(Result<(), Stop>, Kinds), AllocError> {
+    let mut world = World::empty(rt.alloc());
+    put_kinds(&mut world, kinds)?;
+    let outcome = run_advance(rt, &mut world)?;
+    Ok((outcome, kinds_in(&world)))
+}
+
+#[test]
+fn a_system_is_made_of_a_bundle(rt: HostRuntime) {
+    let moved = left_by_a_bundle(&rt, (Some(5), Some(3), Some(1)));
+    assert_eq!(rt; moved, Ok((Ok(()), (Some(8), Some(3), Some(1)))));
+    let stopped = left_by_a_bundle(&rt, (Some(5), None, None));
+    assert_eq!(rt; stopped, Ok((Err(Stop::Full), (Some(5), None, None))));
 }
 
 /// Whether bundles under a dynamic number reach the number there, and no other.

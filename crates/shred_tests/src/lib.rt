@@ -5,6 +5,7 @@
 mod asyncs;
 #[cfg(test)]
 mod builders;
+pub mod bundled;
 #[cfg(test)]
 mod bundles;
 #[cfg(test)]

@@ -4,6 +4,7 @@ use Rattle.shred_world.specs.declared.resource_id.ResourceId.{ResourceId}
 use Rattle.shred_world.specs.Worlds.{Slots}
 use Rattle.shred_world.specs.Bundles.{Holding, holding_of}
 use Rattle.shred_stages.specs.Moves.{IsSeat, left_of, moved_to}
+use Rattle.shred_stages.specs.Views.{view_slots}
 use Rattle.shred_trees.specs.declared.room.Room.{Room}
 use Rattle.shred_trees.specs.declared.room.Rooms.{Rooms}
 
@@ -12,6 +13,10 @@ pub record IsRoom {V : Type 0} (reads writes : List ResourceId) (room : Room V) 
   pub same_reads : room.reads.items ≡ reads
   pub same_writes : room.writes.items ≡ writes
   pub seat : IsSeat writes room.seat
+
+-- what a half sees that runs in its room
+abbrev pub room_slots : {V : Type 0} → Holding V → Room V → Holding V
+room_slots w room = view_slots room.reads.items room.writes.items w room.seat
 
 -- the values under some ids went out of a world into a seat
 pub record Lends {V : Type 0} (writes : List ResourceId) (w w_after : Holding V) (seat seat_after : Slots V) : Type 0 where

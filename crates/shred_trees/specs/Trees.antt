@@ -14,6 +14,10 @@ pub record Halves (H T : Type 0) : Type 0 where
   pub head : H
   pub tail : T
 
+-- a head and a tail as one
+abbrev pub halves : {H T : Type 0} → H → T → Halves H T
+halves head tail = record { head = head; tail = tail }
+
 -- a tree, and how many workers run it
 pub record Pooled (T : Type 0) : Type 0 where
   pub tree : T
@@ -48,6 +52,10 @@ have_common ids others = list_any (is_listed others) ids
 -- whether what one of two writes is used by the other
 abbrev pub conflict : (reads writes other_reads other_writes : List ResourceId) → Bool
 conflict reads writes other_reads other_writes = have_common writes other_writes || (have_common writes other_reads || have_common reads other_writes)
+
+-- neither of two trees uses what the other writes
+abbrev pub AreApart : {H T : Type 0} → (reads writes : H → List ResourceId) → (other_reads other_writes : T → List ResourceId) → H → T → Type 0
+AreApart reads writes other_reads other_writes tree other = conflict (reads tree) (writes tree) (other_reads other) (other_writes other) ≡ false
 
 module _ {V H T : Type 0} (head_meets : H → Holding V → Option Stop → H → Holding V → Type 0) (tail_meets : T → Holding V → Option Stop → T → Holding V → Type 0) where
   -- the head, and then the tail, unless the head refuses

@@ -1,12 +1,12 @@
 //! Runs of the two halves of a `Par`.
-ghost use Rattle.std.specs.Prelude.{◌≡◌, false};
+ghost use Rattle.std.specs.Prelude.{◌≡◌};
 ghost use Rattle.std.specs.Option.{option_or};
 ghost use Rattle.shred_world.specs.Bundles.{holding_of};
 ghost use Rattle.shred_stages.specs.Views.{FitsSeat, view_slots, error_of};
 ghost use Rattle.shred_stages.specs.Moves.{IsSeat, HasSlots};
 ghost use Rattle.shred_stages.specs.Runs.{RunsInView};
-ghost use Rattle.shred_trees.specs.Trees.{CanBeTaken, ParRuns, conflict};
-ghost use Rattle.shred_trees.specs.Rooms.{IsRoom, Lends, Returns};
+ghost use Rattle.shred_trees.specs.Trees.{CanBeTaken, ParRuns, AreApart, halves};
+ghost use Rattle.shred_trees.specs.Rooms.{IsRoom, Lends, Returns, room_slots};
 
 use crate::RunWithPool;
 use crate::room::{Room, Rooms};
@@ -33,7 +33,8 @@ pub(crate) fn run_in_turn<
     R: AllocGlobal,
     W: Holder<V>,
 >(rt: &R, head: &mut H, tail: &mut T, world: &mut W) -> Result<(), Stop>
-    ensures meets { ParRuns H.meets T.meets (record { head = head.old; tail = tail.old }) (W.slots world.old) (error_of result) (record { head = head.new; tail = tail.new }) (W.slots world.new) }
+    ensures meets { ParRuns H.meets T.meets (halves head.old tail.old) (W.slots world.old)
+        (error_of result) (halves head.new tail.new) (W.slots world.new) }
     ensures head_reads { H.read_list head.new ≡ H.read_list head.old }
     ensures head_writes { H.write_list head.new ≡ H.write_list head.old }
     ensures tail_reads { T.read_list tail.new ≡ T.read_list tail.old }
@@ -58,7 +59,8 @@ fn lend<V, W: Holder<V>>(world: &mut W, room: &mut Room<V>)
 /// Moves them back.
 fn give_back<V, W: Holder<V>>(room: &mut Room<V>, world: &mut W)
     requires slots { HasSlots room.old.writes.items (holding_of room.old.seat) (W.slots world.old) }
-    ensures returns { Returns room.old.writes.items room.old.seat room.new.seat (W.slots world.old) (W.slots world.new) }
+    ensures returns { Returns room.old.writes.items room.old.seat room.new.seat (W.slots world.old)
+        (W.slots world.new) }
     ensures reads { room.new.reads ≡ room.old.reads }
     ensures writes { room.new.writes ≡ room.old.writes }
 {
@@ -75,7 +77,8 @@ fn run_over<V: Drop, T: RunWithPool<V>, R: AllocGlobal, W: Holder<V>>(
     seat: World<V>,
 ) -> (Result<(), Stop>, World<V>)
     requires seated { FitsSeat writes.now seat }
-    ensures runs { RunsInView T.meets tree.old (view_slots reads.now writes.now (W.slots world.now) seat) (error_of result.0) tree.new result.1 }
+    ensures runs { RunsInView T.meets tree.old (view_slots reads.now writes.now (W.slots world.now) seat)
+        (error_of result.0) tree.new result.1 }
     ensures reads { T.read_list tree.new ≡ T.read_list tree.old }
     ensures writes { T.write_list tree.new ≡ T.write_list tree.old }
 {
@@ -92,7 +95,8 @@ fn run_half<V: Drop, T: RunWithPool<V>, R: AllocGlobal, W: Holder<V>>(
     room: &mut Room<V>,
 ) -> Result<(), Stop>
     requires fits { FitsSeat room.old.writes.items room.old.seat }
-    ensures runs { RunsInView T.meets tree.old (view_slots room.old.reads.items room.old.writes.items (W.slots world.now) room.old.seat) (error_of result) tree.new room.new.seat }
+    ensures runs { RunsInView T.meets tree.old (room_slots (W.slots world.now) room.old)
+        (error_of result) tree.new room.new.seat }
     ensures room_reads { room.new.reads ≡ room.old.reads }
     ensures room_writes { room.new.writes ≡ room.old.writes }
     ensures reads { T.read_list tree.new ≡ T.read_list tree.old }
@@ -121,12 +125,14 @@ fn run_both<
 ) -> (Result<(), Stop>, Result<(), Stop>)
     requires head_fits { FitsSeat head_room.old.writes.items head_room.old.seat }
     requires tail_fits { FitsSeat tail_room.old.writes.items tail_room.old.seat }
-    ensures head_runs { RunsInView H.meets head.old (view_slots head_room.old.reads.items head_room.old.writes.items (W.slots world.now) head_room.old.seat) (error_of result.0) head.new head_room.new.seat }
+    ensures head_runs { RunsInView H.meets head.old (room_slots (W.slots world.now) head_room.old)
+        (error_of result.0) head.new head_room.new.seat }
     ensures head_room_reads { head_room.new.reads ≡ head_room.old.reads }
     ensures head_room_writes { head_room.new.writes ≡ head_room.old.writes }
     ensures head_reads { H.read_list head.new ≡ H.read_list head.old }
     ensures head_writes { H.write_list head.new ≡ H.write_list head.old }
-    ensures tail_runs { RunsInView T.meets tail.old (view_slots tail_room.old.reads.items tail_room.old.writes.items (W.slots world.now) tail_room.old.seat) (error_of result.1) tail.new tail_room.new.seat }
+    ensures tail_runs { RunsInView T.meets tail.old (room_slots (W.slots world.now) tail_room.old)
+        (error_of result.1) tail.new tail_room.new.seat }
     ensures tail_room_reads { tail_room.new.reads ≡ tail_room.old.reads }
     ensures tail_room_writes { tail_room.new.writes ≡ tail_room.old.writes }
     ensures tail_reads { T.read_list tail.new ≡ T.read_list tail.old }
@@ -152,12 +158,13 @@ pub(crate) fn run_apart<
     R: AllocGlobal + Threads + Sync,
     W: Holder<V> + Sync,
 >(rt: &R, head: &mut H, tail: &mut T, rooms: &mut Rooms<V>, world: &mut W) -> Result<(), Stop>
-    requires apart { conflict (H.read_list head.old) (H.write_list head.old) (T.read_list tail.old) (T.write_list tail.old) ≡ false }
+    requires apart { AreApart H.read_list H.write_list T.read_list T.write_list head.old tail.old }
     requires head_room { IsRoom (H.read_list head.old) (H.write_list head.old) rooms.old.head }
     requires tail_room { IsRoom (T.read_list tail.old) (T.write_list tail.old) rooms.old.tail }
     requires head_whole { CanBeTaken (H.write_list head.old) (W.slots world.old) }
     requires tail_whole { CanBeTaken (T.write_list tail.old) (W.slots world.old) }
-    ensures meets { ParRuns H.meets T.meets (record { head = head.old; tail = tail.old }) (W.slots world.old) (error_of result) (record { head = head.new; tail = tail.new }) (W.slots world.new) }
+    ensures meets { ParRuns H.meets T.meets (halves head.old tail.old) (W.slots world.old)
+        (error_of result) (halves head.new tail.new) (W.slots world.new) }
     ensures head_room { IsRoom (H.read_list head.old) (H.write_list head.old) rooms.new.head }
     ensures tail_room { IsRoom (T.read_list tail.old) (T.write_list tail.old) rooms.new.tail }
     ensures head_reads { H.read_list head.new ≡ H.read_list head.old }

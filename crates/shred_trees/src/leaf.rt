@@ -31,7 +31,8 @@ impl<V, S: System<V>> Model for Leaf<V, S> {
 
     ghost view = { λ leaf. leaf.system };
 
-    ghost invariant = { λ leaf. (leaf.reads.items ≡ S.read_list leaf.system) × (leaf.writes.items ≡ S.write_list leaf.system) × IsSeat leaf.writes.items leaf.seat };
+    ghost invariant = { λ leaf. (leaf.reads.items ≡ S.read_list leaf.system)
+        × (leaf.writes.items ≡ S.write_list leaf.system) × IsSeat leaf.writes.items leaf.seat };
 }
 
 impl<V: Drop, S: System<V>> Leaf<V, S> {
@@ -68,7 +69,8 @@ fn run_over<V, S: System<V>, H: AllocGlobal, W: Holder<V>>(
     seat: World<V>,
 ) -> (Result<(), Stop>, World<V>)
     requires seated { FitsSeat writes.now seat }
-    ensures runs { RunsInView S.meets system.old (view_slots reads.now writes.now (W.slots world.now) seat) (error_of result.0) system.new result.1 }
+    ensures runs { RunsInView S.meets system.old (view_slots reads.now writes.now (W.slots world.now) seat)
+        (error_of result.0) system.new result.1 }
     ensures reads { S.read_list system.new ≡ S.read_list system.old }
     ensures writes { S.write_list system.new ≡ S.write_list system.old }
 {
@@ -87,7 +89,8 @@ fn run_seated<V: Drop, S: System<V>, H: AllocGlobal, W: Holder<V>>(
     writes: &[ResourceId],
 ) -> Result<(), Stop>
     requires seat { IsSeat writes.now seat.old }
-    ensures step { Step S.meets reads.now writes.now system.old (W.slots world.old) (error_of result) system.new (W.slots world.new) }
+    ensures step { Step S.meets reads.now writes.now system.old (W.slots world.old) (error_of result) system.new
+        (W.slots world.new) }
     ensures seat { (id : Id) → map.get seat.new id ≡ map.get seat.old id }
     ensures reads { S.read_list system.new ≡ S.read_list system.old }
     ensures writes { S.write_list system.new ≡ S.write_list system.old }
@@ -107,7 +110,8 @@ impl<V: Drop, S: System<V>> Leaf<V, S> {
         rt: &H,
         world: &mut W,
     ) -> Result<(), Stop>
-        ensures step { Step S.meets (S.read_list self.old) (S.write_list self.old) self.old (W.slots world.old) (error_of result) self.new (W.slots world.new) }
+        ensures step { Step S.meets (S.read_list self.old) (S.write_list self.old) self.old (W.slots world.old)
+            (error_of result) self.new (W.slots world.new) }
         ensures reads { S.read_list self.new ≡ S.read_list self.old }
         ensures writes { S.write_list self.new ≡ S.write_list self.old }
     {

@@ -24,17 +24,18 @@ pub struct Par<V, H: RunWithPool<V>, T: RunWithPool<V>> {
 }
 
 impl<V, H: RunWithPool<V>, T: RunWithPool<V>> Model for Par<V, H, T> {
-    ghost use Rattle.std.specs.Prelude.{◌≡◌, false};
+    ghost use Rattle.std.specs.Prelude.{◌≡◌};
     ghost use Rattle.std.specs.Option.{MatchOption};
-    ghost use Rattle.shred_trees.specs.Trees.{Halves, conflict};
+    ghost use Rattle.shred_trees.specs.Trees.{Halves, AreApart};
     ghost use Rattle.shred_trees.specs.Rooms.{AreRooms};
 
     ghost Value = { Halves H T };
 
     ghost view = { λ tree. record { head = tree.head; tail = tree.tail } };
 
-    ghost invariant = { λ tree. (conflict (H.read_list tree.head) (H.write_list tree.head) (T.read_list tree.tail) (T.write_list tree.tail) ≡ false)
-        × AreRooms (H.read_list tree.head) (H.write_list tree.head) (T.read_list tree.tail) (T.write_list tree.tail) tree.rooms };
+    ghost invariant = { λ tree. AreApart H.read_list H.write_list T.read_list T.write_list tree.head tree.tail
+        × AreRooms (H.read_list tree.head) (H.write_list tree.head) (T.read_list tree.tail)
+        (T.write_list tree.tail) tree.rooms };
 }
 
 impl<V: Drop, T: RunWithPool<V>> Par<V, Nil, T> {
@@ -60,9 +61,12 @@ impl<V: Drop, H: RunWithPool<V>, T: RunWithPool<V>> Par<V, H, T> {
         alloc: Global,
         other: C,
     ) -> Result<Par<V, Par<V, H, T>, C>, (ParError, Self, C)>
-        ensures apart { IfOk result (λ _. conflict (both_lists H.read_list T.read_list self) (both_lists H.write_list T.write_list self) (C.read_list other) (C.write_list other) ≡ false) }
+        ensures apart { IfOk result (λ _. conflict (both_lists H.read_list T.read_list self)
+            (both_lists H.write_list T.write_list self) (C.read_list other) (C.write_list other) ≡ false) }
         ensures ok { IfOk result (λ tree. tree ≡ record { head = self; tail = other }) }
-        ensures cause { IfErr result (λ refused. IsCause refused.0 (conflict (both_lists H.read_list T.read_list self) (both_lists H.write_list T.write_list self) (C.read_list other) (C.write_list other))) }
+        ensures cause { IfErr result (λ refused. IsCause refused.0
+            (conflict (both_lists H.read_list T.read_list self) (both_lists H.write_list T.write_list self)
+            (C.read_list other) (C.write_list other))) }
         ensures tree_back { IfErr result (λ refused. refused.1 ≡ self) }
         ensures other_back { IfErr result (λ refused. refused.2 ≡ other) }
     {
@@ -94,7 +98,8 @@ impl<V: Drop, H: RunWithPool<V>, T: RunWithPool<V>> Par<V, H, T> {
         T: Send,
         requires head_whole { CanBeTaken (H.write_list self.old.head) (W.slots world.old) }
         requires tail_whole { CanBeTaken (T.write_list self.old.tail) (W.slots world.old) }
-        ensures meets { ParRuns H.meets T.meets self.old (W.slots world.old) (error_of result) self.new (W.slots world.new) }
+        ensures meets { ParRuns H.meets T.meets self.old (W.slots world.old) (error_of result) self.new
+            (W.slots world.new) }
         ensures leaves { Leaves (W.slots world.old) (W.slots world.new) }
     {
         match &mut self.rooms {
@@ -140,7 +145,8 @@ impl<V, H: RunWithPool<V>, T: RunWithPool<V>> RunWithPool<V> for Par<V, H, T> {
 
     ghost stays_within = { par-within H.meets T.meets H.write_list T.write_list H.stays_within T.stays_within };
 
-    ghost sees_what_it_declares = { par-sees H.meets T.meets H.write_list T.write_list H.stays_within T.stays_within H.read_list T.read_list H.sees_what_it_declares T.sees_what_it_declares };
+    ghost sees_what_it_declares = { par-sees H.meets T.meets H.write_list T.write_list H.stays_within
+        T.stays_within H.read_list T.read_list H.sees_what_it_declares T.sees_what_it_declares };
 
     fn setup(&mut self, world: &mut World<V>) -> Result<(), AllocError> {
         match self.head.setup(world) {

@@ -71,7 +71,8 @@ impl<V: Drop + Send + Sync, H: RunWithPool<V>, T: RunWithPool<V> + Send> ParSeq<
         rt: &R,
         world: &mut World<V>,
     ) -> Result<(), Stop>
-        ensures meets { ParRuns H.meets T.meets self.old.tree (holding_of world.old) (error_of result) self.new.tree (holding_of world.new) }
+        ensures meets { ParRuns H.meets T.meets self.old.tree (holding_of world.old) (error_of result)
+            self.new.tree (holding_of world.new) }
         ensures leaves { Leaves (holding_of world.old) (holding_of world.new) }
         ensures workers { self.new.workers ≡ self.old.workers }
     {
@@ -91,7 +92,8 @@ impl<H, T> ParSeq<Seq<H, T>> {
     where
         H: RunWithPool<V>,
         T: RunWithPool<V>,
-        ensures meets { SeqRuns H.meets T.meets self.old.tree (holding_of world.old) (error_of result) self.new.tree (holding_of world.new) }
+        ensures meets { SeqRuns H.meets T.meets self.old.tree (holding_of world.old) (error_of result)
+            self.new.tree (holding_of world.new) }
         ensures leaves { Leaves (holding_of world.old) (holding_of world.new) }
         ensures workers { self.new.workers ≡ self.old.workers }
     {

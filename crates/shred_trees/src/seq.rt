@@ -59,7 +59,8 @@ impl<V, H: RunWithPool<V>, T: RunWithPool<V>> RunWithPool<V> for Seq<H, T> {
 
     ghost stays_within = { seq-within H.meets T.meets H.write_list T.write_list H.stays_within T.stays_within };
 
-    ghost sees_what_it_declares = { seq-sees H.meets T.meets H.write_list T.write_list H.stays_within T.stays_within H.read_list T.read_list H.sees_what_it_declares T.sees_what_it_declares };
+    ghost sees_what_it_declares = { seq-sees H.meets T.meets H.write_list T.write_list H.stays_within
+        T.stays_within H.read_list T.read_list H.sees_what_it_declares T.sees_what_it_declares };
 
     fn setup(&mut self, world: &mut World<V>) -> Result<(), AllocError> {
         match self.head.setup(world) {

@@ -1,3 +1,4 @@
+pub mod AnyBundleLemmas
 pub mod BundleLemmas
 pub mod CallerLemmas
 pub mod IdLemmas
@@ -8,3 +9,4 @@ pub mod SlotLemmas
 pub mod WorldLemmas
 pub mod TurnLemmas
 pub mod SharingLemmas
+pub mod ConflictLemmas

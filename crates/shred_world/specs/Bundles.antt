@@ -1,7 +1,7 @@
 -- What bundles are stated over: each id's slot, as a world or a view holds it.
 use Rattle.std.specs.Prelude.{◌≡◌, Bool, true, false, Option, None, Some, List, [], ◌∷◌, ◌++◌, is_some, is_none, ◌||◌, ◌⊎◌, refl, if◌then◌else◌}
 use Rattle.std.specs.Option.{option_and_then, option_map_or, MatchOption}
-use mathlib.Core.Path.{◌∙◌, sym}
+use mathlib.Core.Path.{sym}
 use Rattle.std.proofs.lemmas.Bool.{false≢true}
 use Rattle.std.specs.List.{list_any}
 use Rattle.std.specs.FinMap as map
@@ -78,14 +78,6 @@ abbrev pub SetsUpInTurn : {V : Type 0} → (first second : Bool → Slots V → 
 SetsUpInTurn {V} first second true old new = (middle : Slots V) × first true old middle × second true middle new
 SetsUpInTurn {V} first second false old new = first false old new ⊎ ((middle : Slots V) × first true old middle × second false middle new)
 
--- an id that isn't the one written keeps its slot
-pub with_slot_others : {V : Type 0} (w : Holding V) (id : ResourceId) (slot : Slot V) (q : ResourceId) → is_listed (id ∷ []) q ≡ false → with_slot w id slot q ≡ w q
-with_slot_others w id slot q e = at (same_id q id) e
-  where
-    at : (b : Bool) → (b || false) ≡ false → (if b then slot else w q) ≡ w q
-    at true e = absurd (false≢true (sym e))
-    at false e = refl
-
 -- an id that is in neither list
 pub unlisted-append : (xs ys : List ResourceId) (q : ResourceId) → is_listed (xs ++ ys) q ≡ false → (is_listed xs q ≡ false) × (is_listed ys q ≡ false)
 unlisted-append [] ys q e = (refl, e)
@@ -96,22 +88,9 @@ unlisted-append (x ∷ xs) ys q e = at (same_id q x) (unlisted-append xs ys q) e
     at true rest e = absurd (false≢true (sym e))
     at false rest e = rest e
 
--- what two edits leave of an id that neither touches
-pub both_leave : {V : Type 0} (f g : Holding V → Holding V) (xs ys : List ResourceId) (w : Holding V) (q : ResourceId)
-    → ((w : Holding V) → is_listed xs q ≡ false → f w q ≡ w q) → ((w : Holding V) → is_listed ys q ≡ false → g w q ≡ w q)
-    → is_listed (xs ++ ys) q ≡ false → g (f w) q ≡ w q
-both_leave f g xs ys w q first second e = let p = unlisted-append xs ys q e in second (f w) p.1 ∙ first w p.0
-
 -- what an optional bundle leaves: the edit, where nothing is wanting
 abbrev pub where_there : {V : Type 0} → (Holding V → Option ResourceId) → (Holding V → Holding V) → Holding V → Holding V
 where_there lack edit w = option_map_or (λ _. w) (lack w) (edit w)
-
-pub where_there_others : {V : Type 0} (lack : Holding V → Option ResourceId) (edit : Holding V → Holding V) (w : Holding V) (q : ResourceId) → edit w q ≡ w q → where_there lack edit w q ≡ w q
-where_there_others lack edit w q e = at (lack w)
-  where
-    at : (o : Option ResourceId) → option_map_or (λ _. w) o (edit w) q ≡ w q
-    at None = e
-    at (Some id) = refl
 
 -- a bundle is there exactly where nothing is wanting
 abbrev pub IsThereUnless : {B : Type 0} → Option B → Option ResourceId → Type 0
@@ -126,16 +105,6 @@ abbrev pub CanGiveBundle : {V B : Type 0} → (B → Holding V → Type 0) → O
 CanGiveBundle can_give None w = Unit {0}
 CanGiveBundle can_give (Some bundle) w = can_give bundle w
 
-pub given_bundle_others : {V B : Type 0} (given : B → Holding V → Holding V) (bundle : Option B) (w : Holding V) (q : ResourceId) → ((b : B) → given b w q ≡ w q) → given_bundle given bundle w q ≡ w q
-given_bundle_others given None w q h = refl
-given_bundle_others given (Some b) w q h = h b
-
 -- nothing is set up, and nothing is refused
 abbrev pub UnitSetsUp : {V : Type 0} → Bool → Slots V → Slots V → Type 0
 UnitSetsUp accepted old new = (accepted ≡ true) × (new ≡ old)
-
--- the same of two edits from the second on
-pub both_given : {V : Type 0} (f g : Holding V → Holding V) (xs ys : List ResourceId) (w : Holding V) (q : ResourceId)
-    → ((w : Holding V) → is_listed xs q ≡ false → f w q ≡ w q) → ((w : Holding V) → is_listed ys q ≡ false → g w q ≡ w q)
-    → is_listed (xs ++ ys) q ≡ false → f (g w) q ≡ w q
-both_given f g xs ys w q first second e = let p = unlisted-append xs ys q e in first (g w) p.0 ∙ second w p.1

@@ -1,7 +1,11 @@
 pub mod Bundles
+pub mod BundleLaws
+pub mod Conflicts
 pub mod Execs
+pub mod Leaving
 pub mod Lending
 pub mod Places
 pub mod ResourceIds
+pub mod SameIds
 pub mod Worlds
 pub mod Sharing

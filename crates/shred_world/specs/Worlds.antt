@@ -1,5 +1,7 @@
 -- A world: a finite map from resource ids to slots. A slot holds a value, or its value is out and comes back.
-use Rattle.std.specs.Prelude.{◌≡◌, ◌≢◌, ◌==◌, ◌≤◌, ◌<◌, ℕ, Bool, ◌&&◌, Some, filter, length, slice_index, Option, None, List, [], ◌∷◌, ◌++◌, IsSome, is_some, if◌then◌else◌}
+use Rattle.std.specs.Prelude.{◌≡◌, ◌≢◌, ◌==◌, ◌≤◌, ◌<◌, ℕ, Bool, ◌&&◌, Some, filter, length, slice_index, Option, None, List, [], ◌∷◌, ◌++◌, IsSome, is_some, unwrap_or, if◌then◌else◌}
+use Rattle.std.specs.Prelude.{map as list_map}
+use Rattle.std.specs.Borrow.{Bor}
 use Rattle.std.specs.Option.{option_flatten, option_and_then, option_map_or, MatchOption}
 use Rattle.std.specs.List.{list_any}
 use Rattle.std.specs.FinMap as map
@@ -19,6 +21,18 @@ value_at w id = option_flatten (map.get w id)
 abbrev pub resource_at : {V R : Type 0} → (V → Option R) → Slots V → ResourceId → Option R
 resource_at part w id = option_and_then part (value_at w id)
 
+-- the resource at the id, or this one where there is none
+abbrev pub resource_or : {V R : Type 0} → (V → Option R) → Slots V → ResourceId → R → R
+resource_or part w id resource = unwrap_or (resource_at part w id) resource
+
+-- it is the resource at the id, or such a one where there is none
+abbrev pub IsThereOr : {V R : Type 0} → (R → Type 0) → (V → Option R) → Slots V → ResourceId → R → Type 0
+IsThereOr Made part w id resource = MatchOption (resource_at part w id) (Made resource) (λ there. resource ≡ there)
+
+-- this stands in the id's slot where nothing was there, and else nothing changed
+abbrev pub PutsUnless : {V X : Type 0} → (there : Option X) → Slots V → ResourceId → Option V → Slots V → Type 0
+PutsUnless there w id slot w' = MatchOption there (w' ≡ map.insert w id slot) (λ _. w' ≡ w)
+
 -- the least number from `from` on whose id the world holds a value at
 abbrev pub IsLeastFrom : {V : Type 0} → Slots V → (kind from : ℕ) → Option ℕ → Type 0
 IsLeastFrom w kind from found =
@@ -34,6 +48,10 @@ values_of_kinds w (kind ∷ kinds) = option_map_or (λ v. v ∷ values_of_kinds 
 -- those of the kinds whose value the world holds under the dynamic number 0, in order
 abbrev pub held_kinds : {V : Type 0} → Slots V → List ℕ → List ℕ
 held_kinds w kinds = filter (λ kind. is_some (value_at w (id_of kind 0))) kinds
+
+-- their values, in order
+abbrev pub held_values : {V : Type 0} → Slots V → List ℕ → List (Option V)
+held_values w kinds = list_map (λ kind. value_at w (id_of kind 0)) (held_kinds w kinds)
 
 -- no kind stands twice
 abbrev pub AreDistinct : List ℕ → Type 0
@@ -51,6 +69,14 @@ with_kind kinds kind = if list_any (λ k. k == kind) kinds then kinds else kinds
 -- a value at the id, where there is one, is of the resource's kind
 abbrev pub HasKind : {V R : Type 0} → (V → Option R) → Slots V → ResourceId → Type 0
 HasKind part w id = is_some (value_at w id) ≡ is_some (resource_at part w id)
+
+-- a call over what was there gives what is there now
+abbrev pub Gives : {V : Type 0} → (Bor V → V → Type 0) → V → V → Type 0
+Gives {V} calls was now = (lent : Bor V) × (lent.now ≡ was) × calls lent now
+
+-- the value at the id, where there is one, is changed
+abbrev pub ChangesAt : {V : Type 0} → (V → V → Type 0) → Slots V → ResourceId → Slots V → Type 0
+ChangesAt change w id w' = MatchOption (value_at w id) (w' ≡ w) (λ was. (now : _) × change was now × (w' ≡ map.insert w id (Some now)))
 
 -- for each of these kinds in turn, the value that the world holds under the dynamic number 0 is changed
 abbrev pub ChangesInTurn : {V : Type 0} → (V → V → Type 0) → Slots V → List ℕ → Slots V → Type 0

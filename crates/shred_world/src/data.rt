@@ -1,10 +1,9 @@
 //! Bundles of resources: what they need, what they take out, and what giving them back leaves.
-ghost use Rattle.std.specs.Prelude.{◌≡◌, Bool, true, false, Option, Some, None, List, [], ◌∷◌, ◌++◌, OnOk, OnErr, IfOk, IfErr, IsSome, is_ok, option_copied};
-ghost use Rattle.std.specs.Option.{option_and_then, option_or};
+ghost use Rattle.std.specs.Prelude.{◌≡◌, Bool, Option, Some, None, List, OnOk, OnErr, IfOk, IfErr, is_ok};
 ghost use Rattle.shred_world.specs.declared.resource_id.ResourceId.{ResourceId as Id};
-ghost use Rattle.shred_world.specs.ResourceIds.{id_of};
 ghost use Rattle.shred_world.specs.Worlds.{Slots};
-ghost use Rattle.shred_world.specs.Bundles.{Holding, readable, takable, with_slot, out, owned, is_listed, lack_reading, lack_writing};
+ghost use Rattle.shred_world.specs.Bundles.{Holding};
+ghost use Rattle.shred_world.specs.BundleLaws.{IsLawful};
 
 pub(crate) mod optional;
 pub(crate) mod read;
@@ -63,6 +62,9 @@ pub trait SystemData<V>: Sized {
     /// Whether what the bundle took out is still out.
     ghost can_give: { Self → Holding V → Type 0 };
 
+    /// Whether the second bundle may be given back in the place of the first: what was there is there.
+    ghost alike: { Self → Self → Type 0 };
+
     /// Sets up each resource in turn. Errors: want of memory; the resources before the refused one are set up.
     fn setup(world: &mut World<V>) -> Result<(), AllocError>
         ensures { sets_up (is_ok result) world.old world.new };
@@ -92,9 +94,7 @@ pub trait SystemData<V>: Sized {
     fn writes(alloc: Global) -> Result<Vec<ResourceId>, AllocError>
         ensures { IfOk result (λ ids. ids.items ≡ write_ids) };
 
-    /// Fetching leaves each id that the bundle doesn't write.
-    ghost left_others: { (w : Holding V) (q : Id) → is_listed write_ids q ≡ false → left w q ≡ w q };
-
-    /// Giving back leaves each id that the bundle doesn't write.
-    ghost given_others: { (bundle : Self) (w : Holding V) (q : Id) → is_listed write_ids q ≡ false → given bundle w q ≡ w q };
+    /// Fetching and giving back leave each id that the bundle doesn't write. A bundle that was fetched and then changed
+    /// may be given back, and each value that was taken out has then come back, or another in its place.
+    ghost lawful: { IsLawful write_ids left fits given can_give alike };
 }

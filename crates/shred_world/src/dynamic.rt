@@ -1,9 +1,14 @@
 //! Bundles whose ids are told by a value.
-ghost use Rattle.std.specs.Prelude.{◌≡◌, Bool, true, false, Option, Some, None, List, [], ◌∷◌, OnOk, OnErr, IfOk, IfErr, IsSome, is_ok};
+ghost use Rattle.std.specs.Prelude.{◌≡◌, Bool, Option, Some, None, List, [], ◌∷◌, OnOk, OnErr, IfOk, IfErr, IsSome, is_ok};
 ghost use Rattle.std.specs.Option.{option_and_then};
 ghost use Rattle.shred_world.specs.declared.resource_id.ResourceId.{ResourceId as Id};
 ghost use Rattle.shred_world.specs.Worlds.{Slots};
-ghost use Rattle.shred_world.specs.Bundles.{Holding, readable, with_slot, out, owned, lack_reading, lack_writing, UnitSetsUp};
+ghost use Rattle.shred_world.specs.Bundles.{Holding, readable, with_slot, out, owned};
+ghost use Rattle.shred_world.specs.Bundles.{lack_reading, lack_writing, UnitSetsUp};
+ghost use Rattle.shred_world.specs.BundleLaws.{IsLawful, lawful_reading, lawful_writing};
+
+mod optional;
+mod tuples;
 
 use crate::data::read::one_id;
 use crate::{Holder, Missing, Read, Resource, ResourceId, SetupHandler, World, Write};
@@ -122,6 +127,9 @@ pub trait DynamicSystemData<V>: Sized {
     /// Whether what the bundle took out is still out.
     ghost can_give: { Self → Self.Access → Holding V → Type 0 };
 
+    /// Whether the second bundle may be given back in the place of the first: what was there is there.
+    ghost alike: { Self → Self → Type 0 };
+
     /// Sets up each resource in turn. Errors: want of memory; the resources before the refused one are set up.
     fn setup(access: &Self::Access, world: &mut World<V>) -> Result<(), AllocError>
         ensures { sets_up access.now (is_ok result) world.old world.new };
@@ -142,6 +150,12 @@ pub trait DynamicSystemData<V>: Sized {
     fn give_back<H: Holder<V>>(self, access: &Self::Access, holder: &mut H)
         requires can { can_give self access.now (H.slots holder.old) }
         ensures { H.slots holder.new ≡ given self access.now (H.slots holder.old) };
+
+    /// Fetching and giving back leave each id that isn't told as written. A bundle that was fetched and then changed may
+    /// be given back, and each value that was taken out has then come back, or another in its place.
+    ghost lawful: { (access : Self.Access) → IsLawful
+        (Self.Access.write_list access) (left access) (λ bundle. fits bundle access)
+        (λ bundle. given bundle access) (λ bundle. can_give bundle access) alike };
 }
 
 /// Reads the resource under an id of any dynamic number; `Read::get_under` lends it. `setup` does nothing.
@@ -159,6 +173,10 @@ impl<V, R: Resource<V>, F: SetupHandler<V, R>> DynamicSystemData<V> for Read<R, 
     ghost given = { λ _ _ w. w };
 
     ghost can_give = { λ _ _ _. Unit {0} };
+
+    ghost alike = { λ _ _. Unit {0} };
+
+    ghost lawful = { λ _. lawful_reading };
 
     fn setup(_access: &ReadAccessor, _world: &mut World<V>) -> Result<(), AllocError> {
         Ok(())
@@ -188,6 +206,10 @@ impl<V, R: Resource<V>, F: SetupHandler<V, R>> DynamicSystemData<V> for Write<R,
     ghost given = { λ bundle access w. with_slot w access.id (owned (R.wrapped bundle.value)) };
 
     ghost can_give = { λ _ access w. w access.id ≡ out };
+
+    ghost alike = { λ _ _. Unit {0} };
+
+    ghost lawful = { λ access. lawful_writing access.id (λ bundle. R.wrapped bundle.value) };
 
     fn setup(_access: &WriteAccessor, _world: &mut World<V>) -> Result<(), AllocError> {
         Ok(())

@@ -1,7 +1,7 @@
 //! A place under a resource type's id, at which a resource stands or can be put.
-ghost use Rattle.std.specs.Prelude.{◌≡◌, IfOk, IfErr, unwrap_or, MatchOption};
+ghost use Rattle.std.specs.Prelude.{◌≡◌, IfOk, IfErr};
 ghost use Rattle.std.specs.Borrow.{sem};
-ghost use Rattle.shred_world.specs.Worlds.{resource_at, HasKind};
+ghost use Rattle.shred_world.specs.Worlds.{resource_or, HasKind, IsThereOr};
 ghost use Rattle.shred_world.specs.ResourceIds.{id_of};
 ghost use Rattle.shred_world.specs.Lending.{LendsInserted};
 
@@ -22,8 +22,10 @@ impl<'a, V, R: Resource<V> + Drop> Entry<'a, V, R> {
     /// Errors: want of memory, which hands `resource` back and leaves the world as it was.
     pub fn or_insert(self, resource: R) -> Result<&'a mut R, AllocFailed<R>>
         requires kind { HasKind R.part self.world.now (id_of R.kind_number 0) }
-        ensures* writes_back { sem 𝓛 (LendsInserted V.row R.row R.wrapped self.entry.world (id_of R.kind_number 0) result) }
-        ensures value { IfOk result (λ lent. lent.now ≡ unwrap_or (resource_at R.part self.entry.world.now (id_of R.kind_number 0)) resource) }
+        ensures* writes_back { sem 𝓛 (LendsInserted V.row R.row R.wrapped self.entry.world
+            (id_of R.kind_number 0) result) }
+        ensures value { IfOk result (λ lent.
+            lent.now ≡ resource_or R.part self.entry.world.now (id_of R.kind_number 0) resource) }
         ensures handed_back { IfErr result (λ refused. refused.value ≡ resource) }
     {
         let Entry { world, resource: _ } = self;
@@ -36,8 +38,10 @@ impl<'a, V, R: Resource<V> + Drop> Entry<'a, V, R> {
     pub fn or_insert_with<F: FnOnce() -> R + Drop>(self, make: F) -> Result<&'a mut R, AllocError>
         requires kind { HasKind R.part self.world.now (id_of R.kind_number 0) }
         requires callable { F.IsAlwaysCallable make }
-        ensures* writes_back { sem 𝓛 (LendsInserted V.row R.row R.wrapped self.entry.world (id_of R.kind_number 0) result) }
-        ensures value { IfOk result (λ lent. MatchOption (resource_at R.part self.entry.world.now (id_of R.kind_number 0)) (F.post make lent.now) (λ there. lent.now ≡ there)) }
+        ensures* writes_back { sem 𝓛 (LendsInserted V.row R.row R.wrapped self.entry.world
+            (id_of R.kind_number 0) result) }
+        ensures value { IfOk result (λ lent.
+            IsThereOr (F.post make) R.part self.entry.world.now (id_of R.kind_number 0) lent.now) }
     {
         let Entry { world, resource: _ } = self;
         world.or_insert_with(make)

@@ -40,7 +40,8 @@ where
     T: PartialEq + 'i,
     J: Iterator<Item = &'i T> + Clone,
     requires { CanBeWalked J.is_clone J.can_next J.remaining others.now }
-    ensures { MatchResult result (λ found. TellsByClone T.eq J.next_gives J.is_clone others.now found item.now) (λ _. ¬ (J.is_infallible others.now)) }
+    ensures { MatchResult result (λ found. TellsByClone T.eq J.next_gives J.is_clone others.now found item.now)
+        (λ _. ¬ (J.is_infallible others.now)) }
 {
     match others.clone() {
         Ok(copy) => Ok(is_given(item, copy)),

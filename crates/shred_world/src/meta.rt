@@ -70,7 +70,8 @@ impl MetaTable {
 
     /// The value of a resource type that is registered, where the world holds it under the dynamic number 0.
     pub fn get<'w, V, R: Resource<V>>(&self, world: &'w World<V>) -> Option<&'w V>
-        ensures registered { list_any (λ k. k == R.kind_number) self.now ≡ true → option_copied result ≡ value_at world.now (id_of R.kind_number 0) }
+        ensures registered { list_any (λ k. k == R.kind_number) self.now ≡ true
+            → option_copied result ≡ value_at world.now (id_of R.kind_number 0) }
         ensures other { list_any (λ k. k == R.kind_number) self.now ≡ false → result ≡ None }
     {
         if self.has(R::kind()) {
@@ -157,7 +158,8 @@ impl MetaIterMut<'_> {
     /// Goes to the next kind whose value the world holds under the dynamic number 0; false where none is left.
     pub fn advance<V>(&mut self, world: &World<V>) -> bool
         ensures moved { result ≡ is_some self.new.current }
-        ensures found { IfSome self.new.current (λ kind. from_first_held world.now self.old.kinds.now ≡ kind ∷ self.new.kinds.now) }
+        ensures found { IfSome self.new.current (λ kind.
+            from_first_held world.now self.old.kinds.now ≡ kind ∷ self.new.kinds.now) }
         ensures end { IfNone self.new.current (from_first_held world.now self.old.kinds.now ≡ []) }
     {
         while let Some((kind, left)) = self.kinds.split_first() {

@@ -3,7 +3,7 @@ ghost use Rattle.std.specs.Prelude.{◌≡◌, ◌≢◌, ◌&&◌, OnOk, OnErr,
 ghost use Rattle.std.specs.Option.{option_copied_mut, option_map_or};
 ghost use Rattle.std.specs.Borrow.{sem};
 ghost use Rattle.std.specs.FinMap as map;
-ghost use Rattle.shred_world.specs.Worlds.{value_at, resource_at, HasKind, IsLeastFrom};
+ghost use Rattle.shred_world.specs.Worlds.{value_at, resource_at, resource_or, HasKind, IsThereOr, PutsUnless, IsLeastFrom};
 ghost use Rattle.shred_world.specs.Bundles.{holding_of, DefaultsTo};
 ghost use Rattle.shred_world.specs.Execs.{ChangesTwo, ChangesBy, CallsWithBundle, CallableWithBundle, IsExecError};
 ghost use Rattle.shred_world.specs.ResourceIds.{id_of};
@@ -59,6 +59,11 @@ impl<V> World<V> {
         World {
             slots: Vec::new(alloc),
         }
+    }
+
+    /// Where the world takes its memory from.
+    pub fn alloc(&self) -> Global {
+        *self.slots.allocator()
     }
 
     /// Puts the resource under its type's id; a value that stood there is dropped.
@@ -138,6 +143,13 @@ impl<V> World<V> {
         ensures { result ≡ is_some (value_at self.now id) }
     {
         self.get_raw(id).is_some()
+    }
+
+    /// Whether the world has a slot under `id`, also one whose value is out.
+    pub fn has_slot(&self, id: ResourceId) -> bool
+        ensures { result ≡ is_some (map.get self.now id) }
+    {
+        self.slot(id).is_some()
     }
 
     /// The resource under its type's id, which is there.
@@ -287,7 +299,7 @@ impl<V> World<V> {
     pub fn make_slot(&mut self, id: ResourceId) -> Result<(), AllocError>
     where
         V: Drop,
-        ensures ok { OnOk result (MatchOption (map.get self.old id) (self.new ≡ map.insert self.old id None) (λ _. self.new ≡ self.old)) }
+        ensures ok { OnOk result (PutsUnless (map.get self.old id) self.old id None self.new) }
         ensures err { OnErr result (self.new ≡ self.old) }
     {
         if self.slot(id).is_some() {
@@ -340,7 +352,7 @@ impl<V> World<V> {
     ) -> Result<&mut R, AllocFailed<R>>
         requires kind { HasKind R.part self.old (id_of R.kind_number 0) }
         ensures* writes_back { sem 𝓛 (LendsInserted V.row R.row R.wrapped self.entry (id_of R.kind_number 0) result) }
-        ensures value { IfOk result (λ lent. lent.now ≡ unwrap_or (resource_at R.part self.old (id_of R.kind_number 0)) resource) }
+        ensures value { IfOk result (λ lent. lent.now ≡ resource_or R.part self.old (id_of R.kind_number 0) resource) }
         ensures handed_back { IfErr result (λ refused. refused.value ≡ resource) }
     {
         self.ensure_there(resource)?;
@@ -349,7 +361,9 @@ impl<V> World<V> {
 
     /// Puts the resource under its type's id where no value stands.
     fn ensure_there<R: Resource<V> + Drop>(&mut self, resource: R) -> Result<(), AllocFailed<R>>
-        ensures ok { OnOk result (MatchOption (value_at self.old (id_of R.kind_number 0)) (self.new ≡ map.insert self.old (id_of R.kind_number 0) (Some (R.wrapped resource))) (λ _. self.new ≡ self.old)) }
+        ensures ok { OnOk result (PutsUnless (value_at self.old (id_of R.kind_number 0)) self.old
+            (id_of R.kind_number 0)
+            (Some (R.wrapped resource)) self.new) }
         ensures err { OnErr result (self.new ≡ self.old) }
         ensures handed_back { IfErr result (λ refused. refused.value ≡ resource) }
     {
@@ -367,7 +381,7 @@ impl<V> World<V> {
         requires kind { HasKind R.part self.old (id_of R.kind_number 0) }
         requires callable { F.IsAlwaysCallable make }
         ensures* writes_back { sem 𝓛 (LendsInserted V.row R.row R.wrapped self.entry (id_of R.kind_number 0) result) }
-        ensures value { IfOk result (λ lent. MatchOption (resource_at R.part self.old (id_of R.kind_number 0)) (F.post make lent.now) (λ there. lent.now ≡ there)) }
+        ensures value { IfOk result (λ lent. IsThereOr (F.post make) R.part self.old (id_of R.kind_number 0) lent.now) }
     {
         self.ensure_made(make)?;
         Ok(self.fetch_mut::<R>())
@@ -444,7 +458,8 @@ impl<V> World<V> {
         use_bundle: F,
     ) -> Result<T, ExecError>
         requires callable { CallableWithBundle D.can_give (F.pre use_bundle) }
-        ensures ok { IfOk result (λ answer. CallsWithBundle D.sets_up D.left D.fits (F.post use_bundle) self.old self.new answer) }
+        ensures ok { IfOk result (λ answer.
+            CallsWithBundle D.sets_up D.left D.fits (F.post use_bundle) self.old self.new answer) }
         ensures err { IfErr result (λ refused. IsExecError D.sets_up D.lack self.old self.new refused) }
     {
         if self.setup::<D>().is_err() {

@@ -1,5 +1,5 @@
 -- The entities whose deletion is accepted can be killed, and a walk that empties its set goes on with the rest.
-use Rattle.std.proofs.Common.{◌≡◌, ℕ, zero, suc, ◌+◌, ◌<◌, List, [], ◌∷◌, Bool, true, false, cond, eqb, filter, map, refl, sym, ap, ◌∙◌, subst, arith, Option, Some, None, MatchOption, unwrap_or, inl, inr}
+use Rattle.std.proofs.Common.{◌≡◌, ℕ, zero, suc, ◌+◌, ◌<◌, List, [], ◌∷◌, Bool, true, false, cond, eqb, filter, map, refl, sym, ap, ◌∙◌, subst, arith, Option, Some, None, is_some, MatchOption, unwrap_or, inl, inr}
 use Rattle.std.specs.Prelude.{IfSome}
 use Rattle.std.specs.FinSet as fin
 use Rattle.std.specs.Ordering.{nat_cmp}
@@ -8,7 +8,7 @@ use Rattle.std.proofs.lemmas.List.Elements.{All-map, All-weaker, filter_passes}
 use Rattle.hibitset_sets.specs.Walk.{walk, is_pending}
 use Rattle.hibitset_sets.proofs.CallerLemmas.{contains-without, walk-without}
 use Rattle.specs_entity.specs.Life.{Life, LifeAt, first_life}
-use Rattle.specs_entity.specs.Births.{Births, CanKill, all_deleted, entity_at, indices_of, living, persistent_at}
+use Rattle.specs_entity.specs.Births.{Births, CanKill, all_deleted, all_living, entity_at, indices_of, living, persistent_at}
 use Rattle.specs_entity.specs.Layout.{AreBirths}
 use Rattle.specs_entity.specs.Emptied.{GaveFirst, still_in}
 use Rattle.specs_entity.specs.declared.emptying.Emptying.{Emptying}
@@ -85,6 +85,23 @@ deleted-killable births kept =
           (λ i is. some-or (living births i) (unwrap_or (persistent_at births i) first_life) (kept.deletions i is))
           indices (walk-members (fin.contains births.deletions)));
       apart = subst (IsDistinct eqb) (sym (deleted-indices births)) (walk-distinct (fin.contains births.deletions));
+    }
+
+some-is : (one : Option Life) (other : Life) → is_some one ≡ true → one ≡ Some (unwrap_or one other)
+some-is None other some = cc
+some-is (Some life) other some = refl
+
+-- those that live can be killed
+pub living-killable : (births : Births) → CanKill (living births) (all_living births)
+living-killable births =
+    let indices : List ℕ = walk (λ index. is_some (living births index)) in
+    record {
+      alive =
+          All-map (λ (e : LifeAt). living births e.id ≡ Some e.generation) (entity_at births) indices
+          (All-weaker (λ i. is_some (living births i) ≡ true) (λ i. living births i ≡ Some (entity_at births i).generation)
+          (λ i is. some-is (living births i) (unwrap_or (persistent_at births i) first_life) is)
+          indices (walk-members (λ index. is_some (living births index))));
+      apart = subst (IsDistinct eqb) (sym (indices-at births indices)) (walk-distinct (λ index. is_some (living births index)));
     }
 
 -- a list can be killed where the same entities live

@@ -181,6 +181,10 @@ all_settled births (index ∷ indices) = all_settled (settled births index) indi
 abbrev pub all_deleted : Births → List Entity
 all_deleted births = map (entity_at births) (walk (set.contains births.deletions))
 
+-- the entities that are alive, ascending by index
+abbrev pub all_living : Births → List Entity
+all_living births = map (entity_at births) (walk (λ index. is_some (living births index)))
+
 -- first the fresh births became persistent, then the entities whose deletion was accepted died, each ascending by index
 abbrev pub merged : Births → Births
 merged births = all_buried (all_settled births (walk (set.contains births.fresh))) (walk (set.contains births.deletions))

@@ -16,7 +16,7 @@ use hibitset::{AtomicBitSet, BitSetLike};
 use std::alloc::AllocError;
 
 impl EntitiesRes {
-    ghost use Rattle.specs_entity.specs.Births.{Continues, living, all_buried, all_settled, all_deleted, merged};
+    ghost use Rattle.specs_entity.specs.Births.{Continues, living, all_buried, all_settled, all_deleted, all_living, merged};
     ghost use Rattle.specs_entity.specs.Births.{RefusesKill};
 
     /// Lets all entities of a list die, in its order. After its test it takes no memory.
@@ -76,6 +76,21 @@ impl EntitiesRes {
         let fault = mark_all(&self.generations, &self.raised, &mut self.marked, entities);
         unmark_all(&mut self.marked, entities);
         fault
+    }
+
+    /// The entities that are alive, ascending by index. It costs a walk over them.
+    ///
+    /// Errors: `AllocError`.
+    pub fn living_entities(&self) -> Result<Vec<Entity>, AllocError>
+        ensures value { IfOk result (λ entities. entities.items ≡ all_living self.now) }
+        ensures killable { IfOk result (λ entities. CanKill (living self.now) entities.items) }
+    {
+        let mask = self.mask();
+        let mut entities = Vec::new(self.alloc);
+        for id in mask.iter() {
+            entities.push(self.entity(id))?;
+        }
+        Ok(entities)
     }
 
     /// How many deletions were accepted that the next merge makes come true. It costs a walk over them.

@@ -1,5 +1,4 @@
 -- What a storage ends as, where its channel was lent.
-use Rattle.std.specs.Prelude.{Bool}
 use Rattle.std.specs.Borrow.{Fml, RattleType, MutBor, Lends}
 use Rattle.specs_events.specs.Channels.{Channel}
 use Rattle.specs_events.specs.contracts.channel.EventChannel as channel

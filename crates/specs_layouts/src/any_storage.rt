@@ -1,5 +1,5 @@
 //! Storages of any kind, for callers that drop the parts of entities.
-ghost use Rattle.std.specs.Prelude.{◌≡◌, ℕ, ◌==◌, ◌&&◌, not, Bool, List, [], length, is_some, IsOk, OnOk, OnErr};
+ghost use Rattle.std.specs.Prelude.{◌≡◌, ℕ, ◌==◌, ◌&&◌, not, Bool, List, [], ◌++◌, length, is_some, IsOk, OnOk, OnErr};
 ghost use Rattle.std.specs.List.{list_any};
 ghost use Rattle.specs_layouts.specs.Drops.{ids_of};
 
@@ -37,12 +37,19 @@ pub trait AnyStorage {
     /// After a drop the indices of the list have no part, and each other has one where it had one.
     ghost drops_parts: { (before after : Self) (indices : List ℕ) → drops before indices after → (index : ℕ)
         → has_part after index ≡ (not (list_any (λ other. index == other) indices) && has_part before index) };
+
+    /// Dropping nothing leaves a storage as it is.
+    ghost drops_none: { (s : Self) → drops s [] s };
+
+    /// Drops of one list and then of another are those of both lists, one behind the other.
+    ghost drops_append: { (first second third : Self) (indices others : List ℕ) → drops first indices second
+        → drops second others third → drops first (indices ++ others) third };
 }
 
 impl<T: Component> AnyStorage for MaskedStorage<T> {
     ghost use Rattle.std.specs.Prelude.{is_some};
     ghost use Rattle.specs_layouts.specs.Drops.{DropsAll};
-    ghost use Rattle.specs_layouts.specs.DropLemmas.{dropped-parts};
+    ghost use Rattle.specs_layouts.specs.DropLemmas.{dropped-parts, drops-none, drops-append};
 
     ghost has_part = { λ s index. is_some (T.Storage.part_at s.inner index) };
 
@@ -54,6 +61,11 @@ impl<T: Component> AnyStorage for MaskedStorage<T> {
 
     ghost drops_parts = { λ before after indices dropped.
         dropped-parts (T.Storage.part_at before.inner) (T.Storage.part_at after.inner) indices dropped.parts };
+
+    ghost drops_none = { λ s. drops-none (T.Storage.part_at s.inner) (T.Storage.events s.inner) (T.Storage.emits s.inner) };
+
+    ghost drops_append = { λ first second third indices others one other.
+        drops-append _ _ _ _ _ _ _ _ _ indices others one other };
 
     fn drop(&mut self, entities: &[Entity]) -> Result<(), AllocError> {
         MaskedStorage::make_room(self, entities.len())?;

@@ -56,7 +56,8 @@ impl<T: Drop> DerefMut for RefMut<'_, T> {
     ghost deref_mut_gives = { λ guard value. value ≡ guard };
 
     fn deref_mut(&mut self) -> &mut T
-        ensures* writes_back { sem 𝓛 (Lends (the_row (record { mir = named 1; lft = [] }) T.row) T.row self.entry result (λ left. left)) }
+        ensures* writes_back { sem 𝓛 (Lends (the_row (record { mir = named 1; lft = [] }) T.row) T.row self.entry
+            result (λ left. left)) }
         ensures value { result.now ≡ self.old }
     {
         &mut self.value

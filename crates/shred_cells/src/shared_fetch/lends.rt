@@ -32,7 +32,8 @@ impl<V: Drop, R: Resource<V>> DerefMut for SharedFetchMut<'_, V, R> {
     ghost deref_mut_gives = { λ guard resource. resource ≡ guard };
 
     fn deref_mut(&mut self) -> &mut R
-        ensures* writes_back { sem 𝓛 (Lends (the_row (record { mir = named 1; lft = [] }) V.row R.row R.Resource) R.row self.entry result (λ left. left)) }
+        ensures* writes_back { sem 𝓛 (Lends (the_row (record { mir = named 1; lft = [] }) V.row R.row R.Resource)
+            R.row self.entry result (λ left. left)) }
         ensures value { result.now ≡ self.old }
     {
         &mut self.resource

@@ -1,7 +1,8 @@
 //! Bundles of a resource that may be wanting.
-ghost use Rattle.std.specs.Prelude.{◌≡◌, Some, None, List, [], is_none, is_some, refl};
+ghost use Rattle.std.specs.Prelude.{None, []};
 ghost use Rattle.shred_world.specs.ResourceIds.{id_of};
-ghost use Rattle.shred_world.specs.Bundles.{where_there, where_there_others, IsThereUnless, CanGiveBundle, given_bundle, given_bundle_others, UnitSetsUp, with_slot_others, out, owned};
+ghost use Rattle.shred_world.specs.Bundles.{where_there, IsThereUnless, CanGiveBundle, given_bundle, UnitSetsUp};
+ghost use Rattle.shred_world.specs.BundleLaws.{AlikeBundle, lawful_reading, lawful_optional};
 
 use crate::{Holder, Missing, Read, Resource, ResourceId, SetupHandler, SystemData, World, Write};
 use std::alloc::{AllocError, Global};
@@ -24,9 +25,9 @@ impl<V, R: Resource<V>, F: SetupHandler<V, R>> SystemData<V> for Option<Read<R, 
 
     ghost can_give = { λ _ _. Unit {0} };
 
-    ghost left_others = { λ w q e. refl };
+    ghost alike = { λ _ _. Unit {0} };
 
-    ghost given_others = { λ bundle w q e. refl };
+    ghost lawful = { lawful_reading };
 
     fn setup(_world: &mut World<V>) -> Result<(), AllocError> {
         Ok(())
@@ -72,9 +73,9 @@ impl<V, R: Resource<V>, F: SetupHandler<V, R>> SystemData<V> for Option<Write<R,
 
     ghost can_give = { CanGiveBundle ⟦<Write<R, F> as SystemData<V>>⟧.can_give };
 
-    ghost left_others = { λ w q e. where_there_others ⟦<Write<R, F> as SystemData<V>>⟧.lack ⟦<Write<R, F> as SystemData<V>>⟧.left w q (with_slot_others w (id_of R.kind_number 0) out q e) };
+    ghost alike = { AlikeBundle ⟦<Write<R, F> as SystemData<V>>⟧.alike };
 
-    ghost given_others = { λ bundle w q e. given_bundle_others ⟦<Write<R, F> as SystemData<V>>⟧.given bundle w q (λ b. with_slot_others w (id_of R.kind_number 0) (owned (R.wrapped b.value)) q e) };
+    ghost lawful = { lawful_optional (id_of R.kind_number 0) (λ bundle. R.wrapped bundle.value) R.part };
 
     fn setup(_world: &mut World<V>) -> Result<(), AllocError> {
         Ok(())

@@ -1,7 +1,8 @@
 //! Bundles of one resource that is read.
-ghost use Rattle.std.specs.Prelude.{◌≡◌, true, false, Option, Some, None, List, [], ◌∷◌, OnOk, IfOk, IfErr, IsSome, is_ok, option_copied, if◌then◌else◌, refl};
+ghost use Rattle.std.specs.Prelude.{◌≡◌, Some, None, [], ◌∷◌, OnOk, IfOk, IfErr, IsSome};
 ghost use Rattle.std.specs.Option.{option_and_then};
 ghost use Rattle.shred_world.specs.ResourceIds.{id_of};
+ghost use Rattle.shred_world.specs.BundleLaws.{lawful_reading};
 ghost use Rattle.shred_world.specs.Bundles.{readable, lack_reading, HandlerSetsUp};
 
 use crate::{
@@ -87,9 +88,9 @@ impl<V, R: Resource<V>, F: SetupHandler<V, R>> SystemData<V> for Read<R, F> {
 
     ghost can_give = { λ _ _. Unit {0} };
 
-    ghost left_others = { λ w q e. refl };
+    ghost alike = { λ _ _. Unit {0} };
 
-    ghost given_others = { λ bundle w q e. refl };
+    ghost lawful = { lawful_reading };
 
     fn setup(world: &mut World<V>) -> Result<(), AllocError> {
         F::setup(world)

@@ -1,7 +1,8 @@
 //! Bundles without a resource, and tuples of bundles: their parts are fetched in order and given back from the last.
-ghost use Rattle.std.specs.Prelude.{◌≡◌, Bool, true, false, Some, None, List, [], ◌++◌, refl};
+ghost use Rattle.std.specs.Prelude.{None, [], ◌++◌};
 ghost use Rattle.std.specs.Option.{option_or};
-ghost use Rattle.shred_world.specs.Bundles.{SetsUpInTurn, both_leave, both_given, UnitSetsUp};
+ghost use Rattle.shred_world.specs.Bundles.{SetsUpInTurn, UnitSetsUp};
+ghost use Rattle.shred_world.specs.BundleLaws.{lawful_reading, lawful_both, lawful_by};
 
 use crate::{Holder, Missing, ResourceId, SystemData, World};
 use std::alloc::{AllocError, Global};
@@ -25,9 +26,9 @@ impl<V> SystemData<V> for () {
 
     ghost can_give = { λ _ _. Unit {0} };
 
-    ghost left_others = { λ w q e. refl };
+    ghost alike = { λ _ _. Unit {0} };
 
-    ghost given_others = { λ bundle w q e. refl };
+    ghost lawful = { lawful_reading };
 
     fn setup(_world: &mut World<V>) -> Result<(), AllocError> {
         Ok(())
@@ -66,9 +67,9 @@ impl<V, T> SystemData<V> for PhantomData<T> {
 
     ghost can_give = { λ _ _. Unit {0} };
 
-    ghost left_others = { λ w q e. refl };
+    ghost alike = { λ _ _. Unit {0} };
 
-    ghost given_others = { λ bundle w q e. refl };
+    ghost lawful = { lawful_reading };
 
     fn setup(_world: &mut World<V>) -> Result<(), AllocError> {
         Ok(())
@@ -107,9 +108,9 @@ impl<V, A: SystemData<V>, B: SystemData<V>> SystemData<V> for (A, B) {
 
     ghost can_give = { λ bundle w. B.can_give bundle.1 w × A.can_give bundle.0 (B.given bundle.1 w) };
 
-    ghost left_others = { λ w q e. both_leave A.left B.left A.write_ids B.write_ids w q (λ w h. A.left_others w q h) (λ w h. B.left_others w q h) e };
+    ghost alike = { λ bundle changed. A.alike bundle.0 changed.0 × B.alike bundle.1 changed.1 };
 
-    ghost given_others = { λ bundle w q e. both_given (A.given bundle.0) (B.given bundle.1) A.write_ids B.write_ids w q (λ w h. A.given_others bundle.0 w q h) (λ w h. B.given_others bundle.1 w q h) e };
+    ghost lawful = { lawful_both A.lawful B.lawful };
 
     fn setup(world: &mut World<V>) -> Result<(), AllocError> {
         A::setup(world)?;
@@ -164,9 +165,9 @@ impl<V, A: SystemData<V>> SystemData<V> for (A,) {
 
     ghost can_give = { λ bundle w. A.can_give bundle.0 w };
 
-    ghost left_others = { λ w q e. A.left_others w q e };
+    ghost alike = { λ bundle changed. A.alike bundle.0 changed.0 };
 
-    ghost given_others = { λ bundle w q e. A.given_others bundle.0 w q e };
+    ghost lawful = { lawful_by (λ bundle. bundle.0) A.lawful };
 
     fn setup(world: &mut World<V>) -> Result<(), AllocError> {
         A::setup(world)
@@ -208,9 +209,12 @@ impl<V, A: SystemData<V>, B: SystemData<V>, C: SystemData<V>> SystemData<V> for 
 
     ghost can_give = { λ bundle w. ⟦<((A, B), C) as SystemData<V>>⟧.can_give ((bundle.0, bundle.1), bundle.2) w };
 
-    ghost left_others = { λ w q e. both_leave (⟦<(A, B) as SystemData<V>>⟧.left) C.left (⟦<(A, B) as SystemData<V>>⟧.write_ids) C.write_ids w q (λ w h. both_leave (A.left) B.left (A.write_ids) B.write_ids w q (λ w h. A.left_others w q h) (λ w h. B.left_others w q h) h) (λ w h. C.left_others w q h) e };
+    ghost alike = { λ bundle changed. ⟦<((A, B), C) as SystemData<V>>⟧.alike
+        ((bundle.0, bundle.1), bundle.2)
+        ((changed.0, changed.1), changed.2) };
 
-    ghost given_others = { λ bundle w q e. both_given (⟦<(A, B) as SystemData<V>>⟧.given (bundle.0, bundle.1)) (C.given bundle.2) (⟦<(A, B) as SystemData<V>>⟧.write_ids) C.write_ids w q (λ w h. both_given (A.given bundle.0) (B.given bundle.1) (A.write_ids) B.write_ids w q (λ w h. A.given_others bundle.0 w q h) (λ w h. B.given_others bundle.1 w q h) h) (λ w h. C.given_others bundle.2 w q h) e };
+    ghost lawful = { lawful_by (λ bundle. ((bundle.0, bundle.1), bundle.2))
+        (lawful_both (lawful_both A.lawful B.lawful) C.lawful) };
 
     fn setup(world: &mut World<V>) -> Result<(), AllocError> {
         <((A, B), C) as SystemData<V>>::setup(world)
@@ -248,15 +252,21 @@ impl<V, A: SystemData<V>, B: SystemData<V>, C: SystemData<V>, D: SystemData<V>> 
 
     ghost left = { ⟦<((A, B, C), D) as SystemData<V>>⟧.left };
 
-    ghost fits = { λ bundle w. ⟦<((A, B, C), D) as SystemData<V>>⟧.fits ((bundle.0, bundle.1, bundle.2), bundle.3) w };
+    ghost fits = { λ bundle w. ⟦<((A, B, C), D) as SystemData<V>>⟧.fits
+        ((bundle.0, bundle.1, bundle.2), bundle.3) w };
 
-    ghost given = { λ bundle w. ⟦<((A, B, C), D) as SystemData<V>>⟧.given ((bundle.0, bundle.1, bundle.2), bundle.3) w };
+    ghost given = { λ bundle w. ⟦<((A, B, C), D) as SystemData<V>>⟧.given
+        ((bundle.0, bundle.1, bundle.2), bundle.3) w };
 
-    ghost can_give = { λ bundle w. ⟦<((A, B, C), D) as SystemData<V>>⟧.can_give ((bundle.0, bundle.1, bundle.2), bundle.3) w };
+    ghost can_give = { λ bundle w. ⟦<((A, B, C), D) as SystemData<V>>⟧.can_give
+        ((bundle.0, bundle.1, bundle.2), bundle.3) w };
 
-    ghost left_others = { λ w q e. both_leave (⟦<(A, B, C) as SystemData<V>>⟧.left) D.left (⟦<(A, B, C) as SystemData<V>>⟧.write_ids) D.write_ids w q (λ w h. both_leave (⟦<(A, B) as SystemData<V>>⟧.left) C.left (⟦<(A, B) as SystemData<V>>⟧.write_ids) C.write_ids w q (λ w h. both_leave (A.left) B.left (A.write_ids) B.write_ids w q (λ w h. A.left_others w q h) (λ w h. B.left_others w q h) h) (λ w h. C.left_others w q h) h) (λ w h. D.left_others w q h) e };
+    ghost alike = { λ bundle changed. ⟦<((A, B, C), D) as SystemData<V>>⟧.alike
+        ((bundle.0, bundle.1, bundle.2), bundle.3)
+        ((changed.0, changed.1, changed.2), changed.3) };
 
-    ghost given_others = { λ bundle w q e. both_given (⟦<(A, B, C) as SystemData<V>>⟧.given (bundle.0, bundle.1, bundle.2)) (D.given bundle.3) (⟦<(A, B, C) as SystemData<V>>⟧.write_ids) D.write_ids w q (λ w h. both_given (⟦<(A, B) as SystemData<V>>⟧.given (bundle.0, bundle.1)) (C.given bundle.2) (⟦<(A, B) as SystemData<V>>⟧.write_ids) C.write_ids w q (λ w h. both_given (A.given bundle.0) (B.given bundle.1) (A.write_ids) B.write_ids w q (λ w h. A.given_others bundle.0 w q h) (λ w h. B.given_others bundle.1 w q h) h) (λ w h. C.given_others bundle.2 w q h) h) (λ w h. D.given_others bundle.3 w q h) e };
+    ghost lawful = { lawful_by (λ bundle. (((bundle.0, bundle.1), bundle.2), bundle.3))
+        (lawful_both (lawful_both (lawful_both A.lawful B.lawful) C.lawful) D.lawful) };
 
     fn setup(world: &mut World<V>) -> Result<(), AllocError> {
         <((A, B, C), D) as SystemData<V>>::setup(world)
@@ -300,15 +310,22 @@ impl<
 
     ghost left = { ⟦<((A, B, C, D), E) as SystemData<V>>⟧.left };
 
-    ghost fits = { λ bundle w. ⟦<((A, B, C, D), E) as SystemData<V>>⟧.fits ((bundle.0, bundle.1, bundle.2, bundle.3), bundle.4) w };
+    ghost fits = { λ bundle w. ⟦<((A, B, C, D), E) as SystemData<V>>⟧.fits
+        ((bundle.0, bundle.1, bundle.2, bundle.3), bundle.4) w };
 
-    ghost given = { λ bundle w. ⟦<((A, B, C, D), E) as SystemData<V>>⟧.given ((bundle.0, bundle.1, bundle.2, bundle.3), bundle.4) w };
+    ghost given = { λ bundle w. ⟦<((A, B, C, D), E) as SystemData<V>>⟧.given
+        ((bundle.0, bundle.1, bundle.2, bundle.3), bundle.4) w };
 
-    ghost can_give = { λ bundle w. ⟦<((A, B, C, D), E) as SystemData<V>>⟧.can_give ((bundle.0, bundle.1, bundle.2, bundle.3), bundle.4) w };
+    ghost can_give = { λ bundle w. ⟦<((A, B, C, D), E) as SystemData<V>>⟧.can_give
+        ((bundle.0, bundle.1, bundle.2, bundle.3), bundle.4) w };
 
-    ghost left_others = { λ w q e. both_leave (⟦<(A, B, C, D) as SystemData<V>>⟧.left) E.left (⟦<(A, B, C, D) as SystemData<V>>⟧.write_ids) E.write_ids w q (λ w h. both_leave (⟦<(A, B, C) as SystemData<V>>⟧.left) D.left (⟦<(A, B, C) as SystemData<V>>⟧.write_ids) D.write_ids w q (λ w h. both_leave (⟦<(A, B) as SystemData<V>>⟧.left) C.left (⟦<(A, B) as SystemData<V>>⟧.write_ids) C.write_ids w q (λ w h. both_leave (A.left) B.left (A.write_ids) B.write_ids w q (λ w h. A.left_others w q h) (λ w h. B.left_others w q h) h) (λ w h. C.left_others w q h) h) (λ w h. D.left_others w q h) h) (λ w h. E.left_others w q h) e };
+    ghost alike = { λ bundle changed. ⟦<((A, B, C, D), E) as SystemData<V>>⟧.alike
+        ((bundle.0, bundle.1, bundle.2, bundle.3), bundle.4)
+        ((changed.0, changed.1, changed.2, changed.3), changed.4) };
 
-    ghost given_others = { λ bundle w q e. both_given (⟦<(A, B, C, D) as SystemData<V>>⟧.given (bundle.0, bundle.1, bundle.2, bundle.3)) (E.given bundle.4) (⟦<(A, B, C, D) as SystemData<V>>⟧.write_ids) E.write_ids w q (λ w h. both_given (⟦<(A, B, C) as SystemData<V>>⟧.given (bundle.0, bundle.1, bundle.2)) (D.given bundle.3) (⟦<(A, B, C) as SystemData<V>>⟧.write_ids) D.write_ids w q (λ w h. both_given (⟦<(A, B) as SystemData<V>>⟧.given (bundle.0, bundle.1)) (C.given bundle.2) (⟦<(A, B) as SystemData<V>>⟧.write_ids) C.write_ids w q (λ w h. both_given (A.given bundle.0) (B.given bundle.1) (A.write_ids) B.write_ids w q (λ w h. A.given_others bundle.0 w q h) (λ w h. B.given_others bundle.1 w q h) h) (λ w h. C.given_others bundle.2 w q h) h) (λ w h. D.given_others bundle.3 w q h) h) (λ w h. E.given_others bundle.4 w q h) e };
+    ghost lawful = { lawful_by (λ bundle. ((((bundle.0, bundle.1), bundle.2), bundle.3), bundle.4))
+        (lawful_both (lawful_both (lawful_both (lawful_both
+        A.lawful B.lawful) C.lawful) D.lawful) E.lawful) };
 
     fn setup(world: &mut World<V>) -> Result<(), AllocError> {
         <((A, B, C, D), E) as SystemData<V>>::setup(world)
@@ -358,15 +375,22 @@ impl<
 
     ghost left = { ⟦<((A, B, C, D, E), F) as SystemData<V>>⟧.left };
 
-    ghost fits = { λ bundle w. ⟦<((A, B, C, D, E), F) as SystemData<V>>⟧.fits ((bundle.0, bundle.1, bundle.2, bundle.3, bundle.4), bundle.5) w };
+    ghost fits = { λ bundle w. ⟦<((A, B, C, D, E), F) as SystemData<V>>⟧.fits
+        ((bundle.0, bundle.1, bundle.2, bundle.3, bundle.4), bundle.5) w };
 
-    ghost given = { λ bundle w. ⟦<((A, B, C, D, E), F) as SystemData<V>>⟧.given ((bundle.0, bundle.1, bundle.2, bundle.3, bundle.4), bundle.5) w };
+    ghost given = { λ bundle w. ⟦<((A, B, C, D, E), F) as SystemData<V>>⟧.given
+        ((bundle.0, bundle.1, bundle.2, bundle.3, bundle.4), bundle.5) w };
 
-    ghost can_give = { λ bundle w. ⟦<((A, B, C, D, E), F) as SystemData<V>>⟧.can_give ((bundle.0, bundle.1, bundle.2, bundle.3, bundle.4), bundle.5) w };
+    ghost can_give = { λ bundle w. ⟦<((A, B, C, D, E), F) as SystemData<V>>⟧.can_give
+        ((bundle.0, bundle.1, bundle.2, bundle.3, bundle.4), bundle.5) w };
 
-    ghost left_others = { λ w q e. both_leave (⟦<(A, B, C, D, E) as SystemData<V>>⟧.left) F.left (⟦<(A, B, C, D, E) as SystemData<V>>⟧.write_ids) F.write_ids w q (λ w h. both_leave (⟦<(A, B, C, D) as SystemData<V>>⟧.left) E.left (⟦<(A, B, C, D) as SystemData<V>>⟧.write_ids) E.write_ids w q (λ w h. both_leave (⟦<(A, B, C) as SystemData<V>>⟧.left) D.left (⟦<(A, B, C) as SystemData<V>>⟧.write_ids) D.write_ids w q (λ w h. both_leave (⟦<(A, B) as SystemData<V>>⟧.left) C.left (⟦<(A, B) as SystemData<V>>⟧.write_ids) C.write_ids w q (λ w h. both_leave (A.left) B.left (A.write_ids) B.write_ids w q (λ w h. A.left_others w q h) (λ w h. B.left_others w q h) h) (λ w h. C.left_others w q h) h) (λ w h. D.left_others w q h) h) (λ w h. E.left_others w q h) h) (λ w h. F.left_others w q h) e };
+    ghost alike = { λ bundle changed. ⟦<((A, B, C, D, E), F) as SystemData<V>>⟧.alike
+        ((bundle.0, bundle.1, bundle.2, bundle.3, bundle.4), bundle.5)
+        ((changed.0, changed.1, changed.2, changed.3, changed.4), changed.5) };
 
-    ghost given_others = { λ bundle w q e. both_given (⟦<(A, B, C, D, E) as SystemData<V>>⟧.given (bundle.0, bundle.1, bundle.2, bundle.3, bundle.4)) (F.given bundle.5) (⟦<(A, B, C, D, E) as SystemData<V>>⟧.write_ids) F.write_ids w q (λ w h. both_given (⟦<(A, B, C, D) as SystemData<V>>⟧.given (bundle.0, bundle.1, bundle.2, bundle.3)) (E.given bundle.4) (⟦<(A, B, C, D) as SystemData<V>>⟧.write_ids) E.write_ids w q (λ w h. both_given (⟦<(A, B, C) as SystemData<V>>⟧.given (bundle.0, bundle.1, bundle.2)) (D.given bundle.3) (⟦<(A, B, C) as SystemData<V>>⟧.write_ids) D.write_ids w q (λ w h. both_given (⟦<(A, B) as SystemData<V>>⟧.given (bundle.0, bundle.1)) (C.given bundle.2) (⟦<(A, B) as SystemData<V>>⟧.write_ids) C.write_ids w q (λ w h. both_given (A.given bundle.0) (B.given bundle.1) (A.write_ids) B.write_ids w q (λ w h. A.given_others bundle.0 w q h) (λ w h. B.given_others bundle.1 w q h) h) (λ w h. C.given_others bundle.2 w q h) h) (λ w h. D.given_others bundle.3 w q h) h) (λ w h. E.given_others bundle.4 w q h) h) (λ w h. F.given_others bundle.5 w q h) e };
+    ghost lawful = { lawful_by (λ bundle. (((((bundle.0, bundle.1), bundle.2), bundle.3), bundle.4), bundle.5))
+        (lawful_both (lawful_both (lawful_both (lawful_both (lawful_both
+        A.lawful B.lawful) C.lawful) D.lawful) E.lawful) F.lawful) };
 
     fn setup(world: &mut World<V>) -> Result<(), AllocError> {
         <((A, B, C, D, E), F) as SystemData<V>>::setup(world)
@@ -417,15 +441,23 @@ impl<
 
     ghost left = { ⟦<((A, B, C, D, E, F), G) as SystemData<V>>⟧.left };
 
-    ghost fits = { λ bundle w. ⟦<((A, B, C, D, E, F), G) as SystemData<V>>⟧.fits ((bundle.0, bundle.1, bundle.2, bundle.3, bundle.4, bundle.5), bundle.6) w };
+    ghost fits = { λ bundle w. ⟦<((A, B, C, D, E, F), G) as SystemData<V>>⟧.fits
+        ((bundle.0, bundle.1, bundle.2, bundle.3, bundle.4, bundle.5), bundle.6) w };
 
-    ghost given = { λ bundle w. ⟦<((A, B, C, D, E, F), G) as SystemData<V>>⟧.given ((bundle.0, bundle.1, bundle.2, bundle.3, bundle.4, bundle.5), bundle.6) w };
+    ghost given = { λ bundle w. ⟦<((A, B, C, D, E, F), G) as SystemData<V>>⟧.given
+        ((bundle.0, bundle.1, bundle.2, bundle.3, bundle.4, bundle.5), bundle.6) w };
 
-    ghost can_give = { λ bundle w. ⟦<((A, B, C, D, E, F), G) as SystemData<V>>⟧.can_give ((bundle.0, bundle.1, bundle.2, bundle.3, bundle.4, bundle.5), bundle.6) w };
+    ghost can_give = { λ bundle w. ⟦<((A, B, C, D, E, F), G) as SystemData<V>>⟧.can_give
+        ((bundle.0, bundle.1, bundle.2, bundle.3, bundle.4, bundle.5), bundle.6) w };
 
-    ghost left_others = { λ w q e. both_leave (⟦<(A, B, C, D, E, F) as SystemData<V>>⟧.left) G.left (⟦<(A, B, C, D, E, F) as SystemData<V>>⟧.write_ids) G.write_ids w q (λ w h. both_leave (⟦<(A, B, C, D, E) as SystemData<V>>⟧.left) F.left (⟦<(A, B, C, D, E) as SystemData<V>>⟧.write_ids) F.write_ids w q (λ w h. both_leave (⟦<(A, B, C, D) as SystemData<V>>⟧.left) E.left (⟦<(A, B, C, D) as SystemData<V>>⟧.write_ids) E.write_ids w q (λ w h. both_leave (⟦<(A, B, C) as SystemData<V>>⟧.left) D.left (⟦<(A, B, C) as SystemData<V>>⟧.write_ids) D.write_ids w q (λ w h. both_leave (⟦<(A, B) as SystemData<V>>⟧.left) C.left (⟦<(A, B) as SystemData<V>>⟧.write_ids) C.write_ids w q (λ w h. both_leave (A.left) B.left (A.write_ids) B.write_ids w q (λ w h. A.left_others w q h) (λ w h. B.left_others w q h) h) (λ w h. C.left_others w q h) h) (λ w h. D.left_others w q h) h) (λ w h. E.left_others w q h) h) (λ w h. F.left_others w q h) h) (λ w h. G.left_others w q h) e };
+    ghost alike = { λ bundle changed. ⟦<((A, B, C, D, E, F), G) as SystemData<V>>⟧.alike
+        ((bundle.0, bundle.1, bundle.2, bundle.3, bundle.4, bundle.5), bundle.6)
+        ((changed.0, changed.1, changed.2, changed.3, changed.4, changed.5), changed.6) };
 
-    ghost given_others = { λ bundle w q e. both_given (⟦<(A, B, C, D, E, F) as SystemData<V>>⟧.given (bundle.0, bundle.1, bundle.2, bundle.3, bundle.4, bundle.5)) (G.given bundle.6) (⟦<(A, B, C, D, E, F) as SystemData<V>>⟧.write_ids) G.write_ids w q (λ w h. both_given (⟦<(A, B, C, D, E) as SystemData<V>>⟧.given (bundle.0, bundle.1, bundle.2, bundle.3, bundle.4)) (F.given bundle.5) (⟦<(A, B, C, D, E) as SystemData<V>>⟧.write_ids) F.write_ids w q (λ w h. both_given (⟦<(A, B, C, D) as SystemData<V>>⟧.given (bundle.0, bundle.1, bundle.2, bundle.3)) (E.given bundle.4) (⟦<(A, B, C, D) as SystemData<V>>⟧.write_ids) E.write_ids w q (λ w h. both_given (⟦<(A, B, C) as SystemData<V>>⟧.given (bundle.0, bundle.1, bundle.2)) (D.given bundle.3) (⟦<(A, B, C) as SystemData<V>>⟧.write_ids) D.write_ids w q (λ w h. both_given (⟦<(A, B) as SystemData<V>>⟧.given (bundle.0, bundle.1)) (C.given bundle.2) (⟦<(A, B) as SystemData<V>>⟧.write_ids) C.write_ids w q (λ w h. both_given (A.given bundle.0) (B.given bundle.1) (A.write_ids) B.write_ids w q (λ w h. A.given_others bundle.0 w q h) (λ w h. B.given_others bundle.1 w q h) h) (λ w h. C.given_others bundle.2 w q h) h) (λ w h. D.given_others bundle.3 w q h) h) (λ w h. E.given_others bundle.4 w q h) h) (λ w h. F.given_others bundle.5 w q h) h) (λ w h. G.given_others bundle.6 w q h) e };
+    ghost lawful = { lawful_by
+        (λ bundle. ((((((bundle.0, bundle.1), bundle.2), bundle.3), bundle.4), bundle.5), bundle.6))
+        (lawful_both (lawful_both (lawful_both (lawful_both (lawful_both (lawful_both
+        A.lawful B.lawful) C.lawful) D.lawful) E.lawful) F.lawful) G.lawful) };
 
     fn setup(world: &mut World<V>) -> Result<(), AllocError> {
         <((A, B, C, D, E, F), G) as SystemData<V>>::setup(world)
@@ -478,15 +510,23 @@ impl<
 
     ghost left = { ⟦<((A, B, C, D, E, F, G), I) as SystemData<V>>⟧.left };
 
-    ghost fits = { λ bundle w. ⟦<((A, B, C, D, E, F, G), I) as SystemData<V>>⟧.fits ((bundle.0, bundle.1, bundle.2, bundle.3, bundle.4, bundle.5, bundle.6), bundle.7) w };
+    ghost fits = { λ bundle w. ⟦<((A, B, C, D, E, F, G), I) as SystemData<V>>⟧.fits
+        ((bundle.0, bundle.1, bundle.2, bundle.3, bundle.4, bundle.5, bundle.6), bundle.7) w };
 
-    ghost given = { λ bundle w. ⟦<((A, B, C, D, E, F, G), I) as SystemData<V>>⟧.given ((bundle.0, bundle.1, bundle.2, bundle.3, bundle.4, bundle.5, bundle.6), bundle.7) w };
+    ghost given = { λ bundle w. ⟦<((A, B, C, D, E, F, G), I) as SystemData<V>>⟧.given
+        ((bundle.0, bundle.1, bundle.2, bundle.3, bundle.4, bundle.5, bundle.6), bundle.7) w };
 
-    ghost can_give = { λ bundle w. ⟦<((A, B, C, D, E, F, G), I) as SystemData<V>>⟧.can_give ((bundle.0, bundle.1, bundle.2, bundle.3, bundle.4, bundle.5, bundle.6), bundle.7) w };
+    ghost can_give = { λ bundle w. ⟦<((A, B, C, D, E, F, G), I) as SystemData<V>>⟧.can_give
+        ((bundle.0, bundle.1, bundle.2, bundle.3, bundle.4, bundle.5, bundle.6), bundle.7) w };
 
-    ghost left_others = { λ w q e. both_leave (⟦<(A, B, C, D, E, F, G) as SystemData<V>>⟧.left) I.left (⟦<(A, B, C, D, E, F, G) as SystemData<V>>⟧.write_ids) I.write_ids w q (λ w h. both_leave (⟦<(A, B, C, D, E, F) as SystemData<V>>⟧.left) G.left (⟦<(A, B, C, D, E, F) as SystemData<V>>⟧.write_ids) G.write_ids w q (λ w h. both_leave (⟦<(A, B, C, D, E) as SystemData<V>>⟧.left) F.left (⟦<(A, B, C, D, E) as SystemData<V>>⟧.write_ids) F.write_ids w q (λ w h. both_leave (⟦<(A, B, C, D) as SystemData<V>>⟧.left) E.left (⟦<(A, B, C, D) as SystemData<V>>⟧.write_ids) E.write_ids w q (λ w h. both_leave (⟦<(A, B, C) as SystemData<V>>⟧.left) D.left (⟦<(A, B, C) as SystemData<V>>⟧.write_ids) D.write_ids w q (λ w h. both_leave (⟦<(A, B) as SystemData<V>>⟧.left) C.left (⟦<(A, B) as SystemData<V>>⟧.write_ids) C.write_ids w q (λ w h. both_leave (A.left) B.left (A.write_ids) B.write_ids w q (λ w h. A.left_others w q h) (λ w h. B.left_others w q h) h) (λ w h. C.left_others w q h) h) (λ w h. D.left_others w q h) h) (λ w h. E.left_others w q h) h) (λ w h. F.left_others w q h) h) (λ w h. G.left_others w q h) h) (λ w h. I.left_others w q h) e };
+    ghost alike = { λ bundle changed. ⟦<((A, B, C, D, E, F, G), I) as SystemData<V>>⟧.alike
+        ((bundle.0, bundle.1, bundle.2, bundle.3, bundle.4, bundle.5, bundle.6), bundle.7)
+        ((changed.0, changed.1, changed.2, changed.3, changed.4, changed.5, changed.6), changed.7) };
 
-    ghost given_others = { λ bundle w q e. both_given (⟦<(A, B, C, D, E, F, G) as SystemData<V>>⟧.given (bundle.0, bundle.1, bundle.2, bundle.3, bundle.4, bundle.5, bundle.6)) (I.given bundle.7) (⟦<(A, B, C, D, E, F, G) as SystemData<V>>⟧.write_ids) I.write_ids w q (λ w h. both_given (⟦<(A, B, C, D, E, F) as SystemData<V>>⟧.given (bundle.0, bundle.1, bundle.2, bundle.3, bundle.4, bundle.5)) (G.given bundle.6) (⟦<(A, B, C, D, E, F) as SystemData<V>>⟧.write_ids) G.write_ids w q (λ w h. both_given (⟦<(A, B, C, D, E) as SystemData<V>>⟧.given (bundle.0, bundle.1, bundle.2, bundle.3, bundle.4)) (F.given bundle.5) (⟦<(A, B, C, D, E) as SystemData<V>>⟧.write_ids) F.write_ids w q (λ w h. both_given (⟦<(A, B, C, D) as SystemData<V>>⟧.given (bundle.0, bundle.1, bundle.2, bundle.3)) (E.given bundle.4) (⟦<(A, B, C, D) as SystemData<V>>⟧.write_ids) E.write_ids w q (λ w h. both_given (⟦<(A, B, C) as SystemData<V>>⟧.given (bundle.0, bundle.1, bundle.2)) (D.given bundle.3) (⟦<(A, B, C) as SystemData<V>>⟧.write_ids) D.write_ids w q (λ w h. both_given (⟦<(A, B) as SystemData<V>>⟧.given (bundle.0, bundle.1)) (C.given bundle.2) (⟦<(A, B) as SystemData<V>>⟧.write_ids) C.write_ids w q (λ w h. both_given (A.given bundle.0) (B.given bundle.1) (A.write_ids) B.write_ids w q (λ w h. A.given_others bundle.0 w q h) (λ w h. B.given_others bundle.1 w q h) h) (λ w h. C.given_others bundle.2 w q h) h) (λ w h. D.given_others bundle.3 w q h) h) (λ w h. E.given_others bundle.4 w q h) h) (λ w h. F.given_others bundle.5 w q h) h) (λ w h. G.given_others bundle.6 w q h) h) (λ w h. I.given_others bundle.7 w q h) e };
+    ghost lawful = { lawful_by
+        (λ bundle. (((((((bundle.0, bundle.1), bundle.2), bundle.3), bundle.4), bundle.5), bundle.6), bundle.7))
+        (lawful_both (lawful_both (lawful_both (lawful_both (lawful_both (lawful_both (lawful_both
+        A.lawful B.lawful) C.lawful) D.lawful) E.lawful) F.lawful) G.lawful) I.lawful) };
 
     fn setup(world: &mut World<V>) -> Result<(), AllocError> {
         <((A, B, C, D, E, F, G), I) as SystemData<V>>::setup(world)

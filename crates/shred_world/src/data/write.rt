@@ -1,7 +1,8 @@
 //! Bundles of one resource that is written.
-ghost use Rattle.std.specs.Prelude.{◌≡◌, true, false, Option, Some, None, List, [], ◌∷◌, OnOk, OnErr, IfOk, IfErr, IsSome, is_ok, if◌then◌else◌, refl};
+ghost use Rattle.std.specs.Prelude.{◌≡◌, Some, None, [], ◌∷◌, OnOk, OnErr, IfOk, IfErr};
 ghost use Rattle.shred_world.specs.ResourceIds.{id_of};
-ghost use Rattle.shred_world.specs.Bundles.{with_slot, out, owned, lack_writing, HandlerSetsUp, with_slot_others};
+ghost use Rattle.shred_world.specs.Bundles.{with_slot, out, owned, lack_writing, HandlerSetsUp};
+ghost use Rattle.shred_world.specs.BundleLaws.{lawful_writing};
 
 use super::read::one_id;
 use crate::{
@@ -95,9 +96,9 @@ impl<V, R: Resource<V>, F: SetupHandler<V, R>> SystemData<V> for Write<R, F> {
 
     ghost can_give = { λ _ w. w (id_of R.kind_number 0) ≡ out };
 
-    ghost left_others = { λ w q e. with_slot_others w (id_of R.kind_number 0) out q e };
+    ghost alike = { λ _ _. Unit {0} };
 
-    ghost given_others = { λ bundle w q e. with_slot_others w (id_of R.kind_number 0) (owned (R.wrapped bundle.value)) q e };
+    ghost lawful = { lawful_writing (id_of R.kind_number 0) (λ bundle. R.wrapped bundle.value) };
 
     fn setup(world: &mut World<V>) -> Result<(), AllocError> {
         F::setup(world)

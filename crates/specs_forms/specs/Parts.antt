@@ -1,0 +1,21 @@
+-- The JSON forms of parts that may be absent, one after the other.
+use Rattle.std.specs.Prelude.{Bool, true, false, ◌||◌, List, [], ◌∷◌, Option, Some, None, if◌then◌else◌}
+use Rattle.serde_json.specs.Data.{Data, null, boolean, number, string, array, object}
+
+abbrev pub is_null : Data → Bool
+is_null null = true
+is_null (boolean b) = false
+is_null (number n) = false
+is_null (string s) = false
+is_null (array ds) = false
+is_null (object ms) = false
+
+-- the form of a part, null where it is absent
+abbrev pub part_form : {T : Type 0} → (T → Data) → Option T → List Data
+part_form form None = null ∷ []
+part_form form (Some part) = form part ∷ []
+
+-- what follows a part in a list, which begins with null or with its form
+abbrev pub part_rest : (Data → Bool) → List Data → Option (List Data)
+part_rest is_form [] = None
+part_rest is_form (d ∷ ds) = if is_null d || is_form d then Some ds else None

@@ -1,0 +1,3 @@
+pub mod NoteLemmas
+pub mod LastLemmas
+pub mod MarkingLemmas

@@ -1,0 +1,3 @@
+pub mod DeletingLemmas
+pub mod DroppingLemmas
+pub mod ResourceLemmas

@@ -1,0 +1,4 @@
+pub mod Resources
+pub mod Dropping
+pub mod Inserting
+pub mod Variants

@@ -1,0 +1,2 @@
+pub mod Tiring
+pub mod Values

@@ -1,0 +1,189 @@
+//! What callers of a world of entities come to: each story makes its calls, and answers whether all was as it should be.
+use crate::values::{Health, Speed, Value};
+use shred_world::World;
+use specs_entity::{Entity, Error};
+use specs_layouts::MaskedStorage;
+use specs_world::{WorldExt, WriteStorage};
+use std::alloc::Global;
+
+/// A story, by what it shows.
+#[derive(Clone, Copy, Debug, PartialEq, Eq)]
+pub enum Story {
+    /// An entity is built with a part, and has it.
+    BuiltWithParts,
+    /// A kind that is registered after entities were made has no part of one that was deleted.
+    RegisteredLate,
+    /// An entity whose index lives again is refused, and the new one's part stays.
+    StaleEntity,
+    /// A builder that is dropped has its entity deleted at the next merge.
+    DroppedBuilder,
+    /// A bundle's setup holds and registers the storage of a new kind.
+    SetUpByBundle,
+    /// A part of a kind that isn't registered is refused.
+    Unregistered,
+    /// All entities die, and no part is left.
+    AllDeleted,
+    /// Parts are dropped by index, and the entity lives on.
+    PartsDropped,
+}
+
+/// Every story.
+pub const STORIES: [Story; 8] = [
+    Story::BuiltWithParts,
+    Story::RegisteredLate,
+    Story::StaleEntity,
+    Story::DroppedBuilder,
+    Story::SetUpByBundle,
+    Story::Unregistered,
+    Story::AllDeleted,
+    Story::PartsDropped,
+];
+
+/// Whether a story is as it should be.
+pub fn holds(alloc: Global, story: Story) -> Result<bool, Error> {
+    match story {
+        Story::BuiltWithParts => built_with_parts(alloc),
+        Story::RegisteredLate => registered_late(alloc),
+        Story::StaleEntity => stale_entity(alloc),
+        Story::DroppedBuilder => dropped_builder(alloc),
+        Story::SetUpByBundle => set_up_by_bundle(alloc),
+        Story::Unregistered => unregistered(alloc),
+        Story::AllDeleted => all_deleted(alloc),
+        Story::PartsDropped => parts_dropped(alloc),
+    }
+}
+
+/// A world in which the kind of healths is registered.
+fn world_with_healths(alloc: Global) -> Result<World<Value>, Error> {
+    let mut world: World<Value> = WorldExt::new(alloc)?;
+    world.register::<Health>()?;
+    Ok(world)
+}
+
+/// Makes an entity with a health.
+fn with_health(world: &mut World<Value>, health: u32) -> Result<Entity, Error> {
+    match world.create_entity()?.with(Health(health)) {
+        Ok(builder) => Ok(builder.build()),
+        Err((error, _, _)) => Err(error),
+    }
+}
+
+/// Puts a speed at an entity.
+fn put_speed(world: &mut World<Value>, entity: Entity, speed: u32) -> Result<(), Error> {
+    match world.insert_part(entity, Speed(speed)) {
+        Ok(_) => Ok(()),
+        Err((error, _)) => Err(error),
+    }
+}
+
+/// The health at an entity's index.
+fn health_at(world: &World<Value>, entity: Entity) -> Option<Health> {
+    let storage = world.try_fetch::<MaskedStorage<Health>>()?;
+    if storage.contains(entity.id()) {
+        Some(*storage.get(entity.id()))
+    } else {
+        None
+    }
+}
+
+/// Whether an entity's index has a speed, or none where speeds have no storage.
+fn has_speed(world: &World<Value>, entity: Entity) -> Option<bool> {
+    let storage = world.try_fetch::<MaskedStorage<Speed>>()?;
+    Some(storage.contains(entity.id()))
+}
+
+/// Whether a refusal is that the entity isn't alive, and its index has that generation.
+fn is_wrong_generation(refused: &Result<(), Error>, entity: Entity, generation: i32) -> bool {
+    match refused {
+        Err(Error::WrongGeneration(wrong)) => {
+            wrong.entity == entity && wrong.actual_gen.id() == generation
+        }
+        _ => false,
+    }
+}
+
+fn built_with_parts(alloc: Global) -> Result<bool, Error> {
+    let mut world = world_with_healths(alloc)?;
+    let entity = with_health(&mut world, 7)?;
+    Ok(world.is_alive(entity) && health_at(&world, entity) == Some(Health(7)))
+}
+
+fn registered_late(alloc: Global) -> Result<bool, Error> {
+    let mut world = world_with_healths(alloc)?;
+    let entity = with_health(&mut world, 7)?;
+    world.register::<Speed>()?;
+    put_speed(&mut world, entity, 3)?;
+    let had = has_speed(&world, entity);
+    world.delete_entity(entity)?;
+    Ok(
+        had == Some(true)
+            && has_speed(&world, entity) == Some(false)
+            && health_at(&world, entity).is_none()
+            && !world.is_alive(entity),
+    )
+}
+
+fn stale_entity(alloc: Global) -> Result<bool, Error> {
+    let mut world = world_with_healths(alloc)?;
+    let stale = with_health(&mut world, 7)?;
+    world.delete_entity(stale)?;
+    let entity = with_health(&mut world, 9)?;
+    let refused = world.delete_entity(stale);
+    Ok(
+        entity.id() == stale.id()
+            && is_wrong_generation(&refused, stale, 2)
+            && world.is_alive(entity)
+            && health_at(&world, entity) == Some(Health(9)),
+    )
+}
+
+fn dropped_builder(alloc: Global) -> Result<bool, Error> {
+    let mut world = world_with_healths(alloc)?;
+    let dropped = world.create_entity()?.entity;
+    let lived = world.is_alive(dropped);
+    let deleted = world.merge()?;
+    Ok(lived && deleted.as_slice() == [dropped].as_slice() && !world.is_alive(dropped))
+}
+
+fn set_up_by_bundle(alloc: Global) -> Result<bool, Error> {
+    let mut world = world_with_healths(alloc)?;
+    let entity = with_health(&mut world, 7)?;
+    world.setup::<WriteStorage<Speed>>()?;
+    put_speed(&mut world, entity, 3)?;
+    world.delete_entity(entity)?;
+    Ok(has_speed(&world, entity) == Some(false))
+}
+
+fn unregistered(alloc: Global) -> Result<bool, Error> {
+    let mut world = world_with_healths(alloc)?;
+    let entity = with_health(&mut world, 7)?;
+    match put_speed(&mut world, entity, 3) {
+        Err(Error::NotRegistered) => Ok(has_speed(&world, entity).is_none()),
+        _ => Ok(false),
+    }
+}
+
+fn all_deleted(alloc: Global) -> Result<bool, Error> {
+    let mut world = world_with_healths(alloc)?;
+    let first = with_health(&mut world, 1)?;
+    let second = with_health(&mut world, 2)?;
+    world.delete_all()?;
+    Ok(
+        !world.is_alive(first)
+            && !world.is_alive(second)
+            && health_at(&world, first).is_none()
+            && health_at(&world, second).is_none(),
+    )
+}
+
+fn parts_dropped(alloc: Global) -> Result<bool, Error> {
+    let mut world = world_with_healths(alloc)?;
+    let first = with_health(&mut world, 1)?;
+    let second = with_health(&mut world, 2)?;
+    world.delete_components(&[first])?;
+    Ok(
+        world.is_alive(first)
+            && health_at(&world, first).is_none()
+            && health_at(&world, second) == Some(Health(2)),
+    )
+}
