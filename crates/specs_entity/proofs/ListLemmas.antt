@@ -5,7 +5,7 @@ use Rattle.std.specs.FinSet as fin
 use Rattle.std.specs.Ordering.{nat_cmp}
 use Rattle.std.specs.Cmp.{nat_eq_equiv, nat_cmp_total}
 use Rattle.std.specs.List.{IsDistinct, list_any, AllByRecursion, range_with_len}
-use Rattle.std.proofs.lemmas.Bool.{true≢false, false≢true, cases_eq, eq-eqb, false_from_ne_true}
+use Rattle.std.proofs.lemmas.Bool.{true≢false, false≢true, cases_eq, eq-eqb, eqb-true, false_from_ne_true}
 use Rattle.std.proofs.lemmas.List.{map_more}
 use Rattle.std.proofs.lemmas.List.Elements.{All-more, All-nil, All-get_or}
 use Rattle.std.proofs.lemmas.List.Folds.{list_any-append}
@@ -13,8 +13,8 @@ use Rattle.std.proofs.lemmas.Map.Keys.{IsDistinct-push}
 use Rattle.hibitset_sets.specs.Walk.{walk}
 use Rattle.hibitset_sets.proofs.CallerLemmas.{contains-with, contains-without}
 use Rattle.specs_entity.specs.Life.{Life, LifeAt, first_life}
-use Rattle.specs_entity.specs.Births.{Births, living, buried, settled, all_buried, all_settled, indices_of, CanKill, IsFirstFault, AreFresh}
-use Rattle.specs_entity.proofs.BirthLemmas.{bool-cases, not-equal, living-buried_other, distinct-front, any-right}
+use Rattle.specs_entity.specs.Births.{Births, living, buried, settled, all_buried, all_settled, indices_of, CanKill, IsFirstFault, AreFresh, LivesBut}
+use Rattle.specs_entity.proofs.BirthLemmas.{bool-cases, not-equal, living-buried, living-buried_other, distinct-front, any-right}
 
 -- ---- walks
 
@@ -249,3 +249,51 @@ pub settled-next : (births : Births) (entities : List LifeAt) (place : ℕ) (d :
 settled-next births entities place d within =
     ap (all_settled births) (indices-more entities place d within)
     ∙ all_settled-more births (indices_of (take place entities)) (get_or entities place d).id
+
+-- ---- who lives after deaths
+
+-- who is among the dead lives no more
+living-all_buried_in : (births : Births) (indices : List ℕ) (index : ℕ) → list_any (λ other. eqb index other) indices ≡ true → living (all_buried births indices) index ≡ None
+living-all_buried_in births [] index is = absurd (false≢true is)
+living-all_buried_in births (one ∷ indices) index is = elim (bool-cases (list_any (λ other. eqb index other) indices)) [
+  | inl later ↦ living-all_buried_in (buried births one) indices index later
+  | inr last ↦ elim (or-cases (eqb index one) (list_any (λ other. eqb index other) indices) is) [
+    | inl here ↦
+        living-all_buried (buried births one) indices index last
+        ∙ (ap (living (buried births one)) (eqb-true index one here) ∙ living-buried births one)
+    | inr later ↦ absurd (true≢false (sym later ∙ last))
+  ]
+]
+
+pub all_buried-lives : (births : Births) (indices : List ℕ) → LivesBut (λ index. list_any (λ other. eqb index other) indices) births (all_buried births indices)
+all_buried-lives births indices index = elim (bool-cases (list_any (λ other. eqb index other) indices)) [
+  | inl is ↦ living-all_buried_in births indices index is ∙ sym (ap (λ b. cond b None (living births index)) is)
+  | inr out ↦ living-all_buried births indices index out ∙ sym (ap (λ b. cond b None (living births index)) out)
+]
+
+-- a burial does with the deletion that was accepted
+deletions-all_buried : (births : Births) (indices : List ℕ) (index : ℕ) → fin.contains (all_buried births indices).deletions index ≡ true → (fin.contains births.deletions index ≡ true) × (list_any (λ other. eqb index other) indices ≡ false)
+deletions-all_buried births [] index is = (is, refl)
+deletions-all_buried births (one ∷ indices) index is =
+    let rest = deletions-all_buried (buried births one) indices index is in
+    let parts = both-true (not (eqb index one)) (fin.contains births.deletions index) (sym (contains-without births.deletions one index) ∙ rest.0) in
+    (parts.1, any-none (eqb index one) _ (not-true (eqb index one) parts.0) rest.1)
+  where
+    both-true : (a b : Bool) → (a && b) ≡ true → (a ≡ true) × (b ≡ true)
+    both-true true true e = (refl, refl)
+    both-true true false e = cc
+    both-true false b e = cc
+
+    not-true : (a : Bool) → not a ≡ true → a ≡ false
+    not-true true e = cc
+    not-true false e = refl
+
+    any-none : (a b : Bool) → a ≡ false → b ≡ false → (a || b) ≡ false
+    any-none a b e f = ap (λ x. x || b) e ∙ f
+
+-- where all accepted are buried no deletion is left
+pub deletions-done : (births : Births) (indices : List ℕ) → ((index : ℕ) → fin.contains births.deletions index ≡ true → list_any (λ other. eqb index other) indices ≡ true) → (all_buried births indices).deletions ≡ fin.empty
+deletions-done births indices all =
+    unmarked-empty (all_buried births indices).deletions (λ index is.
+    let was = deletions-all_buried births indices index is in
+    true≢false (sym (all index was.0) ∙ was.1))

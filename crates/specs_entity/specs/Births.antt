@@ -271,3 +271,11 @@ all_allocated number births = all_settled (all_created number births) (indices_o
 pub record AreFresh (births : Births) (entities : List Entity) : Type 0 where
   pub fresh : All (λ entity. set.contains births.fresh entity.id ≡ true) entities
   pub apart : IsDistinct (λ one other. one == other) (indices_of entities)
+
+-- who lived at these indices lives no more, and at each other index nothing changed
+abbrev pub LivesBut : (ℕ → Bool) → Births → Births → Type 0
+LivesBut gone before after = (index : ℕ) → living after index ≡ (if gone index then None else living before index)
+
+-- whether an index is that of an entity of a list
+abbrev pub is_named : List Entity → ℕ → Bool
+is_named entities index = list_any (λ other. index == other) (indices_of entities)
