@@ -52,7 +52,8 @@ where
             ⟦<MaskedStorage<T> as Held<V>>⟧.stands_at
             T.Storage.part_at T.Storage.events T.Storage.emits (W.slots self.entry.world.now)
             (W.slots refused.1.world.now)) }
-        ensures succeeds { AcceptsPart T.Storage.part_at T.Storage.emits (held W.entities_at (W.slots self.entry.world.now))
+        ensures succeeds { AcceptsPart T.Storage.part_at T.Storage.emits
+            (held W.entities_at (W.slots self.entry.world.now))
             (held ⟦<MaskedStorage<T> as Held<V>>⟧.stands_at (W.slots self.entry.world.now))
             self.entry.entity → IsOk result }
         ensures handed_back { IfErr result (λ refused. refused.2 ≡ part) }

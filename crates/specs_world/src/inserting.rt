@@ -64,7 +64,8 @@ where
         (Keeps T.Storage.part_at T.Storage.events T.Storage.emits) world.old world.new) }
     ensures handed_back { IfErr result (λ refused. refused.value ≡ part) }
     ensures succeeds { MatchOption (held ⟦<MaskedStorage<T> as Held<V>>⟧.stands_at world.old) ⊥
-        (λ storage. IsSome (T.Storage.part_at storage.inner id) × (T.Storage.emits storage.inner ≡ false)) → IsOk result }
+        (λ storage. IsSome (T.Storage.part_at storage.inner id) × (T.Storage.emits storage.inner ≡ false))
+        → IsOk result }
 {
     match world.get_mut::<MaskedStorage<T>>() {
         Some(storage) => match storage.insert(id, part) {

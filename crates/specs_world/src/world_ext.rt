@@ -107,7 +107,8 @@ where
     ///
     /// Errors: those of `EntitiesRes::allocate_iter`; `NotRegistered`, where the world has no entities. All leave the world as it was.
     fn create_iter(&mut self, count: usize) -> Result<CreateIter, Error>
-        ensures ok { IfOk result (λ entities. AllocatesAll entities_at count entities (slots self.old) (slots self.new)) }
+        ensures ok { IfOk result (λ entities. AllocatesAll entities_at count entities
+            (slots self.old) (slots self.new)) }
         ensures refused { IfErr result (RefusesBirthsIn count (held entities_at (slots self.old))) }
         ensures err { OnErr result (slots self.new ≡ slots self.old) };
 
