@@ -153,14 +153,15 @@ module _ {V : Type 0} (drops : V → List ℕ → V → Type 0) (w w1 w2 w3 : Sl
 
   pub merges-around : (births_part : V → Option Births) (wrapped : Births → V) (table : Place V (List ℕ)) (entities : List Entity) (births after : Births)
       → resource_at births_part w id ≡ Some births → v ≡ wrapped after → after ≡ merged births → entities ≡ all_deleted births
-      → LivesBut (fin.contains births.deletions) births after → after.deletions ≡ fin.empty → DropsComponents table drops entities w1 w2
+      → ((index : ℕ) → is_named entities index ≡ fin.contains births.deletions index) → LivesBut (fin.contains births.deletions) births after → after.deletions ≡ fin.empty → DropsComponents table drops entities w1 w2
       → MergesIn (record { part = births_part; wrapped = wrapped; id = id }) table drops entities w w3
-  merges-around births_part wrapped table entities births after there is merges dead lives done dropped = record {
+  merges-around births_part wrapped table entities births after there is merges dead named lives done dropped = record {
     births = births;
     kinds = dropped.kinds;
     alive_in = there;
     registered = table-there table dropped.kinds dropped.registered;
     dead = dead;
+    named = named;
     lives = subst (LivesBut (fin.contains births.deletions) births) merges lives;
     done = sym (ap (λ (b : Births). b.deletions) merges) ∙ done;
     deletes = entities-around births_part wrapped table entities (merged births) (is ∙ ap wrapped merges) dropped;
@@ -211,6 +212,6 @@ pub on_err_both : {T E P Q R : Type 0} (r : Result T E) → (P → Q → R) → 
 on_err_both (Ok t) f p q = tt
 on_err_both (Err e) f p q = f p q
 
-pub if_ok_all : {T E P L D : Type 0} {Q R S : T → Type 0} (r : Result T E) → ((t : T) → P → Q t → L → D → R t → S t) → OnOk r P → IfOk r Q → OnOk r L → OnOk r D → IfOk r R → IfOk r S
-if_ok_all (Ok t) f p q l d s = f t p q l d s
-if_ok_all (Err e) f p q l d s = tt
+pub if_ok_all : {T E P L D : Type 0} {Q N R S : T → Type 0} (r : Result T E) → ((t : T) → P → Q t → N t → L → D → R t → S t) → OnOk r P → IfOk r Q → IfOk r N → OnOk r L → OnOk r D → IfOk r R → IfOk r S
+if_ok_all (Ok t) f p q n l d s = f t p q n l d s
+if_ok_all (Err e) f p q n l d s = tt

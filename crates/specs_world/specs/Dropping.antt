@@ -77,6 +77,7 @@ pub record MergesIn {V : Type 0} (births_at : Place V Births) (table_at : Place 
   pub alive_in : held births_at before ≡ Some births
   pub registered : held table_at before ≡ Some kinds
   pub dead : deleted ≡ all_deleted births
+  pub named : (index : ℕ) → is_named deleted index ≡ set.contains births.deletions index
   pub lives : LivesBut (set.contains births.deletions) births (merged births)
   pub done : (merged births).deletions ≡ set.empty
   pub deletes : Deletes births_at table_at.id drops (merged births) kinds deleted before after
