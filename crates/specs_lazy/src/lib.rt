@@ -1,0 +1,15 @@
+//! Lazy jobs: changes of a world that wait in queues until the world is maintained.
+#![tactic(auto)]
+
+mod counting;
+pub mod job;
+pub mod lazy;
+pub mod maintained;
+mod queues;
+mod removing;
+pub mod shared;
+
+pub use job::{Insert, InsertAll, Job, Remove};
+pub use lazy::LazyUpdate;
+pub use maintained::Maintained;
+pub use shared::SharedLazy;
