@@ -43,6 +43,10 @@ pub record RunsNext {V J S : Type 0} (runs : J → Option Error → Slots V → 
   pub takes : TakesNext at shared job before taken
   pub ran : runs job refused taken after
 
+-- no job ran yet
+abbrev pub none_ran : Maintained
+none_ran = record { jobs = 0; failed = 0 }
+
 -- one more job ran, and failed if it was refused
 abbrev pub counted : Option Error → Maintained → Maintained
 counted None counts = record { jobs = counts.jobs + 1; failed = counts.failed }

@@ -7,6 +7,7 @@ pub mod lazy;
 pub mod maintained;
 mod queues;
 mod removing;
+mod running;
 pub mod shared;
 
 pub use job::{Insert, InsertAll, Job, Remove};
