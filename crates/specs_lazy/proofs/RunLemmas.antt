@@ -1,5 +1,5 @@
 -- Jobs that are still to run, at most so many.
-use Rattle.std.proofs.Common.{◌≡◌, ◌≢◌, ◌≤◌, ◌+◌, ℕ, suc, zero, arith, Option, Some, None, List, ◌⊎◌, inl, inr, Result, Ok, Err, refl, sym, subst}
+use Rattle.std.proofs.Common.{◌≡◌, ◌≢◌, ◌≤◌, ◌+◌, ℕ, suc, zero, arith, Option, Some, None, List, inl, inr, Result, Ok, Err, refl, sym, subst}
 use Rattle.shred_world.specs.Worlds.{Slots}
 use Rattle.specs_entity.specs.declared.errors.Error.{Error}
 use Rattle.specs_entity.specs.declared.errors.Error.TheVariants as variant

@@ -4,7 +4,7 @@ ghost use Rattle.specs_lazy.specs.Queues.{Adds, IsMadeOf};
 
 use crate::job::{Insert, InsertAll, Remove};
 use specs_entity::Entity;
-use specs_layouts::Component;
+use specs_layouts::{Component, TryDefault};
 use std::alloc::{AllocError, AllocFailed, Global};
 use std::collections::VecDeque;
 use std::marker::Model;
@@ -23,6 +23,19 @@ impl<J> Model for LazyUpdate<J> {
     ghost Value = { List J };
 
     ghost view = { λ lazy. lazy.jobs.items };
+}
+
+/// The default is a queue without jobs.
+impl<J> TryDefault for LazyUpdate<J> {
+    ghost use Rattle.std.specs.Prelude.{◌≡◌, [], true};
+
+    ghost is_default = { λ lazy. lazy ≡ [] };
+
+    ghost always = { true };
+
+    fn try_default(alloc: Global) -> Result<Self, &'static str> {
+        Ok(LazyUpdate::new(alloc))
+    }
 }
 
 impl<J> LazyUpdate<J> {

@@ -1,4 +1,5 @@
 //! Jobs that are run, at most so many.
+ghost use Rattle.std.specs.Prelude.{◌≤◌, IfOk};
 ghost use Rattle.specs_lazy.specs.Queues.{JobsRun, none_ran};
 
 use crate::counting::count;
@@ -23,8 +24,9 @@ pub(crate) fn run_jobs<V, J: Job<V>, R: Wait>(
 where
     LazyUpdate<J>: Resource<V>,
     SharedLazy<J>: Resource<V>,
-    ensures { JobsRun J.runs ⟦<LazyUpdate<J> as Held<V>>⟧.stands_at ⟦<SharedLazy<J> as Held<V>>⟧.stands_at
+    ensures runs { JobsRun J.runs ⟦<LazyUpdate<J> as Held<V>>⟧.stands_at ⟦<SharedLazy<J> as Held<V>>⟧.stands_at
         limit none_ran world.old result world.new }
+    ensures within { IfOk result (λ counts. (counts.jobs ≤ limit) × (counts.failed ≤ counts.jobs)) }
 {
     let mut counts = Maintained { jobs: 0, failed: 0 };
     for _ran in 0..limit {

@@ -5,8 +5,8 @@ use Rattle.specs_lazy.specs.Queues.{JobsRun, none_ran}
 use Rattle.specs_lazy.proofs.RunLemmas.{run-over, run-memory, run-on, counted-jobs, counted-failed}
 use Rattle.specs_lazy.proofs.running.run_jobs.Goals as goal
 
-pub returns-in_default : goal.returns-in_default
-returns-in_default g c =
+pub returns-in_default-clause-runs : goal.returns-in_default-clause-runs
+returns-in_default-clause-runs g c =
     let at = place g.bound-3.part g.bound-3.wrapped g.bound-3.kind_number in
     let shared = place g.bound-4.part g.bound-4.wrapped g.bound-4.kind_number in
     let loop = c.loop-ran in
@@ -14,8 +14,8 @@ returns-in_default g c =
     subst (JobsRun g.J.Job.runs at shared c.args.limit none_ran c.args.world.now (Ok loop.counts)) (sym c.in_default.ensures.none)
     (run-over g.J.Job.runs at shared c.args.limit c.args.world.now _ loop.counts loop.world loop.invariant.0 _ more c.in_default.ensures.waits)
 
-pub returns-in-Err : goal.returns-in-Err
-returns-in-Err g c =
+pub returns-in-Err-clause-runs : goal.returns-in-Err-clause-runs
+returns-in-Err-clause-runs g c =
     let at = place g.bound-3.part g.bound-3.wrapped g.bound-3.kind_number in
     let shared = place g.bound-4.part g.bound-4.wrapped g.bound-4.kind_number in
     let loop = c.loop-ran in
@@ -33,7 +33,8 @@ loop-ran-preserved g c =
     let jobs = counted-jobs (result_err c.in-Some.outcome) loop.counts in
     let failed = counted-failed (result_err c.in-Some.outcome) loop.counts in
     let ran = loop.invariant.1 in
-    let fewer = loop.invariant.2 in
-    (run-on g.J.Job.runs at shared c.args.limit c.args.world.now _ loop.counts loop.world loop.invariant.0 _ more _ c.run_next.new.world c.in-Some.ensures.some ok.0 _ ok.1,
-     ap (λ counts. counts.jobs) ok.1 ∙ jobs ∙ ap (λ n. n + 1) ran,
-     subst (λ counts. counts.failed ≤ counts.jobs) (sym ok.1) (omega arith))
+    let fewer = loop.invariant.2 in (
+      run-on g.J.Job.runs at shared c.args.limit c.args.world.now _ loop.counts loop.world loop.invariant.0 _ more _ c.run_next.new.world c.in-Some.ensures.some ok.0 _ ok.1,
+      ap (λ counts. counts.jobs) ok.1 ∙ jobs ∙ ap (λ n. n + 1) ran,
+      subst (λ counts. counts.failed ≤ counts.jobs) (sym ok.1) (omega arith),
+    )
