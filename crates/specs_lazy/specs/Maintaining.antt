@@ -5,21 +5,16 @@ use Rattle.shred_world.specs.Worlds.{Slots}
 use Rattle.specs_entity.specs.Births.{Births, none_born}
 use Rattle.specs_entity.specs.declared.ids.Entity.{Entity}
 use Rattle.specs_entity.specs.declared.errors.Error.{Error}
-use Rattle.specs_entity.specs.declared.errors.Error.TheVariants as variant
 use Rattle.specs_world.specs.Resources.{Place}
-use Rattle.specs_world.specs.Dropping.{MergesIn, Rests}
+use Rattle.specs_world.specs.Dropping.{MergesIn, RefusesMerge, Rests}
 use Rattle.specs_lazy.specs.declared.maintained.Maintained.{Maintained}
 use Rattle.specs_lazy.specs.Queues.{JobsRun, none_ran}
-
--- what a merge is refused for
-abbrev pub RefusesMerge : Error → Type 0
-RefusesMerge error = (error ≡ variant.NotRegistered) ⊎ (error ≡ variant.Memory)
 
 -- births were merged and the dead dropped, and then jobs ran; or the merge was refused, and parts and births are as they were
 abbrev pub Maintains : {V J S : Type 0} → Place V Births → Place V (List ℕ) → (V → List ℕ → V → Type 0) → (J → Option Error → Slots V → Slots V → Type 0) → Place V (List J) → Place V S → (limit : ℕ) → (before : Slots V) → Result Maintained Error → (after : Slots V) → Type 0
 Maintains {V} births_at table_at drops runs at shared limit before result after =
     ((deleted : List Entity) × (merged : Slots V) × MergesIn births_at table_at drops deleted before merged × JobsRun runs at shared limit none_ran merged result after)
-    ⊎ ((error : Error) × (result ≡ Err error) × RefusesMerge error × Rests drops before after)
+    ⊎ ((error : Error) × (result ≡ Err error) × RefusesMerge births_at table_at before error × Rests drops before after)
 
 -- a world without entities in which no kind is registered
 abbrev pub without_entities : {V : Type 0} → Place V Births → Place V (List ℕ) → Slots V

@@ -1,5 +1,6 @@
 //! Parts of a world that are dropped.
-ghost use Rattle.std.specs.Prelude.{◌≡◌, ◌<◌, OnOk, OnErr, IsSome};
+ghost use Rattle.std.specs.Prelude.{◌≡◌, ◌<◌, OnOk, OnErr, IsSome, true};
+ghost use Rattle.std.specs.Option.{MatchOption};
 ghost use Rattle.specs_world.specs.Resources.{held, Becomes};
 ghost use Rattle.specs_world.specs.Inserting.{Keeps};
 ghost use Rattle.specs_lazy.specs.Jobs.{IsDropped};
@@ -21,6 +22,8 @@ where
         (IsDropped C.Storage.part_at C.Storage.events C.Storage.emits id) world.old world.new) }
     ensures err { OnErr result (Becomes ⟦<MaskedStorage<C> as Held<V>>⟧.stands_at
         (Keeps C.Storage.part_at C.Storage.events C.Storage.emits) world.old world.new) }
+    ensures emits { OnErr result (MatchOption (held ⟦<MaskedStorage<C> as Held<V>>⟧.stands_at world.old) ⊥
+        (λ storage. C.Storage.emits storage.inner ≡ true)) }
 {
     match world.get_mut::<MaskedStorage<C>>() {
         Some(storage) => match storage.drop(id) {
