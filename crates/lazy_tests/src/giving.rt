@@ -1,5 +1,5 @@
 //! What a caller learns of a job that waits from the contracts of queues and worlds alone.
-ghost use Rattle.std.specs.Prelude.{◌≡◌, ◌++◌, ◌∷◌, [], Some, OnOk, OnErr, IfOk};
+ghost use Rattle.std.specs.Prelude.{◌≡◌, ◌++◌, ◌∷◌, [], Some, OnOk, IfOk, IsTrue};
 ghost use Rattle.std.specs.Option.{MatchOption};
 ghost use Rattle.specs_world.specs.Resources.{held, Becomes};
 ghost use Rattle.lazy_tests.specs.declared.tasks.Task.TheVariants.{PutHealth};
@@ -26,6 +26,16 @@ fn queue_health(world: &mut World<Value>, entity: Entity, health: u32) -> Result
             Err(_) => Err(Error::Memory),
         },
         None => Err(Error::NotRegistered),
+    }
+}
+
+/// Whether the world has a queue under the number 0, and no job waits there.
+pub fn is_ready(world: &World<Value>) -> bool
+    ensures { IsTrue result → held ⟦<LazyUpdate<Task> as Held<Value>>⟧.stands_at world.now ≡ Some [] }
+{
+    match world.try_fetch::<LazyUpdate<Task>>() {
+        Some(queue) => queue.is_empty(),
+        None => false,
     }
 }
 
