@@ -1,0 +1,119 @@
+//! What a part is in what is saved.
+ghost use Rattle.std.specs.Prelude.{◌≡◌, ◌⊎◌, ◌↔◌, List, Option, Some, None, IsSome, Ok, IfOk, IfErr, OnOk, OnErr, IsErrOf};
+ghost use Rattle.specs_entity.specs.declared.ids.Entity.{Entity};
+ghost use Rattle.specs_entity.specs.declared.errors.Error.TheVariants as refusal;
+ghost use Rattle.specs_saving.specs.Bearing.{Asks, IsAmong, Keeps};
+
+use crate::bearers::Bearers;
+use crate::names::Names;
+use specs_entity::{Entity, Error};
+use specs_forms::JsonForm;
+use std::alloc::Global;
+
+/// A value that is saved as data: where it names an entity, the data has the marker that stands for it.
+///
+/// The name and the calls are those of `specs`.
+pub trait ConvertSaveload<M>: Sized {
+    /// The data.
+    type Data: JsonForm;
+
+    /// The entities that a value names.
+    ghost entities: { Self → List Entity };
+
+    /// The markers that stand in data.
+    ghost markers: { Self.Data → List M };
+
+    /// The data of a value, under a map from entity to marker; none where it names an entity that has none.
+    ghost plain: { (Entity → Option M) → Self → Option Self.Data };
+
+    /// The value of data, under a map from marker to entity; none where a marker has none.
+    ghost loaded: { (M → Option Entity) → Self.Data → Option Self };
+
+    /// The data of the value.
+    ///
+    /// Errors: `Unmarked` if it names an entity that has no marker; `Memory`.
+    fn convert_into<N: Names<M>>(&self, alloc: Global, names: &N) -> Result<Self::Data, Error>
+        ensures ok { IfOk result (λ saved. plain (N.name names.now) self.now ≡ Some saved) }
+        ensures unmarked { IsErrOf result refusal.Unmarked → plain (N.name names.now) self.now ≡ None }
+        ensures refused { IfErr result (λ error. (error ≡ refusal.Unmarked) ⊎ (error ≡ refusal.Memory)) };
+
+    /// The value of data. Each marker in it stands for the entity that bears it, which is made where there is none.
+    ///
+    /// Errors: those of `bearer`, and `Memory`. Each bearer that was known stays so.
+    fn convert_from<B: Bearers<M>>(
+        saved: Self::Data,
+        alloc: Global,
+        bearers: &mut B,
+    ) -> Result<Self, Error>
+        ensures ok { IfOk result (λ value. loaded (B.bearer_of bearers.new) saved ≡ Some value) }
+        ensures asks { OnOk result (Asks B.bearer_of B.lives B.sound (markers saved) bearers.old bearers.new) }
+        ensures err { OnErr result (Keeps B.bearer_of bearers.old bearers.new) };
+
+    /// A value has data just where each entity that it names has a marker.
+    ghost named: { (names : Entity → Option M) (value : Self)
+        → IsSome (plain names value) ↔ ((entity : Entity) → IsAmong entity (entities value) → IsSome (names entity)) };
+
+    /// Under a map that knows more bearers, data has the value that it had.
+    ghost kept: { (one other : M → Option Entity) (saved : Self.Data) (value : Self)
+        → ((marker : M) (entity : Entity) → one marker ≡ Some entity → other marker ≡ Some entity)
+        → loaded one saved ≡ Some value → loaded other saved ≡ Some value };
+
+    /// What was loaded is saved as it was, where each bearer has just the marker that it is known by.
+    ghost back: { (bearers : M → Option Entity) (names : Entity → Option M) (saved : Self.Data) (value : Self)
+        → ((marker : M) (entity : Entity) → bearers marker ≡ Some entity → names entity ≡ Some marker)
+        → loaded bearers saved ≡ Some value → plain names value ≡ Some saved };
+}
+
+/// The data of a value that names no entity: the value itself.
+///
+/// Errors: `Memory`.
+pub fn plain_into<T: Clone>(value: &T) -> Result<T, Error>
+    ensures ok { IfOk result (T.is_clone value.now) }
+    ensures refused { IfErr result (λ error. error ≡ refusal.Memory) }
+{
+    Ok(value.clone()?)
+}
+
+/// The value of data that names no entity: the data itself.
+pub fn plain_from<T>(saved: T) -> Result<T, Error>
+    ensures { result ≡ Ok saved }
+{
+    Ok(saved)
+}
+
+/// An entity is saved as the marker that stands for it.
+impl<M: JsonForm> ConvertSaveload<M> for Entity {
+    type Data = M;
+
+    ghost use Rattle.std.specs.Prelude.{[], ◌∷◌};
+    ghost use Rattle.specs_saving.specs.NamingLemmas.{one-named};
+
+    ghost entities = { λ entity. entity ∷ [] };
+
+    ghost markers = { λ marker. marker ∷ [] };
+
+    ghost plain = { λ names entity. names entity };
+
+    ghost loaded = { λ bearers marker. bearers marker };
+
+    fn convert_into<N: Names<M>>(&self, _alloc: Global, names: &N) -> Result<M, Error> {
+        match names.name(*self)? {
+            Some(marker) => Ok(marker),
+            None => Err(Error::Unmarked),
+        }
+    }
+
+    fn convert_from<B: Bearers<M>>(
+        saved: M,
+        _alloc: Global,
+        bearers: &mut B,
+    ) -> Result<Entity, Error> {
+        bearers.bearer(saved)
+    }
+
+    ghost named = { one-named };
+
+    ghost kept = { λ one other marker entity more is. more marker entity is };
+
+    ghost back = { λ bearers names marker entity same is. same marker entity is };
+}

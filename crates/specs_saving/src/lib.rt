@@ -1,0 +1,10 @@
+//! Saving and loading: the marked entities of a world as a list of data, and entities made of such a list.
+#![tactic(auto)]
+
+pub mod bearers;
+pub mod convert;
+pub mod names;
+
+pub use bearers::Bearers;
+pub use convert::{ConvertSaveload, plain_from, plain_into};
+pub use names::{Marks, Names, SavedMarker};
