@@ -18,10 +18,10 @@ pub trait ConvertSaveload<M>: Sized {
     type Data: JsonForm;
 
     /// The entities that a value names.
-    ghost entities: { Self → List Entity };
+    ghost refers_to: { Self → List Entity };
 
     /// The markers that stand in data.
-    ghost markers: { Self.Data → List M };
+    ghost markers_of: { Self.Data → List M };
 
     /// The data of a value, under a map from entity to marker; none where it names an entity that has none.
     ghost plain: { (Entity → Option M) → Self → Option Self.Data };
@@ -46,12 +46,12 @@ pub trait ConvertSaveload<M>: Sized {
         bearers: &mut B,
     ) -> Result<Self, Error>
         ensures ok { IfOk result (λ value. loaded (B.bearer_of bearers.new) saved ≡ Some value) }
-        ensures asks { OnOk result (Asks B.bearer_of B.lives B.sound (markers saved) bearers.old bearers.new) }
+        ensures asks { OnOk result (Asks B.bearer_of B.lives B.sound (markers_of saved) bearers.old bearers.new) }
         ensures err { OnErr result (Keeps B.bearer_of bearers.old bearers.new) };
 
     /// A value has data just where each entity that it names has a marker.
     ghost named: { (names : Entity → Option M) (value : Self)
-        → IsSome (plain names value) ↔ ((entity : Entity) → IsAmong entity (entities value) → IsSome (names entity)) };
+        → IsSome (plain names value) ↔ ((entity : Entity) → IsAmong entity (refers_to value) → IsSome (names entity)) };
 
     /// Under a map that knows more bearers, data has the value that it had.
     ghost kept: { (one other : M → Option Entity) (saved : Self.Data) (value : Self)
@@ -88,9 +88,9 @@ impl<M: JsonForm> ConvertSaveload<M> for Entity {
     ghost use Rattle.std.specs.Prelude.{[], ◌∷◌};
     ghost use Rattle.specs_saving.specs.NamingLemmas.{one-named};
 
-    ghost entities = { λ entity. entity ∷ [] };
+    ghost refers_to = { λ entity. entity ∷ [] };
 
-    ghost markers = { λ marker. marker ∷ [] };
+    ghost markers_of = { λ marker. marker ∷ [] };
 
     ghost plain = { λ names entity. names entity };
 

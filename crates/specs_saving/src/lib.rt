@@ -4,7 +4,9 @@
 pub mod bearers;
 pub mod convert;
 pub mod names;
+pub mod serialize;
 
 pub use bearers::Bearers;
 pub use convert::{ConvertSaveload, plain_from, plain_into};
 pub use names::{Marks, Names, SavedMarker};
+pub use serialize::SerializeComponents;

@@ -50,6 +50,7 @@ pub trait Names<M> {
 }
 
 /// The markers that living entities bear.
+#[derive(Clone, Copy)]
 pub struct Marks<'a, M: Marker> {
     /// The entities.
     pub entities: &'a EntitiesRes,
