@@ -23,7 +23,13 @@ impl<K> Model for Adding<K> {
 
     ghost Value = { Placing K };
 
-    ghost view = { λ adding. record { number = adding.number; reads = adding.reads.items; writes = adding.writes.items; after = adding.after.items; time = units_of adding.time } };
+    ghost view = { λ adding. record {
+      number = adding.number;
+      reads = adding.reads.items;
+      writes = adding.writes.items;
+      after = adding.after.items;
+      time = units_of adding.time;
+    } };
 }
 
 impl<K: PartialEq + Drop> Adding<K> {
@@ -37,7 +43,13 @@ impl<K: PartialEq + Drop> Adding<K> {
         after: Vec<u32>,
         time: RunningTime,
     ) -> Adding<K>
-        ensures { result ≡ record { number = number; reads = reads.items; writes = writes.items; after = after.items; time = units_of time } }
+        ensures { result ≡ record {
+          number = number;
+          reads = reads.items;
+          writes = writes.items;
+          after = after.items;
+          time = units_of time;
+        } }
     {
         Adding {
             number,

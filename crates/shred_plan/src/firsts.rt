@@ -53,7 +53,8 @@ impl Firsts {
 
     /// The first stage before which all numbers of a list stand; none where one of them stands nowhere.
     pub(crate) fn ready(&self, numbers: &[u32]) -> Option<usize>
-        ensures { (place : ℕ) → place < 2 ^ 63 → list_all (λ number. stood_before self.now.stages number place) numbers.now
+        ensures { (place : ℕ) → place < 2 ^ 63
+            → list_all (λ number. stood_before self.now.stages number place) numbers.now
             ≡ option_map_or (λ ready. nat_le ready place) result false }
     {
         let mut ready: usize = 0;
@@ -70,7 +71,8 @@ impl Firsts {
     ///
     /// Errors: want of memory.
     pub(crate) fn rest_of(&self, numbers: &[u32], stage: usize) -> Result<Vec<u32>, AllocError>
-        ensures { IfOk result (λ rest. rest.items ≡ filter (λ number. not (stood_before self.now.stages number stage)) numbers.now) }
+        ensures { IfOk result (λ rest. rest.items
+            ≡ filter (λ number. not (stood_before self.now.stages number stage)) numbers.now) }
     {
         let mut rest = Vec::new(self.alloc);
         for number in numbers {

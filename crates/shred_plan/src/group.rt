@@ -23,7 +23,8 @@ impl<K> Model for Group<K> {
 
     ghost view = { λ group. group.systems.items };
 
-    ghost invariant = { λ group. (group.time ≡ time_of group.systems.items) × (length group.systems.items ≤ 4) × (group.time ≤ 5 * length group.systems.items) };
+    ghost invariant = { λ group. (group.time ≡ time_of group.systems.items) × (length group.systems.items ≤ 4)
+        × (group.time ≤ 5 * length group.systems.items) };
 }
 
 impl<K: PartialEq + Drop> Group<K> {
@@ -153,7 +154,8 @@ fn strike_one(numbers: &mut Vec<u32>, number: u32)
 
 /// The first place of a number in the list.
 fn place_of(numbers: &[u32], number: u32) -> Option<usize>
-    ensures { MatchOption result (without numbers.now number ≡ numbers.now) (λ place. (place < length numbers.now) × (without numbers.now number ≡ remove numbers.now place)) }
+    ensures { MatchOption result (without numbers.now number ≡ numbers.now)
+        (λ place. (place < length numbers.now) × (without numbers.now number ≡ remove numbers.now place)) }
 {
     for (place, other) in numbers.iter().enumerate() {
         if *other == number {

@@ -65,7 +65,8 @@ fn unite_all<K: Ord>(
     table: &BTreeMap<K, StageSet>,
     ids: &[K],
 ) -> Result<(), AllocError>
-    ensures { OnOk result ((place : ℕ) → has_stage set.new place ≡ (has_stage set.old place || list_any (λ id. has_for K.cmp table.now id place) ids.now)) }
+    ensures { OnOk result ((place : ℕ) → has_stage set.new place
+        ≡ (has_stage set.old place || list_any (λ id. has_for K.cmp table.now id place) ids.now)) }
 {
     for id in ids {
         if let Some(stages) = table.get(id) {

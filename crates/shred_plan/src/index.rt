@@ -42,7 +42,8 @@ impl<K: Ord + Clone + Drop> Index<K> {
     ///
     /// Errors: want of memory.
     pub(crate) fn blocked(&self, adding: &Adding<K>) -> Result<StageSet, AllocError>
-        ensures { IfOk result (λ set. (place : ℕ) → has_stage set place ≡ finds K.cmp self.now.stages adding.now place) }
+        ensures { IfOk result (λ set. (place : ℕ) → has_stage set place
+            ≡ finds K.cmp self.now.stages adding.now place) }
     {
         self.stages.found(adding)
     }
@@ -62,7 +63,8 @@ impl<K: Ord + Clone + Drop> Index<K> {
     pub(crate) fn note(&mut self, adding: &Adding<K>, stage: usize) -> Result<(), AllocError>
         ensures stages { OnOk result (Marks K.cmp K.eq self.old.stages self.new.stages adding.now stage) }
         ensures firsts { OnOk result ((number place : ℕ) → stood_before self.new.firsts.stages number place
-            ≡ (stood_before self.old.firsts.stages number place || (nat_lt stage place && (adding.now.number == number)))) }
+            ≡ (stood_before self.old.firsts.stages number place
+            || (nat_lt stage place && (adding.now.number == number)))) }
         ensures kept { OnOk result ((self.new.seats ≡ self.old.seats) × (self.new.loose ≡ self.old.loose)) }
     {
         self.stages.mark(adding, stage)?;
@@ -81,16 +83,20 @@ impl<K: Ord + Clone + Drop> Index<K> {
     ///
     /// Errors: want of memory.
     pub(crate) fn note_loose(&mut self, stage: usize) -> Result<(), AllocError>
-        ensures kept { (self.new.stages ≡ self.old.stages) × (self.new.seats ≡ self.old.seats) × (self.new.firsts ≡ self.old.firsts) }
-        ensures loose { OnOk result ((place : ℕ) → has_stage self.new.loose place ≡ (has_stage self.old.loose place || (stage == place))) }
+        ensures kept { (self.new.stages ≡ self.old.stages) × (self.new.seats ≡ self.old.seats)
+            × (self.new.firsts ≡ self.old.firsts) }
+        ensures loose { OnOk result ((place : ℕ) → has_stage self.new.loose place
+            ≡ (has_stage self.old.loose place || (stage == place))) }
     {
         self.loose.insert(stage)
     }
 
     /// Keeps that a stage lets no system join a group.
     pub(crate) fn note_tight(&mut self, stage: usize)
-        ensures kept { (self.new.stages ≡ self.old.stages) × (self.new.seats ≡ self.old.seats) × (self.new.firsts ≡ self.old.firsts) }
-        ensures loose { (place : ℕ) → has_stage self.new.loose place ≡ (has_stage self.old.loose place && not (stage == place)) }
+        ensures kept { (self.new.stages ≡ self.old.stages) × (self.new.seats ≡ self.old.seats)
+            × (self.new.firsts ≡ self.old.firsts) }
+        ensures loose { (place : ℕ) → has_stage self.new.loose place
+            ≡ (has_stage self.old.loose place && not (stage == place)) }
     {
         self.loose.remove(stage);
     }

@@ -25,7 +25,8 @@ pub fn systems_stay<K: PartialEq + Drop>()
 
 /// What is added after a barrier stands in stages of its own, behind the plan of what was added before it.
 pub fn barriers_hold<K: PartialEq + Drop>()
-    ensures { (list later : List (Added K)) → EndsWith (plan K.eq list) (systems_added later) (plan K.eq (list ++ fence ∷ later)) }
+    ensures { (list later : List (Added K)) → EndsWith (plan K.eq list) (systems_added later)
+        (plan K.eq (list ++ fence ∷ later)) }
 {}
 
 /// Where each system comes after systems that were added before it, those stand in an earlier stage or earlier in its group.

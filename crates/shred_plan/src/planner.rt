@@ -172,7 +172,8 @@ impl<K: Ord + Clone + Drop> Planner<K> {
 
     /// The place of a system among the stages that there are; none where it needs a new one.
     fn place(&self, adding: &Adding<K>) -> Result<Option<Place>, AllocError>
-        ensures value { IfOk result (λ place. placed K.eq self.now.first adding.now adding.now.after self.now.stages ≡ placed_at adding.now self.now.stages place) }
+        ensures value { IfOk result (λ place. placed K.eq self.now.first adding.now adding.now.after self.now.stages
+            ≡ placed_at adding.now self.now.stages place) }
         ensures fits { IfOk result (λ place. IsPlace self.now.stages place) }
     {
         if let Some(index) = &self.index {
@@ -186,7 +187,8 @@ impl<K: Ord + Clone + Drop> Planner<K> {
 
     /// The place of a system, found by a look at each stage.
     fn walked_place(&self, adding: &Adding<K>) -> Result<Option<Place>, AllocError>
-        ensures value { IfOk result (λ place. placed K.eq self.now.first adding.now adding.now.after self.now.stages ≡ placed_at adding.now self.now.stages place) }
+        ensures value { IfOk result (λ place. placed K.eq self.now.first adding.now adding.now.after self.now.stages
+            ≡ placed_at adding.now self.now.stages place) }
         ensures fits { IfOk result (λ place. IsPlace self.now.stages place) }
     {
         let mut rest = Vec::from_slice(self.alloc, adding.after())?;
@@ -207,7 +209,8 @@ impl<K: Ord + Clone + Drop> Planner<K> {
     ) -> Result<Option<Place>, AllocError>
         requires keeps { Keeps K.cmp K.eq index.now self.now.stages }
         requires distinct { IsDistinct nat_eq adding.now.after }
-        ensures { IfOk result (λ place. IsFirst K.eq self.now.first adding.now self.now.stages 0 (length self.now.stages) place) }
+        ensures { IfOk result (λ place. IsFirst K.eq self.now.first adding.now self.now.stages
+            0 (length self.now.stages) place) }
     {
         let count = self.stages.len();
         let Some(ready) = index.firsts().ready(adding.after()) else {
@@ -237,7 +240,8 @@ impl<K: Ord + Clone + Drop> Planner<K> {
         requires blocks { Blocks K.eq adding.now self.now.stages blocked.now }
         requires readies { Readies adding.now self.now.stages (Some ready) }
         requires distinct { IsDistinct nat_eq adding.now.after }
-        ensures { IfOk result (λ place. IsFirst K.eq self.now.first adding.now self.now.stages 0 (min ready (length self.now.stages)) place) }
+        ensures { IfOk result (λ place. IsFirst K.eq self.now.first adding.now self.now.stages
+            0 (min ready (length self.now.stages)) place) }
     {
         if ready <= self.first || ready > self.stages.len() {
             return Ok(None);
@@ -269,8 +273,10 @@ impl<K: Ord + Clone + Drop> Planner<K> {
         requires blocks { Blocks K.eq adding.now self.now.stages blocked.now }
         requires reached { self.now.first ≤ start }
         requires within { start ≤ length self.now.stages }
-        requires ready { (place : ℕ) → start ≤ place → place < length self.now.stages → (length (rest_at adding.now self.now.stages place) == 0) ≡ true }
-        ensures { IfOk result (λ place. IsFirst K.eq self.now.first adding.now self.now.stages start (length self.now.stages) place) }
+        requires ready { (place : ℕ) → start ≤ place → place < length self.now.stages
+            → (length (rest_at adding.now self.now.stages place) == 0) ≡ true }
+        ensures { IfOk result (λ place. IsFirst K.eq self.now.first adding.now self.now.stages
+            start (length self.now.stages) place) }
     {
         let end = self.stages.len();
         let free = blocked.first_outside(start, end);
@@ -299,8 +305,10 @@ impl<K: Ord + Clone + Drop> Planner<K> {
         requires reached { self.now.first ≤ start }
         requires order { start ≤ end }
         requires within { end ≤ length self.now.stages }
-        requires blocked { (place : ℕ) → start ≤ place → place < end → is_blocked K.eq adding.now (stage_at self.now.stages place) ≡ true }
-        requires ready { (place : ℕ) → start ≤ place → place < end → (length (rest_at adding.now self.now.stages place) == 0) ≡ true }
+        requires blocked { (place : ℕ) → start ≤ place → place < end
+            → is_blocked K.eq adding.now (stage_at self.now.stages place) ≡ true }
+        requires ready { (place : ℕ) → start ≤ place → place < end
+            → (length (rest_at adding.now self.now.stages place) == 0) ≡ true }
         ensures { IfOk result (λ place. IsFirst K.eq self.now.first adding.now self.now.stages start end place) }
     {
         let mut place = index.next_loose(start, end);
@@ -428,7 +436,8 @@ impl<K: Ord + Clone + Drop> Planner<K> {
     /// Whether the stage of a place may let a system join a group once it has taken one in there.
     fn loosens(&self, adding: &Adding<K>, place: Option<Place>) -> bool
         requires { IsPlace self.now.stages place }
-        ensures { result ≡ false → (at : ℕ) → is_loose (stage_at self.now.stages at) ≡ false → is_loose (stage_at (placed_at adding.now self.now.stages place) at) ≡ false }
+        ensures { result ≡ false → (at : ℕ) → is_loose (stage_at self.now.stages at) ≡ false
+            → is_loose (stage_at (placed_at adding.now self.now.stages place) at) ≡ false }
     {
         match place {
             None => false,
@@ -458,7 +467,8 @@ impl<K: Ord + Clone + Drop> Planner<K> {
         adding: &Adding<K>,
         rest: &[u32],
     ) -> Result<Option<Way>, AllocError>
-        ensures { IfOk result (λ way. way ≡ (if self.now.first - index == 0 then admitted K.eq adding.now rest.now stage.now else None)) }
+        ensures { IfOk result (λ way. way ≡ (if self.now.first - index == 0
+            then admitted K.eq adding.now rest.now stage.now else None)) }
     {
         if index < self.first {
             Ok(None)
@@ -470,7 +480,10 @@ impl<K: Ord + Clone + Drop> Planner<K> {
     /// Lets a stage take a system in. The index is given up.
     fn take(&mut self, place: Place, adding: Adding<K>) -> Result<(), AllocFailed<Adding<K>>>
         requires { IsPlace self.old.stages (Some place) }
-        ensures ok { OnOk result (self.new ≡ record { first = self.old.first; stages = placed_at adding self.old.stages (Some place) }) }
+        ensures ok { OnOk result (self.new ≡ record {
+          first = self.old.first;
+          stages = placed_at adding self.old.stages (Some place);
+        }) }
         ensures err { OnErr result (self.new ≡ self.old) }
         ensures handed_back { IfErr result (λ refused. refused.value ≡ adding) }
     {
@@ -482,7 +495,10 @@ impl<K: Ord + Clone + Drop> Planner<K> {
 
     /// Puts a system into a new stage. The index is given up.
     fn open(&mut self, adding: Adding<K>) -> Result<(), AllocFailed<Adding<K>>>
-        ensures ok { OnOk result (self.new ≡ record { first = self.old.first; stages = self.old.stages ++ ((adding ∷ []) ∷ []) ∷ [] }) }
+        ensures ok { OnOk result (self.new ≡ record {
+          first = self.old.first;
+          stages = self.old.stages ++ ((adding ∷ []) ∷ []) ∷ [];
+        }) }
         ensures err { OnErr result (self.new ≡ self.old) }
         ensures handed_back { IfErr result (λ refused. refused.value ≡ adding) }
     {

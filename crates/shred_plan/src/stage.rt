@@ -170,7 +170,8 @@ impl<K: PartialEq + Drop> Stage<K> {
         adding: &Adding<K>,
         rest: &[u32],
     ) -> Result<Option<usize>, AllocError>
-        ensures { IfOk result (λ place. place ≡ position (λ group. completes rest.now group && joins adding.now self.now group) self.now) }
+        ensures { IfOk result (λ place. place
+            ≡ position (λ group. completes rest.now group && joins adding.now self.now group) self.now) }
     {
         for (place, group) in self.groups().iter().enumerate() {
             if self.may_complete(alloc, adding, rest, group)? {
@@ -188,7 +189,8 @@ impl<K: PartialEq + Drop> Stage<K> {
         rest: &[u32],
         group: &Group<K>,
     ) -> Result<bool, AllocError>
-        ensures { IfOk result (λ answer. answer ≡ (completes rest.now group.now && joins adding.now self.now group.now)) }
+        ensures { IfOk result (λ answer. answer
+            ≡ (completes rest.now group.now && joins adding.now self.now group.now)) }
     {
         if !self.may_join(adding, group) {
             return Ok(false);

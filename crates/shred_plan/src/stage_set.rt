@@ -66,7 +66,8 @@ impl StageSet {
     ///
     /// Errors: want of memory.
     pub(crate) fn insert(&mut self, stage: usize) -> Result<(), AllocError>
-        ensures { OnOk result ((place : ℕ) → has_stage self.new place ≡ (has_stage self.old place || (stage == place))) }
+        ensures { OnOk result ((place : ℕ) → has_stage self.new place
+            ≡ (has_stage self.old place || (stage == place))) }
     {
         self.grow(stage / WORD_STAGES + 1)?;
         self.words[stage / WORD_STAGES] |= 1 << (stage % WORD_STAGES);
@@ -87,7 +88,8 @@ impl StageSet {
     /// Errors: want of memory.
     fn grow(&mut self, count: usize) -> Result<(), AllocError>
         ensures ok { OnOk result (count ≤ length self.new.words.items) }
-        ensures same { OnOk result ((place : ℕ) → slice_index self.new.words.items place ≡ slice_index self.old.words.items place) }
+        ensures same { OnOk result ((place : ℕ) → slice_index self.new.words.items place
+            ≡ slice_index self.old.words.items place) }
     {
         if self.words.len() < count {
             self.words.resize(count, 0)?;
@@ -99,7 +101,8 @@ impl StageSet {
     ///
     /// Errors: want of memory.
     pub(crate) fn unite(&mut self, other: &StageSet) -> Result<(), AllocError>
-        ensures { OnOk result ((place : ℕ) → has_stage self.new place ≡ (has_stage self.old place || has_stage other.now place)) }
+        ensures { OnOk result ((place : ℕ) → has_stage self.new place
+            ≡ (has_stage self.old place || has_stage other.now place)) }
     {
         self.grow(other.words.len())?;
         for (place, word) in other.words.iter().enumerate() {

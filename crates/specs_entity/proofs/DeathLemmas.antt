@@ -3,16 +3,18 @@ use Rattle.std.proofs.Common.{◌≡◌, ℕ, zero, suc, ◌+◌, ◌<◌, List,
 use Rattle.std.specs.Prelude.{IfSome}
 use Rattle.std.specs.FinSet as fin
 use Rattle.std.specs.Ordering.{nat_cmp}
-use Rattle.std.specs.List.{All, AllByRecursion, IsDistinct, range_with_len}
+use Rattle.std.specs.List.{All, AllByRecursion, IsDistinct, list_any, range_with_len}
 use Rattle.std.proofs.lemmas.List.Elements.{All-map, All-weaker, filter_passes}
+use Rattle.std.proofs.lemmas.List.Folds.{list_any_none}
+use Rattle.std.proofs.lemmas.Bool.{true≢false}
 use Rattle.hibitset_sets.specs.Walk.{walk, is_pending}
-use Rattle.hibitset_sets.proofs.CallerLemmas.{contains-without, walk-without}
+use Rattle.hibitset_sets.proofs.CallerLemmas.{any-walk, contains-without, walk-without}
 use Rattle.specs_entity.specs.Life.{Life, LifeAt, first_life}
 use Rattle.specs_entity.specs.Births.{Births, CanKill, all_deleted, all_living, entity_at, indices_of, living, persistent_at}
 use Rattle.specs_entity.specs.Layout.{AreBirths}
 use Rattle.specs_entity.specs.Emptied.{GaveFirst, still_in}
 use Rattle.specs_entity.specs.declared.emptying.Emptying.{Emptying}
-use Rattle.specs_entity.proofs.BirthLemmas.{bool-cases, not-equal}
+use Rattle.specs_entity.proofs.BirthLemmas.{bool-cases, not-equal, used-living}
 use Rattle.specs_entity.proofs.ListLemmas.{walk-rest}
 
 -- ---- walks
@@ -111,3 +113,14 @@ CanKill-same lives lives' entities same can =
       alive = All-weaker (λ (e : LifeAt). lives e.id ≡ Some e.generation) (λ (e : LifeAt). lives' e.id ≡ Some e.generation) (λ e is. same e.id ∙ is) entities can.alive;
       apart = can.apart;
     }
+
+-- a walk over the accepted deletions comes to just these
+pub walked-deletions : (births : Births) → AreBirths births → (index : ℕ) → list_any (λ other. eqb index other) (walk (fin.contains births.deletions)) ≡ fin.contains births.deletions index
+walked-deletions births kept index = elim (bool-cases (fin.contains births.deletions index)) [
+  | inl is ↦ any-walk (fin.contains births.deletions) index (let used = used-living births kept index (kept.deletions index is) in let few = kept.used in let limit = kept.indices in omega arith) is ∙ sym is
+  | inr out ↦
+      list_any_none (λ other. eqb index other) (walk (fin.contains births.deletions))
+      (All-weaker (λ i. fin.contains births.deletions i ≡ true) (λ i. eqb index i ≡ false)
+      (λ i member. not-equal index i (λ same. true≢false (sym member ∙ ap (fin.contains births.deletions) (sym same) ∙ out)))
+      (walk (fin.contains births.deletions)) (walk-members (fin.contains births.deletions))) ∙ sym out
+]

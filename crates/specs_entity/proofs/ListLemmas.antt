@@ -5,7 +5,7 @@ use Rattle.std.specs.FinSet as fin
 use Rattle.std.specs.Ordering.{nat_cmp}
 use Rattle.std.specs.Cmp.{nat_eq_equiv, nat_cmp_total}
 use Rattle.std.specs.List.{IsDistinct, list_any, AllByRecursion, range_with_len}
-use Rattle.std.proofs.lemmas.Bool.{true≢false, false≢true, cases_eq, eq-eqb, false_from_ne_true}
+use Rattle.std.proofs.lemmas.Bool.{true≢false, false≢true, cases_eq, eq-eqb, eqb-true, false_from_ne_true}
 use Rattle.std.proofs.lemmas.List.{map_more}
 use Rattle.std.proofs.lemmas.List.Elements.{All-more, All-nil, All-get_or}
 use Rattle.std.proofs.lemmas.List.Folds.{list_any-append}
@@ -13,8 +13,8 @@ use Rattle.std.proofs.lemmas.Map.Keys.{IsDistinct-push}
 use Rattle.hibitset_sets.specs.Walk.{walk}
 use Rattle.hibitset_sets.proofs.CallerLemmas.{contains-with, contains-without}
 use Rattle.specs_entity.specs.Life.{Life, LifeAt, first_life}
-use Rattle.specs_entity.specs.Births.{Births, living, buried, settled, all_buried, all_settled, indices_of, CanKill, IsFirstFault}
-use Rattle.specs_entity.proofs.BirthLemmas.{bool-cases, not-equal, living-buried_other, distinct-front, any-right}
+use Rattle.specs_entity.specs.Births.{Births, living, buried, settled, all_buried, all_settled, indices_of, CanKill, IsFirstFault, AreFresh, LivesBut}
+use Rattle.specs_entity.proofs.BirthLemmas.{bool-cases, not-equal, living-buried, living-buried_other, distinct-front, any-right}
 
 -- ---- walks
 
@@ -194,11 +194,14 @@ indices-take zero entities = refl
 indices-take (suc n) [] = refl
 indices-take (suc n) (entity ∷ entities) = ap (λ xs. entity.id ∷ xs) (indices-take n entities)
 
--- in a list that can be killed the index at a place isn't among those before it
-pub apart-before : (lives : ℕ → Option Life) (entities : List LifeAt) (place : ℕ) (d : LifeAt) → place < length entities → CanKill lives entities → list_any (λ other. eqb (get_or entities place d).id other) (indices_of (take place entities)) ≡ false
-apart-before lives entities place d within can =
-    let front = subst (IsDistinct eqb) (sym (indices-take (place + 1) entities) ∙ indices-more entities place d within) (distinct-take (place + 1) (indices_of entities) can.apart) in
+-- in a list that names none twice the index at a place isn't among those before it
+apart-in : (entities : List LifeAt) (place : ℕ) (d : LifeAt) → place < length entities → IsDistinct eqb (indices_of entities) → list_any (λ other. eqb (get_or entities place d).id other) (indices_of (take place entities)) ≡ false
+apart-in entities place d within apart =
+    let front = subst (IsDistinct eqb) (sym (indices-take (place + 1) entities) ∙ indices-more entities place d within) (distinct-take (place + 1) (indices_of entities) apart) in
     (distinct-front (indices_of (take place entities)) (get_or entities place d).id front).1
+
+pub apart-before : (lives : ℕ → Option Life) (entities : List LifeAt) (place : ℕ) (d : LifeAt) → place < length entities → CanKill lives entities → list_any (λ other. eqb (get_or entities place d).id other) (indices_of (take place entities)) ≡ false
+apart-before lives entities place d within can = apart-in entities place d within can.apart
 
 some-entity : LifeAt
 some-entity = record { id = 0; generation = first_life }
@@ -221,3 +224,76 @@ pub buried-next : (births : Births) (entities : List LifeAt) (place : ℕ) (d : 
 buried-next births entities place d within =
     ap (all_buried births) (indices-more entities place d within)
     ∙ all_buried-more births (indices_of (take place entities)) (get_or entities place d).id
+
+-- ---- runs of births that become persistent
+
+pub all_settled-more : (births : Births) (indices : List ℕ) (index : ℕ) → all_settled births (indices ++ index ∷ []) ≡ settled (all_settled births indices) index
+all_settled-more births [] index = refl
+all_settled-more births (one ∷ indices) index = all_settled-more (settled births one) indices index
+
+-- a birth at an index that isn't among them stays fresh
+fresh-all_settled : (births : Births) (indices : List ℕ) (index : ℕ) → list_any (λ other. eqb index other) indices ≡ false → fin.contains (all_settled births indices).fresh index ≡ fin.contains births.fresh index
+fresh-all_settled births [] index out = refl
+fresh-all_settled births (one ∷ indices) index out =
+    let ne : index ≢ one = λ e. true≢false (sym (any-head (eqb index one) (list_any (λ other. eqb index other) indices) (eq-eqb index one e)) ∙ out) in
+    fresh-all_settled (settled births one) indices index (any-tail (eqb index one) (list_any (λ other. eqb index other) indices) out)
+    ∙ (contains-without births.fresh one index ∙ ap (λ b. not b && fin.contains births.fresh index) (not-equal index one ne))
+
+-- after those before it became persistent the birth at a place is fresh
+pub fresh-next : (births : Births) (entities : List LifeAt) (place : ℕ) (d : LifeAt) → place < length entities → AreFresh births entities → fin.contains (all_settled births (indices_of (take place entities))).fresh (get_or entities place d).id ≡ true
+fresh-next births entities place d within are =
+    fresh-all_settled births (indices_of (take place entities)) (get_or entities place d).id (apart-in entities place d within are.apart)
+    ∙ All-get_or (λ (x : LifeAt). fin.contains births.fresh x.id ≡ true) entities place d within are.fresh
+
+pub settled-next : (births : Births) (entities : List LifeAt) (place : ℕ) (d : LifeAt) → place < length entities → all_settled births (indices_of (take (place + 1) entities)) ≡ settled (all_settled births (indices_of (take place entities))) (get_or entities place d).id
+settled-next births entities place d within =
+    ap (all_settled births) (indices-more entities place d within)
+    ∙ all_settled-more births (indices_of (take place entities)) (get_or entities place d).id
+
+-- ---- who lives after deaths
+
+-- who is among the dead lives no more
+living-all_buried_in : (births : Births) (indices : List ℕ) (index : ℕ) → list_any (λ other. eqb index other) indices ≡ true → living (all_buried births indices) index ≡ None
+living-all_buried_in births [] index is = absurd (false≢true is)
+living-all_buried_in births (one ∷ indices) index is = elim (bool-cases (list_any (λ other. eqb index other) indices)) [
+  | inl later ↦ living-all_buried_in (buried births one) indices index later
+  | inr last ↦ elim (or-cases (eqb index one) (list_any (λ other. eqb index other) indices) is) [
+    | inl here ↦
+        living-all_buried (buried births one) indices index last
+        ∙ (ap (living (buried births one)) (eqb-true index one here) ∙ living-buried births one)
+    | inr later ↦ absurd (true≢false (sym later ∙ last))
+  ]
+]
+
+pub all_buried-lives : (births : Births) (indices : List ℕ) → LivesBut (λ index. list_any (λ other. eqb index other) indices) births (all_buried births indices)
+all_buried-lives births indices index = elim (bool-cases (list_any (λ other. eqb index other) indices)) [
+  | inl is ↦ living-all_buried_in births indices index is ∙ sym (ap (λ b. cond b None (living births index)) is)
+  | inr out ↦ living-all_buried births indices index out ∙ sym (ap (λ b. cond b None (living births index)) out)
+]
+
+-- a burial does with the deletion that was accepted
+deletions-all_buried : (births : Births) (indices : List ℕ) (index : ℕ) → fin.contains (all_buried births indices).deletions index ≡ true → (fin.contains births.deletions index ≡ true) × (list_any (λ other. eqb index other) indices ≡ false)
+deletions-all_buried births [] index is = (is, refl)
+deletions-all_buried births (one ∷ indices) index is =
+    let rest = deletions-all_buried (buried births one) indices index is in
+    let parts = both-true (not (eqb index one)) (fin.contains births.deletions index) (sym (contains-without births.deletions one index) ∙ rest.0) in
+    (parts.1, any-none (eqb index one) _ (not-true (eqb index one) parts.0) rest.1)
+  where
+    both-true : (a b : Bool) → (a && b) ≡ true → (a ≡ true) × (b ≡ true)
+    both-true true true e = (refl, refl)
+    both-true true false e = cc
+    both-true false b e = cc
+
+    not-true : (a : Bool) → not a ≡ true → a ≡ false
+    not-true true e = cc
+    not-true false e = refl
+
+    any-none : (a b : Bool) → a ≡ false → b ≡ false → (a || b) ≡ false
+    any-none a b e f = ap (λ x. x || b) e ∙ f
+
+-- where all accepted are buried no deletion is left
+pub deletions-done : (births : Births) (indices : List ℕ) → ((index : ℕ) → fin.contains births.deletions index ≡ true → list_any (λ other. eqb index other) indices ≡ true) → (all_buried births indices).deletions ≡ fin.empty
+deletions-done births indices all =
+    unmarked-empty (all_buried births indices).deletions (λ index is.
+    let was = deletions-all_buried births indices index is in
+    true≢false (sym (all index was.0) ∙ was.1))

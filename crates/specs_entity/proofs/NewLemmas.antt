@@ -1,21 +1,23 @@
 -- What a birth brings: an entity that was never born before, which then lives.
-use Rattle.std.proofs.Common.{◌≡◌, ◌≢◌, ℕ, zero, suc, ◌+◌, ◌<◌, ◌≤◌, List, [], ◌∷◌, ◌++◌, Bool, true, false, cond, eqb, length, get_or, Option, Some, None, inl, inr, refl, sym, ap, ◌∙◌, subst, arith, get_or-set_same}
+use Rattle.std.proofs.Common.{All, ◌≡◌, ◌≢◌, ℕ, zero, suc, ◌+◌, ◌<◌, ◌≤◌, List, [], ◌∷◌, ◌++◌, Bool, true, false, cond, eqb, length, get_or, Option, Some, None, inl, inr, refl, sym, ap, ◌∙◌, subst, arith, get_or-set_same}
 use Rattle.std.specs.Prelude.{◌==◌}
 use Rattle.std.specs.FinSet as fin
 use Rattle.std.specs.Cmp.{nat_eq_equiv}
 use Rattle.std.specs.List.{IsDistinct, list_any}
-use Rattle.std.proofs.lemmas.Bool.{cases_eq}
+use Rattle.std.proofs.lemmas.Bool.{cases_eq, eq-eqb}
 use Rattle.std.proofs.lemmas.List.{map-append}
 use Rattle.std.proofs.lemmas.List.Elements.{All-nil, All-push, All-weaker, All-map}
 use Rattle.std.proofs.lemmas.List.Folds.{list_any_none}
 use Rattle.std.proofs.lemmas.Map.Keys.{IsDistinct-push}
 use Rattle.specs_entity.specs.Life.{Life, LifeAt}
-use Rattle.specs_entity.specs.Births.{Births, persistent_at, living, living_of, alive_of, count, number_of, next_life, with_next_taken, next_index, newborn, allocated, created, IndicesAreSpent, IsBorn, IsAlive, Continues, AreNew, CanCreate, all_created, newborns, indices_of}
+use Rattle.specs_entity.specs.Births.{Births, persistent_at, living, living_of, alive_of, count, number_of, next_life, with_next_taken, next_index, newborn, allocated, created, IndicesAreSpent, IsBorn, IsAlive, Continues, AreNew, CanCreate, all_created, newborns, indices_of, LivesOn, BringsToLife, AreFresh}
 use Rattle.specs_entity.specs.Layout.{AreBirths}
 use Rattle.specs_entity.proofs.CreateLemmas.{AreBirths-all_created}
 use Rattle.specs_entity.proofs.LawLemmas.{continues-through}
+use Rattle.hibitset_sets.proofs.CallerLemmas.{contains-with}
 use Rattle.specs_entity.proofs.ListLemmas.{CanKill-nil}
-use Rattle.specs_entity.proofs.BirthLemmas.{none-some, not-equal, some-same, more-none, next-taken, dead-lasting, living-lasting, living-fresh, count-lasting, count-fresh, living-with_life, count-with_life, living-freshened, fresh-same, fresh-other}
+use Rattle.specs_entity.proofs.DeathLemmas.{CanKill-same}
+use Rattle.specs_entity.proofs.BirthLemmas.{none-some, not-equal, some-same, more-none, next-taken, dead-lasting, living-lasting, living-fresh, count-lasting, count-fresh, living-with_life, count-with_life, living-freshened, fresh-same, fresh-other, any-right}
 
 pub born-stays : (before after : Births) (entity : LifeAt) → Continues before after → IsBorn before entity → IsBorn after entity
 born-stays before after entity goes born = (born.0, born.1, (let more = goes.births entity.id in let low = born.2 in omega arith))
@@ -104,10 +106,33 @@ other-index births kept left entity alive here =
     (sym (next-taken births kept left).free.dead ∙ taken-lives births kept left (next_index births) ∙ ap (living births) (sym here) ∙ alive)
 
 -- who lives before a birth lives after it
-still-lives : (births : Births) (kept : AreBirths births) (left : ¬ (IndicesAreSpent births)) (entity : LifeAt) → IsAlive births entity → IsAlive (created births) entity
+pub still-lives : (births : Births) (kept : AreBirths births) (left : ¬ (IndicesAreSpent births)) → LivesOn births (created births)
 still-lives births kept left entity alive =
     living-freshened (with_next_taken births) (next_index births) entity.id (other-index births kept left entity alive)
     ∙ (taken-lives births kept left entity.id ∙ alive)
+
+pub allocated-live_on : (births : Births) (kept : AreBirths births) (left : ¬ (IndicesAreSpent births)) → LivesOn births (allocated births)
+allocated-live_on births kept left entity alive =
+    living-with_life (with_next_taken births) (next_index births) (newborn births).generation entity.id (other-index births kept left entity alive)
+    ∙ (taken-lives births kept left entity.id ∙ alive)
+
+-- where the newborn lives, and each other index is as it was
+brings : (births : Births) (entity : LifeAt) (after : Births) → IsAlive after entity → ((other : ℕ) → other ≢ entity.id → living after other ≡ living births other) → BringsToLife births entity after
+brings births entity after alive others index =
+    elim (cases_eq index entity.id) [
+      | inl e ↦ ap (living after) e ∙ alive ∙ sym (ap (λ b. cond b (Some entity.generation) (living births index)) (eq-eqb index entity.id e))
+      | inr ne ↦ others index ne ∙ sym (ap (λ b. cond b (Some entity.generation) (living births index)) (not-equal index entity.id ne))
+    ]
+
+pub created-brings : (births : Births) (kept : AreBirths births) (left : ¬ (IndicesAreSpent births)) → BringsToLife births (newborn births) (created births)
+created-brings births kept left =
+    brings births (newborn births) (created births) (created-lives births kept left)
+    (λ other ne. living-freshened (with_next_taken births) (next_index births) other ne ∙ taken-lives births kept left other)
+
+pub allocated-brings : (births : Births) (kept : AreBirths births) (left : ¬ (IndicesAreSpent births)) → BringsToLife births (newborn births) (allocated births)
+allocated-brings births kept left =
+    brings births (newborn births) (allocated births) (allocated-lives births kept left)
+    (λ other ne. living-with_life (with_next_taken births) (next_index births) (newborn births).generation other ne ∙ taken-lives births kept left other)
 
 pub continues-same : (births : Births) → Continues births births
 continues-same births = record { births = λ index. omega arith; lives = λ index life is. inl is }
@@ -145,3 +170,33 @@ newborns-new (suc more) births kept can =
         apart = subst (IsDistinct eqb) (sym (map-append (λ (e : LifeAt). e.id) list (one ∷ []))) (IsDistinct-push nat_eq_equiv (indices_of list) one.id earlier.live.apart apart);
       };
     }
+
+pub all_created-live_on : (number : ℕ) (births : Births) → AreBirths births → CanCreate number births → LivesOn births (all_created number births)
+all_created-live_on zero births kept can entity alive = alive
+all_created-live_on (suc more) births kept can entity alive =
+    still-lives (all_created more births) (AreBirths-all_created more births kept can.0) can.1 entity (all_created-live_on more births kept can.0 entity alive)
+
+-- a fresh birth stays so by the next
+fresh-stays : (births : Births) (index : ℕ) → fin.contains births.fresh index ≡ true → fin.contains (created births).fresh index ≡ true
+fresh-stays births index is = contains-with births.fresh (next_index births) index ∙ any-right (eqb index (next_index births)) _ is
+
+newborns-fresh-all : (number : ℕ) (births : Births) → All (λ (e : LifeAt). fin.contains (all_created number births).fresh e.id ≡ true) (newborns number births)
+newborns-fresh-all zero births = All-nil (λ (e : LifeAt). fin.contains births.fresh e.id ≡ true)
+newborns-fresh-all (suc more) births =
+    let before : Births = all_created more births in
+    All-push (λ (e : LifeAt). fin.contains (created before).fresh e.id ≡ true) (newborns more births) (newborn before)
+    (All-weaker (λ (e : LifeAt). fin.contains before.fresh e.id ≡ true) (λ (e : LifeAt). fin.contains (created before).fresh e.id ≡ true) (λ e is. fresh-stays before e.id is) (newborns more births) (newborns-fresh-all more births))
+    (fresh-same (with_next_taken before) (next_index before))
+
+pub newborns-fresh : (number : ℕ) (births : Births) → AreBirths births → CanCreate number births → AreFresh (all_created number births) (newborns number births)
+newborns-fresh number births kept can =
+    record { fresh = newborns-fresh-all number births; apart = (newborns-new number births kept can).live.apart }
+
+-- who lives on does so where nobody began to live or died since
+pub live_on-same : (before between after : Births) → LivesOn before between → ((index : ℕ) → living after index ≡ living between index) → LivesOn before after
+live_on-same before between after on same entity alive = same entity.id ∙ on entity alive
+
+-- entities that are new stay so where nobody began to live or died since
+pub new-same : (before between after : Births) (entities : List LifeAt) → AreNew before entities between → ((index : ℕ) → living after index ≡ living between index) → AreNew before entities after
+new-same before between after entities new same =
+    record { unborn = new.unborn; range = new.range; live = CanKill-same (living between) (living after) entities same new.live }

@@ -254,3 +254,28 @@ pub record AreNew (before : Births) (entities : List Entity) (after : Births) : 
   pub unborn : All (λ entity. ¬ (IsBorn before entity)) entities
   pub range : All (λ entity. entity.id < 16777216) entities
   pub live : CanKill (living after) entities
+
+-- who was alive lives on
+abbrev pub LivesOn : Births → Births → Type 0
+LivesOn before after = (entity : Entity) → IsAlive before entity → IsAlive after entity
+
+-- an entity began to live, and at each other index nothing changed
+abbrev pub BringsToLife : Births → Entity → Births → Type 0
+BringsToLife before entity after = (index : ℕ) → living after index ≡ (if index == entity.id then Some entity.generation else living before index)
+
+-- the next so many births, at once persistent
+abbrev pub all_allocated : ℕ → Births → Births
+all_allocated number births = all_settled (all_created number births) (indices_of (newborns number births))
+
+-- the births of all entities of a list are fresh, and none is named twice
+pub record AreFresh (births : Births) (entities : List Entity) : Type 0 where
+  pub fresh : All (λ entity. set.contains births.fresh entity.id ≡ true) entities
+  pub apart : IsDistinct (λ one other. one == other) (indices_of entities)
+
+-- who lived at these indices lives no more, and at each other index nothing changed
+abbrev pub LivesBut : (ℕ → Bool) → Births → Births → Type 0
+LivesBut gone before after = (index : ℕ) → living after index ≡ (if gone index then None else living before index)
+
+-- whether an index is that of an entity of a list
+abbrev pub is_named : List Entity → ℕ → Bool
+is_named entities index = list_any (λ other. index == other) (indices_of entities)

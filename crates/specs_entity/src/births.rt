@@ -17,7 +17,7 @@ impl EntitiesRes {
     ghost use Rattle.specs_entity.specs.Births.{IsBorn, Continues, newborn, next_index, IndicesAreSpent};
     ghost use Rattle.specs_entity.specs.Births.{GenerationsAreSpent, RefusesBirth, with_next_taken, allocated};
     ghost use Rattle.specs_entity.specs.Births.{created, deleted, buried, settled, living, IsAlive};
-    ghost use Rattle.specs_entity.specs.Births.{wrong_generation, number_of, persistent_at};
+    ghost use Rattle.specs_entity.specs.Births.{wrong_generation, number_of, persistent_at, LivesOn, BringsToLife};
     ghost use Rattle.specs_entity.specs.Layout.{IsFree};
     ghost use Rattle.specs_entity.specs.declared.errors.Error.TheVariants as refusal;
 
@@ -34,6 +34,8 @@ impl EntitiesRes {
         ensures ok { OnOk result (self.new ≡ allocated self.old) }
         ensures new { IfOk result (λ entity. ¬ (IsBorn self.old entity)) }
         ensures alive { IfOk result (IsAlive self.new) }
+        ensures lives { IfOk result (λ entity. BringsToLife self.old entity self.new) }
+        ensures live_on { OnOk result (LivesOn self.old self.new) }
         ensures continues { OnOk result (Continues self.old self.new) }
         ensures refused { IfErr result (RefusesBirth self.old) }
         ensures indices_spent { IsErrOf result refusal.IndicesSpent ↔ IndicesAreSpent self.old }
@@ -57,6 +59,8 @@ impl EntitiesRes {
         ensures ok { OnOk result (self.new ≡ created self.old) }
         ensures new { IfOk result (λ entity. ¬ (IsBorn self.old entity)) }
         ensures alive { IfOk result (IsAlive self.new) }
+        ensures lives { IfOk result (λ entity. BringsToLife self.old entity self.new) }
+        ensures live_on { OnOk result (LivesOn self.old self.new) }
         ensures continues { OnOk result (Continues self.old self.new) }
         ensures refused { IfErr result (RefusesBirth self.old) }
         ensures indices_spent { IsErrOf result refusal.IndicesSpent ↔ IndicesAreSpent self.old }
@@ -80,6 +84,8 @@ impl EntitiesRes {
         ensures room { OnOk result (number_of (persistent_at self.now (next_index self.now)) < self.now.generations) }
         ensures range { IfOk result (λ entity. entity.id < 16777216) }
         ensures lives { OnOk result (IsAlive (created self.now) (newborn self.now)) }
+        ensures brings { OnOk result (BringsToLife self.now (newborn self.now) (created self.now)) }
+        ensures live_on { OnOk result (LivesOn self.now (created self.now)) }
         ensures continues { OnOk result (Continues self.now (created self.now)) }
     {
         let used = self.generations.len() as Index;

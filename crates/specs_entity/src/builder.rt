@@ -47,7 +47,7 @@ impl Drop for EntityResBuilder<'_> {
 impl EntitiesRes {
     ghost use Rattle.std.specs.Borrow.{sem};
     ghost use Rattle.specs_entity.specs.Births.{newborn, created, IsBorn, IsAlive, Continues, IndicesAreSpent};
-    ghost use Rattle.specs_entity.specs.Births.{GenerationsAreSpent, RefusesBirth};
+    ghost use Rattle.specs_entity.specs.Births.{GenerationsAreSpent, RefusesBirth, LivesOn};
     ghost use Rattle.specs_entity.specs.Building.{rests_if_refused};
     ghost use Rattle.specs_entity.specs.declared.errors.Error.TheVariants as refusal;
 
@@ -61,6 +61,7 @@ impl EntitiesRes {
         ensures ok { IfOk result (λ builder. builder.entities.now ≡ created self.old) }
         ensures new { IfOk result (λ builder. ¬ (IsBorn self.old builder.entity)) }
         ensures alive { IfOk result (λ builder. IsAlive builder.entities.now builder.entity) }
+        ensures live_on { IfOk result (λ builder. LivesOn self.old builder.entities.now) }
         ensures continues { IfOk result (λ builder. Continues self.old builder.entities.now) }
         ensures same_reference { IfOk result (λ builder. builder.entities.ghost_name ≡ self.entry.ghost_name) }
         ensures refused { IfErr result (RefusesBirth self.old) }

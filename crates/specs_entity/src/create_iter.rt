@@ -46,7 +46,8 @@ impl Iterator for CreateIter {
 
 impl EntitiesRes {
     ghost use Rattle.specs_entity.specs.Births.{AreNew, Continues, all_created, newborns, CanCreate, RefusesBirth};
-    ghost use Rattle.specs_entity.specs.Births.{RefusesBirths};
+    ghost use Rattle.specs_entity.specs.Births.{RefusesBirths, LivesOn, AreFresh, all_allocated, all_settled};
+    ghost use Rattle.specs_entity.specs.Births.{indices_of, living};
     ghost use Rattle.specs_entity.specs.Layout.{IsCreated, AreMade};
 
     /// Creates so many entities, or none: each is alive at once, and its birth is persistent after the
@@ -58,6 +59,45 @@ impl EntitiesRes {
         ensures value { IfOk result (λ entities. entities ≡ newborns count self.old) }
         ensures ok { OnOk result (self.new ≡ all_created count self.old) }
         ensures new { IfOk result (λ entities. AreNew self.old entities self.new) }
+        ensures live_on { OnOk result (LivesOn self.old self.new) }
+        ensures continues { OnOk result (Continues self.old self.new) }
+        ensures possible { OnOk result (CanCreate count self.old) }
+        ensures refused { IfErr result (RefusesBirths count self.old) }
+        ensures err { OnErr result (self.new ≡ self.old) }
+    {
+        let made = self.create_list(count)?;
+        Ok(CreateIter {
+            entities: made.into_iter(),
+        })
+    }
+
+    /// Allocates so many entities, or none: each is alive, and its birth persistent, at once.
+    ///
+    /// Errors: those of `create_iter`. All leave the entities as they were.
+    pub fn allocate_iter(&mut self, count: usize) -> Result<CreateIter, Error>
+        ensures value { IfOk result (λ entities. entities ≡ newborns count self.old) }
+        ensures ok { OnOk result (self.new ≡ all_allocated count self.old) }
+        ensures new { IfOk result (λ entities. AreNew self.old entities self.new) }
+        ensures live_on { OnOk result (LivesOn self.old self.new) }
+        ensures continues { OnOk result (Continues self.old self.new) }
+        ensures possible { OnOk result (CanCreate count self.old) }
+        ensures refused { IfErr result (RefusesBirths count self.old) }
+        ensures err { OnErr result (self.new ≡ self.old) }
+    {
+        let made = self.create_list(count)?;
+        self.settle_each(&made);
+        Ok(CreateIter {
+            entities: made.into_iter(),
+        })
+    }
+
+    /// Creates so many entities, or none, as a list.
+    fn create_list(&mut self, count: usize) -> Result<Vec<Entity>, Error>
+        ensures value { IfOk result (λ entities. entities.items ≡ newborns count self.old) }
+        ensures ok { OnOk result (self.new ≡ all_created count self.old) }
+        ensures new { IfOk result (λ entities. AreNew self.old entities.items self.new) }
+        ensures fresh { IfOk result (λ entities. AreFresh self.new entities.items) }
+        ensures live_on { OnOk result (LivesOn self.old self.new) }
         ensures continues { OnOk result (Continues self.old self.new) }
         ensures possible { OnOk result (CanCreate count self.old) }
         ensures refused { IfErr result (RefusesBirths count self.old) }
@@ -68,9 +108,19 @@ impl EntitiesRes {
             self.take_back(&mut made);
             return Err(error);
         }
-        Ok(CreateIter {
-            entities: made.into_iter(),
-        })
+        Ok(made)
+    }
+
+    /// Makes the fresh births of the entities of a list persistent.
+    fn settle_each(&mut self, entities: &[Entity])
+        requires { AreFresh self.old entities.now }
+        ensures value { self.new ≡ all_settled self.old (indices_of entities.now) }
+        ensures lives { (index : ℕ) → living self.new index ≡ living self.old index }
+        ensures continues { Continues self.old self.new }
+    {
+        for entity in entities {
+            self.settle(entity.id);
+        }
     }
 
     /// Creates so many entities, and puts each into `made`, up to the first that is refused.

@@ -17,7 +17,7 @@ use std::alloc::AllocError;
 
 impl EntitiesRes {
     ghost use Rattle.specs_entity.specs.Births.{Continues, living, all_buried, all_settled, all_deleted, all_living, merged};
-    ghost use Rattle.specs_entity.specs.Births.{RefusesKill};
+    ghost use Rattle.specs_entity.specs.Births.{RefusesKill, LivesBut, is_named};
 
     /// Lets all entities of a list die, in its order. After its test it takes no memory.
     ///
@@ -28,6 +28,7 @@ impl EntitiesRes {
     /// before. Then nothing changed.
     pub fn kill(&mut self, entities: &[Entity]) -> Result<(), Error>
         ensures ok { OnOk result (self.new ≡ all_buried self.old (indices_of entities.now)) }
+        ensures lives { OnOk result (LivesBut (is_named entities.now) self.old self.new) }
         ensures continues { OnOk result (Continues self.old self.new) }
         ensures succeeds { IsOk result ↔ CanKill (living self.old) entities.now }
         ensures wrong_generation { IfErr result (RefusesKill self.old entities.now) }
@@ -109,6 +110,8 @@ impl EntitiesRes {
     pub fn merge(&mut self) -> Result<Vec<Entity>, AllocError>
         ensures value { IfOk result (λ deleted. deleted.items ≡ all_deleted self.old) }
         ensures ok { OnOk result (self.new ≡ merged self.old) }
+        ensures lives { OnOk result (LivesBut (set.contains self.old.deletions) self.old self.new) }
+        ensures done { OnOk result (self.new.deletions ≡ set.empty) }
         ensures continues { OnOk result (Continues self.old self.new) }
         ensures err { OnErr result (self.new ≡ self.old) }
     {
@@ -122,6 +125,8 @@ impl EntitiesRes {
     fn deleted(&self) -> Result<Vec<Entity>, AllocError>
         ensures killable { IfOk result (λ deleted. CanKill (living self.now) deleted.items) }
         ensures value { IfOk result (λ deleted. deleted.items ≡ all_deleted self.now) }
+        ensures named { IfOk result (λ deleted. (index : ℕ) → is_named deleted.items index
+            ≡ set.contains self.now.deletions index) }
     {
         let mut deleted = Vec::new(self.alloc);
         for id in (&self.killed).iter() {

@@ -62,7 +62,8 @@ impl<T: Component> AnyStorage for MaskedStorage<T> {
     ghost drops_parts = { λ before after indices dropped.
         dropped-parts (T.Storage.part_at before.inner) (T.Storage.part_at after.inner) indices dropped.parts };
 
-    ghost drops_none = { λ s. drops-none (T.Storage.part_at s.inner) (T.Storage.events s.inner) (T.Storage.emits s.inner) };
+    ghost drops_none = { λ s. drops-none (T.Storage.part_at s.inner) (T.Storage.events s.inner)
+        (T.Storage.emits s.inner) };
 
     ghost drops_append = { λ first second third indices others one other.
         drops-append _ _ _ _ _ _ _ _ _ indices others one other };

@@ -65,9 +65,12 @@ impl Drifts {
         places: &mut MaskedStorage<Place>,
         drifts: &MaskedStorage<Drift>,
     ) -> Result<(), EachError<Overflow>>
-        ensures drifted { OnOk result (AreChanged drifted (dense_part places.old.inner) (dense_part drifts.now.inner) (dense_part places.new.inner)) }
-        ensures refused { IfErr result (OnRefused (IsRefused drifted (dense_part places.old.inner) (dense_part drifts.now.inner))) }
-        ensures below { IfErr result (OnRefused (λ index. AreChangedBelow drifted (dense_part places.old.inner) (dense_part drifts.now.inner) index (dense_part places.new.inner))) }
+        ensures drifted { OnOk result (AreChanged drifted (dense_part places.old.inner)
+            (dense_part drifts.now.inner) (dense_part places.new.inner)) }
+        ensures refused { IfErr result (OnRefused (IsRefused drifted (dense_part places.old.inner)
+            (dense_part drifts.now.inner))) }
+        ensures below { IfErr result (OnRefused (λ index. AreChangedBelow drifted
+            (dense_part places.old.inner) (dense_part drifts.now.inner) index (dense_part places.new.inner))) }
         ensures memory { IfErr result (OnMemory ⊥) }
     {
         change_each(places, drifts, &Drifting)

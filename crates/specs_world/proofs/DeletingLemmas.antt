@@ -1,20 +1,22 @@
 -- Facts on worlds whose storages drop parts while some of their resources are out.
-use Rattle.std.proofs.Common.{◌≡◌, ℕ, inl, Result, Ok, Err, OnOk, IfOk, OnErr, Bool, true, false, List, [], ◌++◌, Option, Some, None, refl, sym, ap, subst, ◌∙◌}
+use Rattle.std.proofs.Common.{◌≡◌, ℕ, inl, inr, Result, Ok, Err, OnOk, IfOk, OnErr, Bool, true, false, List, [], ◌++◌, Option, Some, None, refl, sym, ap, subst, ◌∙◌}
 use Rattle.std.proofs.lemmas.Bool.{false≢true}
 use Rattle.std.specs.Option.{option_flatten, option_and_then}
 use Rattle.std.specs.FinMap.{get, insert}
+use Rattle.std.specs.FinSet as fin
 use Rattle.shred_world.specs.declared.resource_id.ResourceId.{ResourceId}
 use Rattle.shred_world.specs.ResourceIds.{id_of, same_id}
 use Rattle.shred_world.specs.Worlds.{Slots, value_at, resource_at, is_of_kinds}
 use Rattle.shred_world.proofs.IdLemmas.{same_id-is, same_id-itself}
 use Rattle.shred_world.proofs.WorldLemmas.{get-insert_here}
-use Rattle.specs_entity.specs.Births.{Births, all_buried, all_deleted, merged, indices_of}
+use Rattle.specs_entity.proofs.ListLemmas.{fault-not-killable}
+use Rattle.specs_entity.specs.Births.{Births, CanKill, LivesBut, is_named, living, all_buried, all_deleted, merged, indices_of}
 use Rattle.specs_entity.specs.declared.ids.Entity.{Entity}
 use Rattle.specs_entity.specs.declared.errors.Error.{Error}
 use Rattle.specs_entity.specs.declared.errors.Error.TheVariants as variant
 use Rattle.specs_layouts.specs.Drops.{ids_of}
 use Rattle.specs_world.specs.Resources.{Place, held}
-use Rattle.specs_world.specs.Dropping.{SlotDrops, Rests, StayOut, DropsIn, DropsComponents, Kills, Deletes, DeletesIn, MergesIn, RefusesDeletionOf}
+use Rattle.specs_world.specs.Dropping.{SlotDrops, Rests, StayOut, DropsIn, DropsComponents, Kills, Deletes, DeletesIn, MergesIn, RefusesDeath, RefusesIn}
 use Rattle.specs_world.proofs.DroppingLemmas.{get-insert_other, slot-of-value, slot-rests, slot-append, listed-of-kinds}
 use Rattle.specs_world.proofs.ResourceLemmas.{resource-value}
 
@@ -145,54 +147,70 @@ module _ {V : Type 0} (drops : V → List ℕ → V → Type 0) (w w1 w2 w3 : Sl
     alive_in = there;
     registered = table-there table kills.dropped.kinds kills.dropped.registered;
     killable = kills.killable;
+    lives = subst (LivesBut (is_named entities) births) kills.buried kills.lives;
     deletes = entities-around births_part wrapped table entities (all_buried births (indices_of entities)) (is ∙ ap wrapped kills.buried) kills.dropped;
   }
 
   pub merges-around : (births_part : V → Option Births) (wrapped : Births → V) (table : Place V (List ℕ)) (entities : List Entity) (births after : Births)
-      → resource_at births_part w id ≡ Some births → v ≡ wrapped after → after ≡ merged births → entities ≡ all_deleted births → DropsComponents table drops entities w1 w2
+      → resource_at births_part w id ≡ Some births → v ≡ wrapped after → after ≡ merged births → entities ≡ all_deleted births
+      → LivesBut (fin.contains births.deletions) births after → after.deletions ≡ fin.empty → DropsComponents table drops entities w1 w2
       → MergesIn (record { part = births_part; wrapped = wrapped; id = id }) table drops entities w w3
-  merges-around births_part wrapped table entities births after there is merges dead dropped = record {
+  merges-around births_part wrapped table entities births after there is merges dead lives done dropped = record {
     births = births;
     kinds = dropped.kinds;
     alive_in = there;
     registered = table-there table dropped.kinds dropped.registered;
     dead = dead;
+    lives = subst (LivesBut (fin.contains births.deletions) births) merges lives;
+    done = sym (ap (λ (b : Births). b.deletions) merges) ∙ done;
     deletes = entities-around births_part wrapped table entities (merged births) (is ∙ ap wrapped merges) dropped;
   }
 
   -- a refusal around the entities
-  pub refused-around : (births_part : V → Option Births) (table_part : V → Option (List ℕ)) (table_id : ResourceId) (entities : List Entity) (births : Births) (error : Error)
-      → resource_at births_part w id ≡ Some births → RefusesDeletionOf (Some births) (resource_at table_part w1 table_id) false entities error
-      → RefusesDeletionOf (resource_at births_part w id) (resource_at table_part w table_id) (same_id id table_id) entities error
-  refused-around births_part table_part table_id entities births error there refused =
-      subst (λ one. RefusesDeletionOf one (resource_at table_part w table_id) (same_id id table_id) entities error) (sym there) (at (same_id table_id id) refl)
+  pub refused-around : (births_part : V → Option Births) (table_part : V → Option (List ℕ)) (table_id : ResourceId) (refuses : Births → Error → Type 0) (births : Births) (error : Error)
+      → resource_at births_part w id ≡ Some births → RefusesIn (Some births) (resource_at table_part w1 table_id) false refuses error
+      → RefusesIn (resource_at births_part w id) (resource_at table_part w table_id) (same_id id table_id) refuses error
+  refused-around births_part table_part table_id refuses births error there refused =
+      subst (λ one. RefusesIn one (resource_at table_part w table_id) (same_id id table_id) refuses error) (sym there) (at (same_id table_id id) refl)
     where
-      unregistered : (table : Option (List ℕ)) (same : Bool) → same ≡ true → error ≡ variant.NotRegistered → RefusesDeletionOf (Some births) table same entities error
+      unregistered : (table : Option (List ℕ)) (same : Bool) → same ≡ true → error ≡ variant.NotRegistered → RefusesIn (Some births) table same refuses error
       unregistered None same is e = e
       unregistered (Some kinds) same is e = inl (is, e)
 
-      at-same : (table : Option (List ℕ)) (one two : Bool) → one ≡ false → two ≡ false → RefusesDeletionOf (Some births) table one entities error → RefusesDeletionOf (Some births) table two entities error
-      at-same table one two e f = subst (λ b. RefusesDeletionOf (Some births) table b entities error) (e ∙ sym f)
+      at-same : (table : Option (List ℕ)) (one two : Bool) → one ≡ false → two ≡ false → RefusesIn (Some births) table one refuses error → RefusesIn (Some births) table two refuses error
+      at-same table one two e f = subst (λ b. RefusesIn (Some births) table b refuses error) (e ∙ sym f)
 
-      at : (b : Bool) → same_id table_id id ≡ b → RefusesDeletionOf (Some births) (resource_at table_part w table_id) (same_id id table_id) entities error
+      at : (b : Bool) → same_id table_id id ≡ b → RefusesIn (Some births) (resource_at table_part w table_id) (same_id id table_id) refuses error
       at true same =
           let one : table_id ≡ id = same_id-is table_id id same in
           let gone : resource_at table_part w1 table_id ≡ None =
           ap (λ q. resource_at table_part w1 q) one ∙ ap (λ slot. option_and_then table_part (option_flatten slot)) (ap (λ m. get m id) taken ∙ get-insert_here w id None) in
-          unregistered (resource_at table_part w table_id) (same_id id table_id) (ap (same_id id) one ∙ same_id-itself id) (subst (λ table. RefusesDeletionOf (Some births) table false entities error) gone refused)
+          unregistered (resource_at table_part w table_id) (same_id id table_id) (ap (same_id id) one ∙ same_id-itself id) (subst (λ table. RefusesIn (Some births) table false refuses error) gone refused)
       at false apart =
           at-same (resource_at table_part w table_id) false (same_id id table_id) refl (same_id-sym id table_id ∙ apart)
-          (subst (λ table. RefusesDeletionOf (Some births) table false entities error) (ap (λ slot. option_and_then table_part (option_flatten slot)) (get-taken table_id apart)) refused)
+          (subst (λ table. RefusesIn (Some births) table false refuses error) (ap (λ slot. option_and_then table_part (option_flatten slot)) (get-taken table_id apart)) refused)
+
+-- entities that can die at once are refused their death for want of memory alone
+pub killable-refused : (births : Births) (entities : List Entity) (error : Error) → CanKill (living births) entities → RefusesDeath births entities error → error ≡ variant.Memory
+killable-refused births entities error can refused =
+    elim refused [ inl kill ↦ absurd (fault-not-killable (living births) entities kill.0 kill.1 can) | inr memory ↦ memory.0 ]
+
+-- so it is of all that live
+pub whole-refused : (births : Births) (kinds : Option (List ℕ)) (one_id : Bool) (entities : List Entity) (error : Error) → CanKill (living births) entities
+    → RefusesIn (Some births) kinds one_id (λ b. RefusesDeath b entities) error → RefusesIn (Some births) kinds one_id (λ _ e. e ≡ variant.Memory) error
+whole-refused births None one_id entities error can refused = refused
+whole-refused births (Some kinds) one_id entities error can refused =
+    elim refused [ inl same ↦ inl same | inr death ↦ inr (killable-refused births entities error can death) ]
 
 -- facts of an `Ok`, and of an `Err`, taken together
-pub on_ok_all : {T E P Q R S : Type 0} (r : Result T E) → (P → Q → R → S) → OnOk r P → OnOk r Q → OnOk r R → OnOk r S
-on_ok_all (Ok t) f p q s = f p q s
-on_ok_all (Err e) f p q s = tt
+pub on_ok_all : {T E P Q L R S : Type 0} (r : Result T E) → (P → Q → L → R → S) → OnOk r P → OnOk r Q → OnOk r L → OnOk r R → OnOk r S
+on_ok_all (Ok t) f p q l s = f p q l s
+on_ok_all (Err e) f p q l s = tt
 
 pub on_err_both : {T E P Q R : Type 0} (r : Result T E) → (P → Q → R) → OnErr r P → OnErr r Q → OnErr r R
 on_err_both (Ok t) f p q = tt
 on_err_both (Err e) f p q = f p q
 
-pub if_ok_all : {T E P : Type 0} {Q R S : T → Type 0} (r : Result T E) → ((t : T) → P → Q t → R t → S t) → OnOk r P → IfOk r Q → IfOk r R → IfOk r S
-if_ok_all (Ok t) f p q s = f t p q s
-if_ok_all (Err e) f p q s = tt
+pub if_ok_all : {T E P L D : Type 0} {Q R S : T → Type 0} (r : Result T E) → ((t : T) → P → Q t → L → D → R t → S t) → OnOk r P → IfOk r Q → OnOk r L → OnOk r D → IfOk r R → IfOk r S
+if_ok_all (Ok t) f p q l d s = f t p q l d s
+if_ok_all (Err e) f p q l d s = tt

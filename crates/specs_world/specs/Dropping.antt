@@ -2,11 +2,12 @@
 use Rattle.std.specs.Prelude.{◌≡◌, ℕ, ◌==◌, ◌⊎◌, Bool, true, false, List, [], Option, None, Some}
 use Rattle.std.specs.List.{list_any}
 use Rattle.std.specs.FinMap as map
+use Rattle.std.specs.FinSet as set
 use Rattle.shred_world.specs.declared.resource_id.ResourceId.{ResourceId}
 use Rattle.shred_world.specs.ResourceIds.{id_of, same_id}
 use Rattle.shred_world.specs.Worlds.{Slots, value_at, is_of_kinds}
 use Rattle.specs_world.specs.Resources.{Place, held}
-use Rattle.specs_entity.specs.Births.{Births, living, all_buried, all_deleted, all_living, merged, indices_of, CanKill, RefusesKill}
+use Rattle.specs_entity.specs.Births.{Births, living, all_buried, all_deleted, all_living, merged, indices_of, is_named, CanKill, LivesBut, RefusesKill}
 use Rattle.specs_entity.specs.declared.ids.Entity.{Entity}
 use Rattle.specs_entity.specs.declared.errors.Error.{Error}
 use Rattle.specs_entity.specs.declared.errors.Error.TheVariants as variant
@@ -62,6 +63,7 @@ pub record DeletesIn {V : Type 0} (births_at : Place V Births) (table_at : Place
   pub alive_in : held births_at before ≡ Some births
   pub registered : held table_at before ≡ Some kinds
   pub killable : CanKill (living births) entities
+  pub lives : LivesBut (is_named entities) births (all_buried births (indices_of entities))
   pub deletes : Deletes births_at table_at.id drops (all_buried births (indices_of entities)) kinds entities before after
 
 -- all entities of a world that live died so, ascending by index
@@ -75,21 +77,31 @@ pub record MergesIn {V : Type 0} (births_at : Place V Births) (table_at : Place 
   pub alive_in : held births_at before ≡ Some births
   pub registered : held table_at before ≡ Some kinds
   pub dead : deleted ≡ all_deleted births
+  pub lives : LivesBut (set.contains births.deletions) births (merged births)
+  pub done : (merged births).deletions ≡ set.empty
   pub deletes : Deletes births_at table_at.id drops (merged births) kinds deleted before after
 
 -- what the death of entities is refused for: the first isn't alive or is named before, or there was no memory
 abbrev pub RefusesDeath : Births → List Entity → Error → Type 0
 RefusesDeath births entities error = RefusesKill births entities error ⊎ ((error ≡ variant.Memory) × CanKill (living births) entities)
 
--- what the deletion of entities is refused for: there are no entities or there is no table of kinds, or they can't die
-abbrev pub RefusesDeletionOf : (births : Option Births) → (kinds : Option (List ℕ)) → (one_id : Bool) → List Entity → Error → Type 0
-RefusesDeletionOf (Some births) (Some kinds) one_id entities error = ((one_id ≡ true) × (error ≡ variant.NotRegistered)) ⊎ RefusesDeath births entities error
-RefusesDeletionOf (Some births) None one_id entities error = error ≡ variant.NotRegistered
-RefusesDeletionOf None kinds one_id entities error = error ≡ variant.NotRegistered
+-- what a call on the entities is refused for: there are none or there is no table of kinds, or they refuse it; were both under one id, there would be no telling them apart
+abbrev pub RefusesIn : (births : Option Births) → (kinds : Option (List ℕ)) → (one_id : Bool) → (Births → Error → Type 0) → Error → Type 0
+RefusesIn (Some births) (Some kinds) one_id refuses error = ((one_id ≡ true) × (error ≡ variant.NotRegistered)) ⊎ refuses births error
+RefusesIn (Some births) None one_id refuses error = error ≡ variant.NotRegistered
+RefusesIn None kinds one_id refuses error = error ≡ variant.NotRegistered
 
--- so it is in a world; were entities and table under one id, there would be no telling them apart
+-- so it is in a world
+abbrev pub RefusesInWorld : {V : Type 0} → Place V Births → Place V (List ℕ) → (Births → Error → Type 0) → Slots V → Error → Type 0
+RefusesInWorld births_at table_at refuses before = RefusesIn (held births_at before) (held table_at before) (same_id births_at.id table_at.id) refuses
+
+-- what the deletion of entities of a world is refused for
 abbrev pub RefusesDeletion : {V : Type 0} → Place V Births → Place V (List ℕ) → List Entity → Slots V → Error → Type 0
-RefusesDeletion births_at table_at entities before = RefusesDeletionOf (held births_at before) (held table_at before) (same_id births_at.id table_at.id) entities
+RefusesDeletion births_at table_at entities = RefusesInWorld births_at table_at (λ births. RefusesDeath births entities)
+
+-- what a merge of a world is refused for, and the deletion of all: without entities or table, or for want of memory
+abbrev pub RefusesMerge : {V : Type 0} → Place V Births → Place V (List ℕ) → Slots V → Error → Type 0
+RefusesMerge births_at table_at = RefusesInWorld births_at table_at (λ _ error. error ≡ variant.Memory)
 
 -- each registered storage dropped the parts at the indices of entities, and no other slot changed
 pub record DropsComponents {V : Type 0} (table_at : Place V (List ℕ)) (drops : V → List ℕ → V → Type 0) (entities : List Entity) (before after : Slots V) : Type 0 where
@@ -104,4 +116,5 @@ pub record DropsComponents {V : Type 0} (table_at : Place V (List ℕ)) (drops :
 pub record Kills {V : Type 0} (table_at : Place V (List ℕ)) (drops : V → List ℕ → V → Type 0) (entities : List Entity) (births births_after : Births) (before after : Slots V) : Type 0 where
   pub killable : CanKill (living births) entities
   pub buried : births_after ≡ all_buried births (indices_of entities)
+  pub lives : LivesBut (is_named entities) births births_after
   pub dropped : DropsComponents table_at drops entities before after

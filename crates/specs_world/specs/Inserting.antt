@@ -1,6 +1,6 @@
 -- Parts that are put at the entities of a world.
-use Rattle.std.specs.Prelude.{◌≡◌, ℕ, ◌⊎◌, Bool, Option, Some, None}
-use Rattle.std.specs.Option.{MatchOption}
+use Rattle.std.specs.Prelude.{◌≡◌, ℕ, ◌⊎◌, Bool, false, Option, Some, None}
+use Rattle.std.specs.Option.{MatchOption, IsSome}
 use Rattle.shred_world.specs.Worlds.{Slots}
 use Rattle.specs_entity.specs.Births.{Births, IsAlive}
 use Rattle.specs_entity.specs.declared.ids.Entity.{Entity}
@@ -40,3 +40,9 @@ abbrev pub RefusesPart : {P : Type 0} → (births : Option Births) → (storage 
 RefusesPart (Some births) (Some storage) entity error = RefusesInsert births entity error
 RefusesPart (Some births) None entity error = error ≡ variant.NotRegistered
 RefusesPart None storage entity error = error ≡ variant.NotRegistered
+
+-- a part can't be refused: the entity is alive and has one, and the storage doesn't emit
+abbrev pub AcceptsPart : {S T : Type 0} → (S → ℕ → Option T) → (S → Bool) → (births : Option Births) → (storage : Option (Masked S)) → Entity → Type 0
+AcceptsPart part_at emits (Some births) (Some storage) entity = IsAlive births entity × IsSome (part_at storage.inner entity.id) × (emits storage.inner ≡ false)
+AcceptsPart part_at emits (Some births) None entity = ⊥
+AcceptsPart part_at emits None storage entity = ⊥

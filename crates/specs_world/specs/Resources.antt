@@ -6,7 +6,7 @@ use Rattle.shred_world.specs.declared.resource_id.ResourceId.{ResourceId}
 use Rattle.shred_world.specs.ResourceIds.{id_of}
 use Rattle.shred_world.specs.Bundles.{DefaultsTo}
 use Rattle.shred_world.specs.Worlds.{Slots, resource_at, with_kind}
-use Rattle.specs_entity.specs.Births.{Births, IsAlive, RefusesBirth, allocated, deleted, newborn, persistent_at}
+use Rattle.specs_entity.specs.Births.{Births, AreNew, BringsToLife, IsAlive, IsBorn, LivesOn, RefusesBirth, RefusesBirths, all_allocated, allocated, deleted, newborn, newborns, persistent_at}
 use Rattle.specs_entity.specs.declared.errors.Error.{Error}
 use Rattle.specs_entity.specs.declared.errors.Error.TheVariants as variant
 use Rattle.specs_entity.specs.declared.ids.Entity.{Entity}
@@ -69,6 +69,30 @@ DeletesLater at entity before after =
 abbrev pub SetsUpStorage : {V P : Type 0} → (table : Place V (List ℕ)) → (storage : Place V P) → (P → Type 0) → Slots V → Slots V → Type 0
 SetsUpStorage table storage is_new before after = MatchOption (held table before) (DefaultsTo is_new storage.wrapped storage.id before after) (λ _. Registers table storage is_new before after)
 
--- the next entity came to life, and its birth is persistent
+-- what a refusal of a birth in a row is: there are no entities, or they refuse one of so many
+abbrev pub RefusesBirthsIn : ℕ → Option Births → Error → Type 0
+RefusesBirthsIn count None error = error ≡ variant.NotRegistered
+RefusesBirthsIn count (Some births) error = RefusesBirths count births error
+
+-- an entity that was never born before came to life as the next one, its birth persistent, and who was alive lives on
+pub record IsBirth (entity : Entity) (was now : Births) : Type 0 where
+  pub births : now ≡ allocated was
+  pub value : entity ≡ newborn was
+  pub unborn : ¬ (IsBorn was entity)
+  pub lives : BringsToLife was entity now
+  pub live_on : LivesOn was now
+
+-- the next entity came to life
 abbrev pub Allocates : {V : Type 0} → Place V Births → Entity → Slots V → Slots V → Type 0
-Allocates at entity before after = Becomes at (λ was now. (now ≡ allocated was) × (entity ≡ newborn was)) before after
+Allocates at entity before after = Becomes at (IsBirth entity) before after
+
+-- so many entities that were never born before came to life as the next ones, their births persistent, and who was alive lives on
+pub record AreBirths (count : ℕ) (entities : List Entity) (was now : Births) : Type 0 where
+  pub births : now ≡ all_allocated count was
+  pub value : entities ≡ newborns count was
+  pub new : AreNew was entities now
+  pub live_on : LivesOn was now
+
+-- the next so many entities came to life
+abbrev pub AllocatesAll : {V : Type 0} → Place V Births → ℕ → List Entity → Slots V → Slots V → Type 0
+AllocatesAll at count entities before after = Becomes at (AreBirths count entities) before after

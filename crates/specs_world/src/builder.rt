@@ -1,8 +1,8 @@
 //! Entities of a world in the making.
-ghost use Rattle.std.specs.Prelude.{◌≡◌, IfOk, IfErr, Option, Some, None};
+ghost use Rattle.std.specs.Prelude.{◌≡◌, IsOk, IfOk, IfErr, Option, Some, None};
 ghost use Rattle.std.specs.Option.{MatchOption};
 ghost use Rattle.specs_world.specs.Resources.{place, held, DeletesLater};
-ghost use Rattle.specs_world.specs.Inserting.{PutsPart, KeepsStorage, RefusesPart};
+ghost use Rattle.specs_world.specs.Inserting.{PutsPart, KeepsStorage, RefusesPart, AcceptsPart};
 
 use crate::held::Held;
 use crate::world_ext::WorldExt;
@@ -52,6 +52,10 @@ where
             ⟦<MaskedStorage<T> as Held<V>>⟧.stands_at
             T.Storage.part_at T.Storage.events T.Storage.emits (W.slots self.entry.world.now)
             (W.slots refused.1.world.now)) }
+        ensures succeeds { AcceptsPart T.Storage.part_at T.Storage.emits
+            (held W.entities_at (W.slots self.entry.world.now))
+            (held ⟦<MaskedStorage<T> as Held<V>>⟧.stands_at (W.slots self.entry.world.now))
+            self.entry.entity → IsOk result }
         ensures handed_back { IfErr result (λ refused. refused.2 ≡ part) }
         ensures same_entity { IfErr result (λ refused. refused.1.entity ≡ self.entry.entity) }
         ensures same_world { IfErr result (λ refused. refused.1.world.ghost_name ≡ self.entry.world.ghost_name) }
@@ -94,6 +98,14 @@ where
             T.Storage.part_at T.Storage.events T.Storage.emits self.entry.entity given had
             (held W.entities_at (W.slots self.entry.world.now))
             (W.slots self.entry.world.now) (W.slots builder.world.now))) }
+        ensures refused { IfErr result (λ refused. RefusesPart (held W.entities_at (W.slots self.entry.world.now))
+            (held ⟦<MaskedStorage<T> as Held<V>>⟧.stands_at (W.slots self.entry.world.now))
+            self.entry.entity refused.0) }
+        ensures err { IfErr result (λ refused. KeepsStorage
+            ⟦<MaskedStorage<T> as Held<V>>⟧.stands_at
+            T.Storage.part_at T.Storage.events T.Storage.emits (W.slots self.entry.world.now)
+            (W.slots refused.1.world.now)) }
+        ensures succeeds { part ≡ None → IsOk result }
         ensures handed_back { IfErr result (λ refused. refused.2 ≡ part) }
         ensures same_entity { IfErr result (λ refused. refused.1.entity ≡ self.entry.entity) }
         ensures same_world { IfErr result (λ refused. refused.1.world.ghost_name ≡ self.entry.world.ghost_name) }

@@ -2,13 +2,15 @@
 ghost use Rattle.std.specs.Prelude.{◌≡◌, ◌↔◌, None, Some, ◌⊎◌, IsOk, OnOk, OnErr, IfOk, IfErr, IsErrOf, false, true};
 ghost use Rattle.std.specs.Option.{OnSome, MatchOption};
 ghost use Rattle.std.specs.FinMap as map;
+ghost use Rattle.std.specs.FinSet as set;
 ghost use Rattle.shred_world.specs.ResourceIds.{id_of};
 ghost use Rattle.shred_world.specs.Worlds.{resource_at, AreDistinct};
-ghost use Rattle.specs_entity.specs.Births.{living, all_buried, all_deleted, all_living, merged, indices_of, Continues, CanKill, RefusesKill};
+ghost use Rattle.specs_entity.specs.Births.{living, all_buried, all_deleted, all_living, merged, indices_of, is_named};
+ghost use Rattle.specs_entity.specs.Births.{Continues, CanKill, LivesBut, RefusesKill};
 ghost use Rattle.specs_entity.specs.declared.errors.Error.TheVariants as refusal;
 ghost use Rattle.specs_layouts.specs.Drops.{ids_of};
 ghost use Rattle.specs_world.specs.Resources.{held, place};
-ghost use Rattle.specs_world.specs.Dropping.{Rests, StayOut, DropsIn, DropsComponents, Kills, RefusesDeath, RefusesDeletionOf};
+ghost use Rattle.specs_world.specs.Dropping.{Rests, StayOut, DropsIn, DropsComponents, Kills, RefusesDeath, RefusesIn};
 
 use crate::dropping::{drop_in, make_room_in};
 use crate::held::Held;
@@ -29,6 +31,7 @@ fn kill_with_parts<V: AnyStorage>(
     ensures births { OnOk result (births.new ≡ all_buried births.old (indices_of entities.now)) }
     ensures continues { OnOk result (Continues births.old births.new) }
     ensures killable { OnOk result (CanKill (living births.old) entities.now) }
+    ensures lives { OnOk result (LivesBut (is_named entities.now) births.old births.new) }
     ensures parts { OnOk result (DropsIn V.drops kinds.now (ids_of entities.now) world.old world.new) }
     ensures refused { IfErr result (RefusesDeath births.old entities.now) }
     ensures same { OnErr result (births.new ≡ births.old) }
@@ -55,8 +58,8 @@ where
         V.drops entities.now births.old births.new world.old world.new) }
     ensures rests { OnErr result (Rests V.drops world.old world.new) }
     ensures same { OnErr result (births.new ≡ births.old) }
-    ensures refused { IfErr result (RefusesDeletionOf (Some births.old)
-        (held ⟦<MetaTable as Held<V>>⟧.stands_at world.old) false entities.now) }
+    ensures refused { IfErr result (RefusesIn (Some births.old)
+        (held ⟦<MetaTable as Held<V>>⟧.stands_at world.old) false (λ b. RefusesDeath b entities.now)) }
     ensures outs { StayOut world.old world.new }
 {
     let Some(table) = take_out::<V, MetaTable>(world) else {
@@ -118,6 +121,8 @@ fn merge_with_parts<V: AnyStorage>(
     requires once { AreDistinct kinds.now }
     ensures births { OnOk result (births.new ≡ merged births.old) }
     ensures dead { IfOk result (λ deleted. deleted.items ≡ all_deleted births.old) }
+    ensures lives { OnOk result (LivesBut (set.contains births.old.deletions) births.old births.new) }
+    ensures done { OnOk result (births.new.deletions ≡ set.empty) }
     ensures parts { IfOk result (λ deleted. DropsIn V.drops kinds.now (ids_of deleted.items) world.old world.new) }
     ensures same { OnErr result (births.new ≡ births.old) }
     ensures rests { OnErr result (Rests V.drops world.old world.new) }
@@ -138,12 +143,15 @@ where
     MetaTable: Resource<V>,
     ensures births { OnOk result (births.new ≡ merged births.old) }
     ensures dead { IfOk result (λ deleted. deleted.items ≡ all_deleted births.old) }
+    ensures lives { OnOk result (LivesBut (set.contains births.old.deletions) births.old births.new) }
+    ensures done { OnOk result (births.new.deletions ≡ set.empty) }
     ensures parts { IfOk result (λ deleted. DropsComponents
         ⟦<MetaTable as Held<V>>⟧.stands_at
         V.drops deleted.items world.old world.new) }
     ensures same { OnErr result (births.new ≡ births.old) }
     ensures rests { OnErr result (Rests V.drops world.old world.new) }
-    ensures refused { IfErr result (λ error. (error ≡ refusal.NotRegistered) ⊎ (error ≡ refusal.Memory)) }
+    ensures refused { IfErr result (RefusesIn (Some births.old)
+        (held ⟦<MetaTable as Held<V>>⟧.stands_at world.old) false (λ _ error. error ≡ refusal.Memory)) }
     ensures outs { StayOut world.old world.new }
 {
     let Some(table) = take_out::<V, MetaTable>(world) else {
@@ -169,8 +177,13 @@ where
         V.drops (all_living births.old) births.old births.new world.old world.new) }
     ensures rests { OnErr result (Rests V.drops world.old world.new) }
     ensures same { OnErr result (births.new ≡ births.old) }
+    ensures refused { IfErr result (RefusesIn (Some births.old)
+        (held ⟦<MetaTable as Held<V>>⟧.stands_at world.old) false (λ _ error. error ≡ refusal.Memory)) }
     ensures outs { StayOut world.old world.new }
 {
+    if world.try_fetch::<MetaTable>().is_none() {
+        return Err(Error::NotRegistered);
+    }
     let entities = births.living_entities()?;
     match kill_registered(world, births, &entities) {
         Ok(()) => Ok(()),

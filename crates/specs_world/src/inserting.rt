@@ -1,5 +1,5 @@
 //! Parts that are put at the entities of a world.
-ghost use Rattle.std.specs.Prelude.{◌≡◌, ◌<◌, ◌⊎◌, Some, None, OnOk, OnErr, IfOk, IfErr, IsSome};
+ghost use Rattle.std.specs.Prelude.{◌≡◌, ◌<◌, ◌⊎◌, Some, None, OnOk, OnErr, IfOk, IfErr, IsOk, IsSome, false};
 ghost use Rattle.std.specs.Option.{MatchOption};
 ghost use Rattle.shred_world.specs.ResourceIds.{id_of};
 ghost use Rattle.shred_world.specs.Worlds.{resource_at};
@@ -24,6 +24,8 @@ where
     ensures alive { OnOk result (MatchOption (held ⟦<EntitiesRes as Held<V>>⟧.stands_at world.now)
         ⊥ (λ births. IsAlive births entity)) }
     ensures range { OnOk result (entity.id < 16777216) }
+    ensures succeeds { MatchOption (held ⟦<EntitiesRes as Held<V>>⟧.stands_at world.now)
+        ⊥ (λ births. IsAlive births entity) → IsOk result }
     ensures refused { IfErr result (λ error. MatchOption (held ⟦<EntitiesRes as Held<V>>⟧.stands_at world.now)
         (error ≡ refusal.NotRegistered)
         (λ births. (wrong : Refusal) × IsRefusal births entity wrong × (error ≡ refusal.WrongGeneration wrong))) }
@@ -61,6 +63,9 @@ where
         ⟦<MaskedStorage<T> as Held<V>>⟧.stands_at
         (Keeps T.Storage.part_at T.Storage.events T.Storage.emits) world.old world.new) }
     ensures handed_back { IfErr result (λ refused. refused.value ≡ part) }
+    ensures succeeds { MatchOption (held ⟦<MaskedStorage<T> as Held<V>>⟧.stands_at world.old) ⊥
+        (λ storage. IsSome (T.Storage.part_at storage.inner id) × (T.Storage.emits storage.inner ≡ false))
+        → IsOk result }
 {
     match world.get_mut::<MaskedStorage<T>>() {
         Some(storage) => match storage.insert(id, part) {

@@ -1,14 +1,16 @@
 //! What a world of entities does: the calls that users of worlds look for.
-ghost use Rattle.std.specs.Prelude.{◌≡◌, ◌↔◌, ◌<◌, IsTrue, Some, None, [], ◌∷◌, true, ℕ, List, Option, OnOk, OnErr, IfOk, IfErr, IsErrOf, ◌⊎◌};
+ghost use Rattle.std.specs.Prelude.{◌≡◌, ◌↔◌, ◌<◌, IsTrue, Some, None, [], ◌∷◌, true, ℕ, List, Option};
+ghost use Rattle.std.specs.Prelude.{IsOk, OnOk, OnErr, IfOk, IfErr, IsErrOf, ◌⊎◌};
 ghost use Rattle.std.specs.Borrow.{sem, RestsIfErr};
 ghost use Rattle.std.specs.FinMap as map;
 ghost use Rattle.shred_world.specs.Worlds.{Slots};
 ghost use Rattle.specs_entity.specs.Births.{IsAlive, Births, allocated, deleted, newborn, none_born};
 ghost use Rattle.specs_entity.specs.declared.errors.Error.TheVariants as refusal;
 ghost use Rattle.specs_layouts.specs.Parts.{HasNone};
-ghost use Rattle.specs_world.specs.Resources.{Allocates, Place, place, held, Becomes, IsNew, Registers, IsPersistent, RefusesBirthIn, DeletesLater};
-ghost use Rattle.specs_world.specs.Dropping.{Rests, DeletesIn, DeletesAll, MergesIn, DropsComponents, RefusesDeletion};
-ghost use Rattle.specs_world.specs.Inserting.{PutsPart, KeepsStorage, RefusesPart};
+ghost use Rattle.specs_world.specs.Resources.{Allocates, AllocatesAll, Place, place, held, Becomes, IsNew, Registers, IsPersistent};
+ghost use Rattle.specs_world.specs.Resources.{RefusesBirthIn, RefusesBirthsIn, DeletesLater};
+ghost use Rattle.specs_world.specs.Dropping.{Rests, DeletesIn, DeletesAll, MergesIn, DropsComponents, RefusesDeletion, RefusesMerge};
+ghost use Rattle.specs_world.specs.Inserting.{PutsPart, KeepsStorage, RefusesPart, AcceptsPart};
 
 use crate::builder::EntityBuilder;
 use crate::deleting::{drop_registered, kill_living, kill_registered, merge_registered};
@@ -17,7 +19,7 @@ use crate::inserting::{put_part, test_alive};
 use crate::registering::{enter_there, put_and_enter, register_default};
 use crate::taking::{put_in, take_out};
 use shred_world::{MetaTable, Resource, World};
-use specs_entity::{EntitiesRes, Entity, Error};
+use specs_entity::{CreateIter, EntitiesRes, Entity, Error};
 use specs_layouts::{AnyStorage, Component, MaskedStorage, TryDefault, UnprotectedStorage};
 use specs_storage::ReadStorage as LentStorage;
 use std::alloc::Global;
@@ -64,7 +66,8 @@ where
             ⟦<MaskedStorage<T> as Held<V>>⟧.stands_at
             (IsNew T.Storage.TryDefault.is_default T.Storage.part_at) (slots self.old) (slots self.new)) }
         ensures err { OnErr result (slots self.new ≡ slots self.old) }
-        ensures not_registered { IsErrOf result refusal.NotRegistered ↔ (held table_at (slots self.old) ≡ None) };
+        ensures not_registered { IsErrOf result refusal.NotRegistered ↔ (held table_at (slots self.old) ≡ None) }
+        ensures refused { IfErr result (λ error. (error ≡ refusal.NotRegistered) ⊎ (error ≡ refusal.Memory)) };
 
     /// Registers a kind of parts: a storage of it, made by `make` where the world holds none, is in the world and in its table of kinds.
     ///
@@ -83,7 +86,8 @@ where
             ⟦<MaskedStorage<T> as Held<V>>⟧.stands_at
             (IsNew (F.post make) T.Storage.part_at) (slots self.old) (slots self.new)) }
         ensures err { OnErr result (slots self.new ≡ slots self.old) }
-        ensures not_registered { IsErrOf result refusal.NotRegistered ↔ (held table_at (slots self.old) ≡ None) };
+        ensures not_registered { IsErrOf result refusal.NotRegistered ↔ (held table_at (slots self.old) ≡ None) }
+        ensures refused { IfErr result (λ error. (error ≡ refusal.NotRegistered) ⊎ (error ≡ refusal.Memory)) };
 
     /// Whether an entity is alive and its birth persistent: false of one that `EntitiesRes::create` made since the last merge, and
     /// of all where the world has no entities.
@@ -97,6 +101,15 @@ where
         ensures ok { IfOk result (λ entity. Allocates entities_at entity (slots self.old) (slots self.new)) }
         ensures range { IfOk result (λ entity. entity.id < 16777216) }
         ensures refused { IfErr result (RefusesBirthIn (held entities_at (slots self.old))) }
+        ensures err { OnErr result (slots self.new ≡ slots self.old) };
+
+    /// Brings so many entities to life, or none, and answers them to be walked in the order of their births, which are persistent at once.
+    ///
+    /// Errors: those of `EntitiesRes::allocate_iter`; `NotRegistered`, where the world has no entities. All leave the world as it was.
+    fn create_iter(&mut self, count: usize) -> Result<CreateIter, Error>
+        ensures ok { IfOk result (λ entities. AllocatesAll entities_at count entities
+            (slots self.old) (slots self.new)) }
+        ensures refused { IfErr result (RefusesBirthsIn count (held entities_at (slots self.old))) }
         ensures err { OnErr result (slots self.new ≡ slots self.old) };
 
     /// Brings the next entity to life, as `allocate` does, and answers it as one that is being built.
@@ -139,7 +152,9 @@ where
         ensures handed_back { IfErr result (λ refused. refused.1 ≡ part) }
         ensures refused { IfErr result (λ refused. RefusesPart (held entities_at (slots self.old))
             (held ⟦<MaskedStorage<T> as Held<V>>⟧.stands_at (slots self.old))
-            entity refused.0) };
+            entity refused.0) }
+        ensures succeeds { AcceptsPart T.Storage.part_at T.Storage.emits (held entities_at (slots self.old))
+            (held ⟦<MaskedStorage<T> as Held<V>>⟧.stands_at (slots self.old)) entity → IsOk result };
 
     /// Lets an entity die, with its parts in each registered storage: `delete_entities` of it alone.
     ///
@@ -164,22 +179,23 @@ where
 
     /// Lets all entities die that live, fresh ones too, with their parts in each registered storage: `delete_entities` of their list.
     ///
-    /// Errors: `NotRegistered`, where the world has no entities or no table of kinds; `Memory`. Both leave parts and births as they
-    /// were; storages may have more room.
+    /// Errors: `NotRegistered`, exactly where the world has no entities or no table of kinds; `Memory`. Both leave parts and births
+    /// as they were; storages may have more room.
     fn delete_all(&mut self) -> Result<(), Error>
         ensures ok { OnOk result (DeletesAll entities_at table_at V.drops (slots self.old) (slots self.new)) }
-        ensures rests { OnErr result (Rests V.drops (slots self.old) (slots self.new)) };
+        ensures rests { OnErr result (Rests V.drops (slots self.old) (slots self.new)) }
+        ensures refused { IfErr result (RefusesMerge entities_at table_at (slots self.old)) };
 
     /// Makes fresh births persistent, lets the entities die whose deletion was accepted, with their parts in each registered storage,
     /// and answers these, ascending by index. Room is made in every storage before the first change.
     ///
-    /// Errors: `NotRegistered`, where the world has no entities or no table of kinds; `Memory`. Both leave parts and births as they
-    /// were; storages may have more room.
+    /// Errors: `NotRegistered`, exactly where the world has no entities or no table of kinds; `Memory`. Both leave parts and births
+    /// as they were; storages may have more room.
     fn merge(&mut self) -> Result<Vec<Entity>, Error>
         ensures ok { IfOk result (λ deleted. MergesIn entities_at table_at V.drops deleted.items
             (slots self.old) (slots self.new)) }
         ensures rests { OnErr result (Rests V.drops (slots self.old) (slots self.new)) }
-        ensures refused { IfErr result (λ error. (error ≡ refusal.NotRegistered) ⊎ (error ≡ refusal.Memory)) };
+        ensures refused { IfErr result (RefusesMerge entities_at table_at (slots self.old)) };
 
     /// The entities.
     ///
@@ -278,6 +294,16 @@ where
         match self.get_mut::<EntitiesRes>() {
             Some(entities) => match entities.allocate() {
                 Ok(entity) => Ok(entity),
+                Err(error) => Err(error),
+            },
+            None => Err(Error::NotRegistered),
+        }
+    }
+
+    fn create_iter(&mut self, count: usize) -> Result<CreateIter, Error> {
+        match self.get_mut::<EntitiesRes>() {
+            Some(entities) => match entities.allocate_iter(count) {
+                Ok(entities) => Ok(entities),
                 Err(error) => Err(error),
             },
             None => Err(Error::NotRegistered),

@@ -1,7 +1,7 @@
 use Rattle.std.proofs.Common.{◌≡◌, ◌<◌, ap, sym, ◌∙◌, subst, arith}
 use Rattle.std.specs.FinSet as fin
 use Rattle.specs_entity.specs.Life.{LifeAt}
-use Rattle.specs_entity.specs.Births.{Births, Continues, IsAlive, MarksLiving, created, next_index, number_of, persistent_at, with_next_taken}
+use Rattle.specs_entity.specs.Births.{Births, BringsToLife, LivesOn, Continues, IsAlive, MarksLiving, created, next_index, number_of, persistent_at, with_next_taken}
 use Rattle.specs_entity.specs.Layout.{AreBirths, IsFree, births_of}
 use Rattle.specs_entity.proofs.BirthLemmas.{AreBirths-fresh, freshened, on-ok}
 use Rattle.specs_entity.proofs.AliveLemmas.{marks-fresh}
@@ -69,6 +69,14 @@ pub returns-clause-continues : goal.returns-clause-continues
 returns-clause-continues c =
     subst (Continues c.args.self.now) (sym (returns-clause-ok c))
     c.in_ok-entity.ensures.continues
+
+pub returns-clause-lives : goal.returns-clause-lives
+returns-clause-lives c =
+    subst (λ (b : Births). BringsToLife c.args.self.now c.in_ok-entity.entity b) (sym (returns-clause-ok c))
+    (subst (λ (e : LifeAt). BringsToLife c.args.self.now e (created c.args.self.now)) (sym c.in_ok-entity.ensures.ok) c.in_ok-entity.ensures.brings)
+
+pub returns-clause-live_on : goal.returns-clause-live_on
+returns-clause-live_on c = subst (LivesOn c.args.self.now) (sym (returns-clause-ok c)) c.in_ok-entity.ensures.live_on
 
 pub invariant_of-self : goal.invariant_of-self
 invariant_of-self c =

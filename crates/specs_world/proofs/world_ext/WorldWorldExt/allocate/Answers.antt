@@ -1,13 +1,13 @@
-use Rattle.std.proofs.Common.{◌≡◌}
 use Rattle.shred_world.specs.ResourceIds.{id_of}
-use Rattle.specs_entity.specs.Births.{allocated, newborn}
+use Rattle.specs_world.specs.Resources.{IsBirth}
 use Rattle.specs_world.proofs.ResourceLemmas.{lent-becomes, lent-same}
 use Rattle.specs_world.proofs.world_ext.WorldWorldExt.allocate.Goals as goal
 
 pub returns-in-Ok-clause-ok : goal.returns-in-Ok-clause-ok
 returns-in-Ok-clause-ok g c =
     lent-becomes g.bound-2.part g.bound-2.wrapped c.args.self.now _ (id_of g.bound-2.kind_number 0) c.get_mut.result c.in-Some.entities c.allocate.new.self c.in-Some.is c.get_mut.ensures.value
-    (c.get_mut.follows.holds c.allocate.new.self) (λ was now. (now ≡ allocated was) × (c.in-Ok.entity ≡ newborn was)) (c.in-Ok.ensures.ok, c.in-Ok.ensures.value)
+    (c.get_mut.follows.holds c.allocate.new.self) (IsBirth c.in-Ok.entity)
+    (record { births = c.in-Ok.ensures.ok; value = c.in-Ok.ensures.value; unborn = c.in-Ok.ensures.new; lives = c.in-Ok.ensures.lives; live_on = c.in-Ok.ensures.live_on })
 
 pub returns-in-Err-clause-err : goal.returns-in-Err-clause-err
 returns-in-Err-clause-err g c =

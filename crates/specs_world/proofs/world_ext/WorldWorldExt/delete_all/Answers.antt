@@ -1,10 +1,11 @@
 use Rattle.std.proofs.Common.{◌≡◌, Some, refl, sym, ap, ◌∙◌}
-use Rattle.std.proofs.lemmas.Result.{on_ok_weaker}
+use Rattle.std.proofs.lemmas.Result.{on_ok_weaker, IfErr-weaker}
 use Rattle.shred_world.specs.ResourceIds.{id_of}
 use Rattle.shred_world.specs.Worlds.{resource_at}
 use Rattle.specs_entity.specs.Births.{all_living}
+use Rattle.specs_entity.specs.declared.errors.Error.TheVariants as variant
 use Rattle.specs_world.specs.Resources.{place}
-use Rattle.specs_world.proofs.DeletingLemmas.{is-left-out, rests-around, deletes-around, on_err_both}
+use Rattle.specs_world.proofs.DeletingLemmas.{is-left-out, rests-around, deletes-around, refused-around, on_err_both}
 use Rattle.specs_world.proofs.ResourceLemmas.{resource-value}
 use Rattle.specs_world.proofs.world_ext.WorldWorldExt.delete_all.Goals as goal
 
@@ -40,3 +41,13 @@ returns-clause-rests g c =
     c.in-Some.ensures.out c.put_in.ensures g.met.V.AnyStorage.drops_none
     (resource-value g.bound-2.part g.bound-2.wrapped g.bound-2-met.only_wrapped c.args.self.now id c.in-Some.births there ∙ ap (λ births. Some (g.bound-2.wrapped births)) (sym same)) rests)
     c.kill_living-result.ensures.same c.kill_living-result.ensures.rests
+
+pub returns-clause-refused : goal.returns-clause-refused
+returns-clause-refused g c =
+    let id = id_of g.bound-2.kind_number 0 in
+    let there : resource_at g.bound-2.part c.args.self.now id ≡ Some c.in-Some.births = sym c.take_out.ensures.value ∙ c.in-Some.is in
+    IfErr-weaker c.kill_living-result.result _ _
+    (λ error.
+    refused-around g.V.AnyStorage.drops c.args.self.now c.take_out.new.world c.kill_living-result.new.world c.put_in.new.world id (g.bound-2.wrapped c.kill_living-result.new.births)
+    c.in-Some.ensures.out c.put_in.ensures g.bound-2.part g.bound-3.part (id_of g.bound-3.kind_number 0) (λ _ e. e ≡ variant.Memory) c.in-Some.births error there)
+    c.kill_living-result.ensures.refused

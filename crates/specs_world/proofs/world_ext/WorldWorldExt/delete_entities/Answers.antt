@@ -3,6 +3,7 @@ use Rattle.std.proofs.lemmas.Result.{on_ok_weaker, IfErr-weaker}
 use Rattle.shred_world.specs.ResourceIds.{id_of}
 use Rattle.shred_world.specs.Worlds.{resource_at}
 use Rattle.specs_world.proofs.DeletingLemmas.{is-left-out, rests-around, deletes-around, refused-around, on_err_both}
+use Rattle.specs_world.specs.Dropping.{RefusesDeath}
 use Rattle.specs_world.specs.Resources.{place}
 use Rattle.specs_world.proofs.ResourceLemmas.{resource-value}
 use Rattle.specs_world.proofs.world_ext.WorldWorldExt.delete_entities.Goals as goal
@@ -42,5 +43,5 @@ returns-clause-refused g c =
     IfErr-weaker c.kill_registered-result.result _ _
     (λ error.
     refused-around g.V.AnyStorage.drops c.args.self.now c.take_out.new.world c.kill_registered-result.new.world c.put_in.new.world id (g.bound-2.wrapped c.kill_registered-result.new.births)
-    c.in-Some.ensures.out c.put_in.ensures g.bound-2.part g.bound-3.part (id_of g.bound-3.kind_number 0) c.args.entities.now c.in-Some.births error there)
+    c.in-Some.ensures.out c.put_in.ensures g.bound-2.part g.bound-3.part (id_of g.bound-3.kind_number 0) (λ b. RefusesDeath b c.args.entities.now) c.in-Some.births error there)
     c.kill_registered-result.ensures.refused

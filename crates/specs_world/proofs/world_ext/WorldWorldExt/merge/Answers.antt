@@ -1,8 +1,10 @@
 use Rattle.std.proofs.Common.{◌≡◌, Some, refl, sym, ap, ◌∙◌}
+use Rattle.std.proofs.lemmas.Result.{IfErr-weaker}
 use Rattle.shred_world.specs.ResourceIds.{id_of}
 use Rattle.shred_world.specs.Worlds.{resource_at}
+use Rattle.specs_entity.specs.declared.errors.Error.TheVariants as variant
 use Rattle.specs_world.specs.Resources.{place}
-use Rattle.specs_world.proofs.DeletingLemmas.{is-left-out, rests-around, merges-around, if_ok_all, on_err_both}
+use Rattle.specs_world.proofs.DeletingLemmas.{is-left-out, rests-around, merges-around, refused-around, if_ok_all, on_err_both}
 use Rattle.specs_world.proofs.ResourceLemmas.{resource-value}
 use Rattle.specs_world.proofs.world_ext.WorldWorldExt.merge.Goals as goal
 
@@ -19,11 +21,12 @@ returns-clause-ok g c =
     let id = id_of g.bound-2.kind_number 0 in
     let there : resource_at g.bound-2.part c.args.self.now id ≡ Some c.in-Some.births = sym c.take_out.ensures.value ∙ c.in-Some.is in
     if_ok_all c.merge_registered-result.result
-    (λ deleted merges dead dropped.
+    (λ deleted merges dead lives done dropped.
     merges-around g.V.AnyStorage.drops c.args.self.now c.take_out.new.world c.merge_registered-result.new.world c.put_in.new.world id (g.bound-2.wrapped c.merge_registered-result.new.births)
     c.in-Some.ensures.out c.put_in.ensures g.bound-2.part g.bound-2.wrapped (place g.bound-3.part g.bound-3.wrapped g.bound-3.kind_number) deleted.items c.in-Some.births
-    c.merge_registered-result.new.births there refl merges dead dropped)
-    c.merge_registered-result.ensures.births c.merge_registered-result.ensures.dead c.merge_registered-result.ensures.parts
+    c.merge_registered-result.new.births there refl merges dead lives done dropped)
+    c.merge_registered-result.ensures.births c.merge_registered-result.ensures.dead c.merge_registered-result.ensures.lives c.merge_registered-result.ensures.done
+    c.merge_registered-result.ensures.parts
 
 pub returns-clause-rests : goal.returns-clause-rests
 returns-clause-rests g c =
@@ -35,3 +38,13 @@ returns-clause-rests g c =
     c.in-Some.ensures.out c.put_in.ensures g.met.V.AnyStorage.drops_none
     (resource-value g.bound-2.part g.bound-2.wrapped g.bound-2-met.only_wrapped c.args.self.now id c.in-Some.births there ∙ ap (λ births. Some (g.bound-2.wrapped births)) (sym same)) rests)
     c.merge_registered-result.ensures.same c.merge_registered-result.ensures.rests
+
+pub returns-clause-refused : goal.returns-clause-refused
+returns-clause-refused g c =
+    let id = id_of g.bound-2.kind_number 0 in
+    let there : resource_at g.bound-2.part c.args.self.now id ≡ Some c.in-Some.births = sym c.take_out.ensures.value ∙ c.in-Some.is in
+    IfErr-weaker c.merge_registered-result.result _ _
+    (λ error.
+    refused-around g.V.AnyStorage.drops c.args.self.now c.take_out.new.world c.merge_registered-result.new.world c.put_in.new.world id (g.bound-2.wrapped c.merge_registered-result.new.births)
+    c.in-Some.ensures.out c.put_in.ensures g.bound-2.part g.bound-3.part (id_of g.bound-3.kind_number 0) (λ _ e. e ≡ variant.Memory) c.in-Some.births error there)
+    c.merge_registered-result.ensures.refused
