@@ -1,8 +1,8 @@
 //! What a part is in what is saved.
-ghost use Rattle.std.specs.Prelude.{◌≡◌, ◌⊎◌, ◌↔◌, List, Option, Some, None, IsSome, Ok, IfOk, IfErr, OnOk, OnErr, IsErrOf};
+ghost use Rattle.std.specs.Prelude.{◌≡◌, ◌⊎◌, ◌↔◌, List, Option, Some, None, IsSome, Ok, IfOk, IfErr, OnOk, IsErrOf};
 ghost use Rattle.specs_entity.specs.declared.ids.Entity.{Entity};
 ghost use Rattle.specs_entity.specs.declared.errors.Error.TheVariants as refusal;
-ghost use Rattle.specs_saving.specs.Bearing.{Asks, IsAmong, Keeps};
+ghost use Rattle.specs_saving.specs.Bearing.{Asks, GoesOn, IsAmong};
 
 use crate::bearers::Bearers;
 use crate::names::Names;
@@ -46,8 +46,8 @@ pub trait ConvertSaveload<M>: Sized {
         bearers: &mut B,
     ) -> Result<Self, Error>
         ensures ok { IfOk result (λ value. loaded (B.bearer_of bearers.new) saved ≡ Some value) }
-        ensures asks { OnOk result (Asks B.bearer_of B.lives B.sound (markers_of saved) bearers.old bearers.new) }
-        ensures err { OnErr result (Keeps B.bearer_of bearers.old bearers.new) };
+        ensures asks { OnOk result (Asks B.bearer_of B.lives B.is_sound (markers_of saved) bearers.old bearers.new) }
+        ensures goes { GoesOn B.bearer_of B.lives B.loan bearers.old bearers.new };
 
     /// A value has data just where each entity that it names has a marker.
     ghost named: { (names : Entity → Option M) (value : Self)
