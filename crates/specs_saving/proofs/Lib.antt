@@ -1,1 +1,2 @@
 pub mod SaveLemmas
+pub mod BearerLemmas

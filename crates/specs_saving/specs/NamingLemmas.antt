@@ -1,10 +1,20 @@
 -- Which values have data under a map from entity to marker.
-use Rattle.std.proofs.Common.{◌≡◌, ◌↔◌, ◌⊎◌, List, [], ◌∷◌, ◌++◌, Option, Some, None, IsSome, is_some, option_map, inl, inr, refl, sym, subst, ◌∙◌}
+use Rattle.std.proofs.Common.{◌≡◌, ◌≢◌, ℕ, Bool, true, false, ◌↔◌, ◌⊎◌, List, [], ◌∷◌, ◌++◌, Option, Some, None, IsSome, is_some, option_map, inl, inr, refl, sym, subst, ◌∙◌}
 use Rattle.std.proofs.lemmas.Bool.{false≢true}
+use Rattle.std.proofs.lemmas.Slice.Eq.{bytes_eq-Decides}
+use Rattle.std.specs.Str.{bytes_eq}
 use Rattle.specs_entity.specs.Life.{LifeAt}
 use Rattle.specs_join.specs.Joins.{both, all_three}
 use Rattle.specs_saving.specs.Bearing.{IsAmong}
 use Rattle.specs_saving.specs.Saved.{named_in, plain_in}
+
+told-apart : (one other : List ℕ) (test : Bool) → bytes_eq one other ≡ test → ((bytes_eq one other ≡ true) × (one ≡ other)) ⊎ ((bytes_eq one other ≡ false) × (one ≢ other))
+told-apart one other true is = inl (is, (bytes_eq-Decides one other).0 is)
+told-apart one other false is = inr (is, λ same. false≢true (sym is ∙ (bytes_eq-Decides one other).1 same))
+
+-- two lists of bytes are one, or they differ
+pub bytes-tell : (one other : List ℕ) → ((bytes_eq one other ≡ true) × (one ≡ other)) ⊎ ((bytes_eq one other ≡ false) × (one ≢ other))
+bytes-tell one other = told-apart one other (bytes_eq one other) refl
 
 -- of one entity
 pub one-named : {M : Type 0} (names : LifeAt → Option M) (entity : LifeAt) → IsSome (names entity) ↔ ((other : LifeAt) → IsAmong other (entity ∷ []) → IsSome (names other))
