@@ -1,2 +1,3 @@
 pub mod SaveLemmas
 pub mod BearerLemmas
+pub mod LoadLemmas

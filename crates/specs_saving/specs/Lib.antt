@@ -4,3 +4,4 @@ pub mod Known
 pub mod Lent
 pub mod LentLemmas
 pub mod NamingLemmas
+pub mod LoadingLemmas

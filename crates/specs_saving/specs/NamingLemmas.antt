@@ -35,12 +35,12 @@ option-named entities plain names named (Some part) = (
 
 -- ---- of two and of three
 
-among-left : {X : Type 0} (item : X) (one other : List X) → IsAmong item one → IsAmong item (one ++ other)
+pub among-left : {X : Type 0} (item : X) (one other : List X) → IsAmong item one → IsAmong item (one ++ other)
 among-left item [] other none = absurd none
 among-left item (first ∷ rest) other (inl is) = inl is
 among-left item (first ∷ rest) other (inr later) = inr (among-left item rest other later)
 
-among-right : {X : Type 0} (item : X) (one other : List X) → IsAmong item other → IsAmong item (one ++ other)
+pub among-right : {X : Type 0} (item : X) (one other : List X) → IsAmong item other → IsAmong item (one ++ other)
 among-right item [] other among = among
 among-right item (first ∷ rest) other among = inr (among-right item rest other among)
 

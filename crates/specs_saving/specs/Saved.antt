@@ -29,10 +29,10 @@ abbrev pub all_some : {X : Type 0} → List (Option X) → Option (List X)
 all_some [] = Some []
 all_some (first ∷ rest) = option_and_then (λ value. option_map (λ values. value ∷ values) (all_some rest)) first
 
--- the entities that a part names, where there is one
-abbrev pub named_in : {C : Type 0} → (C → List LifeAt) → Option C → List LifeAt
-named_in entities None = []
-named_in entities (Some part) = entities part
+-- what a part names, where there is one
+abbrev pub named_in : {C N : Type 0} → (C → List N) → Option C → List N
+named_in names None = []
+named_in names (Some part) = names part
 
 -- the data of a part, where there is one
 abbrev pub plain_in : {C D : Type 0} → (C → Option D) → Option C → Option (Option D)

@@ -3,10 +3,12 @@
 
 pub mod bearers;
 pub mod convert;
+pub mod deserialize;
 pub mod names;
 pub mod serialize;
 
-pub use bearers::Bearers;
+pub use bearers::{Bearers, LentBearers};
 pub use convert::{ConvertSaveload, plain_from, plain_into};
+pub use deserialize::DeserializeComponents;
 pub use names::{Marks, Names, SavedMarker};
 pub use serialize::SerializeComponents;
