@@ -11,8 +11,8 @@ use Rattle.specs_layouts.specs.MaskedChanges.{KeepsParts, PutsIn}
 use Rattle.specs_layouts.specs.MaskedLends.{StorageMembers}
 use Rattle.specs_markers.specs.Marking.{FindsMarked, HasGiven, IsKnown, MakesMarked, RefusesCreation, RefusesGift, RefusesMarked, RefusesRetrieval, RefusesUpdate, Retrieves}
 use Rattle.specs_saving.specs.Bearing.{Asks, GoesOn, IsAmong}
-use Rattle.specs_saving.specs.Known.{IsSound, Known, LivesIn, NoLoan, bearer_at, lives_there}
-use Rattle.specs_saving.specs.LentLemmas.{bearer-known, known-bearer}
+use Rattle.specs_saving.specs.Known.{IsSound, Known, LivesIn, bearer_at, lives_there}
+use Rattle.specs_saving.proofs.KnownLemmas.{bearer-known, known-bearer}
 
 -- ---- who was born
 
@@ -58,13 +58,12 @@ module _ {A S M I : Type 0} (noted : A → I → Option LifeAt) (allocates : A �
   abbrev Keeps : Type 0
   Keeps = (id : I) (entity : LifeAt) → IsKnown noted s.part_at id births before had entity → IsKnown noted s.part_at id births' after has entity
 
-  went-on : Keeps → LivesOn births births' → GoesOn {S = Known A S} {M = M} (bearer_at noted s.part_at id_of) LivesIn NoLoan (record { births = births; allocator = before; markers = had }) (record { births = births'; allocator = after; markers = has })
+  went-on : Keeps → LivesOn births births' → GoesOn {S = Known A S} {M = M} (bearer_at noted s.part_at id_of) LivesIn (record { births = births; allocator = before; markers = had }) (record { births = births'; allocator = after; markers = has })
   went-on keeps live_on =
       record {
         keeps = λ marker entity is. known-bearer noted s.part_at id_of (record { births = births'; allocator = after; markers = has }) marker entity
             (keeps (id_of marker) entity (bearer-known noted s.part_at id_of (record { births = births; allocator = before; markers = had }) marker entity is));
         live_on = live_on;
-        still = tt;
       }
 
   -- an index with another marker, or one that had none
@@ -95,12 +94,12 @@ module _ {A S M I : Type 0} (noted : A → I → Option LifeAt) (allocates : A �
           marked = put-some (newborn births).id made.given.marker made.given.puts one.id known.marked;
         }
 
-    pub retrieved-goes : Retrieves noted allocates id_of s id births births' before after had has entity → GoesOn {S = Known A S} {M = M} (bearer_at noted s.part_at id_of) LivesIn NoLoan (record { births = births; allocator = before; markers = had }) (record { births = births'; allocator = after; markers = has })
+    pub retrieved-goes : Retrieves noted allocates id_of s id births births' before after had has entity → GoesOn {S = Known A S} {M = M} (bearer_at noted s.part_at id_of) LivesIn (record { births = births; allocator = before; markers = had }) (record { births = births'; allocator = after; markers = has })
     retrieved-goes (inl found) = went-on (found-keeps found) (found-lives found)
     retrieved-goes (inr made) = went-on (made-keeps made) made.live_on
 
   module _ (refuses : A → Option I → Error → Type 0) (id : I) (error : Error) where
-    same-goes : births' ≡ births → after ≡ before → has ≡ had → GoesOn {S = Known A S} {M = M} (bearer_at noted s.part_at id_of) LivesIn NoLoan (record { births = births; allocator = before; markers = had }) (record { births = births'; allocator = after; markers = has })
+    same-goes : births' ≡ births → after ≡ before → has ≡ had → GoesOn {S = Known A S} {M = M} (bearer_at noted s.part_at id_of) LivesIn (record { births = births; allocator = before; markers = had }) (record { births = births'; allocator = after; markers = has })
     same-goes births_same allocator_same storage_same =
         went-on
         (λ other one known. record {
@@ -116,7 +115,7 @@ module _ {A S M I : Type 0} (noted : A → I → Option LifeAt) (allocates : A �
         let given = gave.1.1 in
         given.notes.others other (λ same. unknown one (subst (λ i. IsKnown noted s.part_at i births before had one) (same ∙ given.named) known)) ∙ known.under
 
-    pub refused-goes : RefusesRetrieval noted allocates id_of s id births births' before after had has refuses error → GoesOn {S = Known A S} {M = M} (bearer_at noted s.part_at id_of) LivesIn NoLoan (record { births = births; allocator = before; markers = had }) (record { births = births'; allocator = after; markers = has })
+    pub refused-goes : RefusesRetrieval noted allocates id_of s id births births' before after had has refuses error → GoesOn {S = Known A S} {M = M} (bearer_at noted s.part_at id_of) LivesIn (record { births = births; allocator = before; markers = had }) (record { births = births'; allocator = after; markers = has })
     refused-goes (inl update) = same-goes update.entities update.allocator update.storage
     refused-goes (inr (inl creation)) = same-goes creation.entities creation.allocator creation.storage
     refused-goes (inr (inr marked)) =

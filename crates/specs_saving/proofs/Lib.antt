@@ -1,3 +1,4 @@
 pub mod SaveLemmas
+pub mod KnownLemmas
 pub mod BearerLemmas
 pub mod LoadLemmas

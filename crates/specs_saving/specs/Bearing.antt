@@ -8,11 +8,10 @@ IsAmong item [] = ⊥
 IsAmong item (first ∷ rest) = (first ≡ item) ⊎ IsAmong item rest
 
 module _ {S M : Type 0} (bearer_of : S → M → Option LifeAt) (lives : S → LifeAt → Type 0) where
-  -- each known bearer stays so, who lived lives on, and what was lent is lent still
-  pub record GoesOn (loan : S → S → Type 0) (before after : S) : Type 0 where
+  -- each known bearer stays so, and who lived lives on
+  pub record GoesOn (before after : S) : Type 0 where
     pub keeps : (marker : M) (entity : LifeAt) → bearer_of before marker ≡ Some entity → bearer_of after marker ≡ Some entity
     pub live_on : (entity : LifeAt) → lives before entity → lives after entity
-    pub still : loan before after
 
   -- who bears some markers was asked: who lives lived before, or bears one of these, and what was sound is sound
   pub record Asks (IsSound : S → Type 0) (named : List M) (before after : S) : Type 0 where

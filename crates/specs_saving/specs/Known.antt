@@ -1,8 +1,9 @@
 -- The entities that are known by their markers.
-use Rattle.std.specs.Prelude.{◌≡◌, ◌&&◌, ℕ, Bool, true, false, Option, Some, None, is_some, option_and_then, option_map, unwrap_or, if◌then◌else◌}
+use Rattle.std.specs.Prelude.{◌≡◌, ◌&&◌, ℕ, List, Bool, true, false, Option, Some, None, is_some, option_and_then, option_map, unwrap_or, if◌then◌else◌}
 use Rattle.specs_entity.specs.Births.{Births, IsAlive, IsBorn, living}
 use Rattle.specs_entity.specs.Life.{LifeAt}
 use Rattle.specs_layouts.specs.Masked.{Masked}
+use Rattle.specs_saving.specs.Bearing.{Asks, GoesOn}
 use Rattle.specs_saving.specs.Saved.{same_birth}
 
 -- whether an entity lives
@@ -30,6 +31,22 @@ module _ {A S M I : Type 0} (noted : A → I → Option LifeAt) (part_at : S →
     pub named : (marker : M) (entity : LifeAt) → bearer_at known marker ≡ Some entity → option_map id_of (part_at known.markers.inner entity.id) ≡ Some (id_of marker)
     pub born : (id : I) (entity : LifeAt) → noted known.allocator id ≡ Some entity → IsBorn known.births entity
 
--- nothing that is lent changed, since nothing is
-abbrev pub NoLoan : {X : Type 0} → X → X → Type 0
-NoLoan one other = Unit {0}
+module _ {A S M I : Type 0} (noted : A → I → Option LifeAt) (part_at : S → ℕ → Option M) (id_of : M → I) where
+  -- the entity that bears a marker
+  abbrev pub bearer_in : Births → A → Masked S → M → Option LifeAt
+  bearer_in births allocator markers = bearer_at noted part_at id_of (record { births = births; allocator = allocator; markers = markers })
+
+  -- each known bearer has just the marker that it is known by
+  abbrev pub IsSoundIn : Births → A → Masked S → Type 0
+  IsSoundIn births allocator markers = IsSound noted part_at id_of (record { births = births; allocator = allocator; markers = markers })
+
+  module _ (births births' : Births) (before after : A) (had has : Masked S) where
+    -- each known bearer stays so, and who lived lives on
+    abbrev pub KeepsBearers : Type 0
+    KeepsBearers =
+        GoesOn {S = Known A S} {M = M} (bearer_at noted part_at id_of) LivesIn (record { births = births; allocator = before; markers = had }) (record { births = births'; allocator = after; markers = has })
+
+    -- who lives then lived before, or bears one of these markers, and what was sound is sound
+    abbrev pub AddsBearers : List M → Type 0
+    AddsBearers named =
+        Asks {S = Known A S} {M = M} (bearer_at noted part_at id_of) LivesIn (IsSound noted part_at id_of) named (record { births = births; allocator = before; markers = had }) (record { births = births'; allocator = after; markers = has })

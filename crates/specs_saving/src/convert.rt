@@ -2,18 +2,21 @@
 ghost use Rattle.std.specs.Prelude.{◌≡◌, ◌⊎◌, ◌↔◌, List, Option, Some, None, IsSome, Ok, IfOk, IfErr, OnOk, IsErrOf};
 ghost use Rattle.specs_entity.specs.declared.ids.Entity.{Entity};
 ghost use Rattle.specs_entity.specs.declared.errors.Error.TheVariants as refusal;
-ghost use Rattle.specs_saving.specs.Bearing.{Asks, GoesOn, IsAmong};
+ghost use Rattle.specs_saving.specs.Bearing.{IsAmong};
+ghost use Rattle.specs_saving.specs.Known.{AddsBearers, KeepsBearers, bearer_in};
 
-use crate::bearers::Bearers;
-use crate::names::Names;
-use specs_entity::{Entity, Error};
+use crate::bearers::bearer;
+use crate::names::{Names, SavedMarker};
+use specs_entity::{EntitiesRes, Entity, Error};
 use specs_forms::JsonForm;
+use specs_layouts::{Component, MaskedStorage, UnprotectedStorage};
+use specs_markers::{Marker, MarkerAllocator};
 use std::alloc::Global;
 
 /// A value that is saved as data: where it names an entity, the data has the marker that stands for it.
 ///
 /// The name and the calls are those of `specs`.
-pub trait ConvertSaveload<M>: Sized {
+pub trait ConvertSaveload<M: SavedMarker>: Sized {
     /// The data.
     type Data: JsonForm;
 
@@ -40,14 +43,19 @@ pub trait ConvertSaveload<M>: Sized {
     /// The value of data. Each marker in it stands for the entity that bears it, which is made where there is none.
     ///
     /// Errors: those of `bearer`, and `Memory`. Each bearer that was known stays so.
-    fn convert_from<B: Bearers<M>>(
+    fn convert_from<A: MarkerAllocator<M>>(
         saved: Self::Data,
         alloc: Global,
-        bearers: &mut B,
+        entities: &mut EntitiesRes,
+        markers: &mut MaskedStorage<M>,
+        allocator: &mut A,
     ) -> Result<Self, Error>
-        ensures ok { IfOk result (λ value. loaded (B.bearer_of bearers.new) saved ≡ Some value) }
-        ensures asks { OnOk result (Asks B.bearer_of B.lives B.is_sound (markers_of saved) bearers.old bearers.new) }
-        ensures goes { GoesOn B.bearer_of B.lives B.loan bearers.old bearers.new };
+        ensures ok { IfOk result (λ value. loaded (bearer_in A.noted M.Storage.part_at M.id_of
+            entities.new allocator.new markers.new) saved ≡ Some value) }
+        ensures adds { OnOk result (AddsBearers A.noted M.Storage.part_at M.id_of
+            entities.old entities.new allocator.old allocator.new markers.old markers.new (markers_of saved)) }
+        ensures keeps { KeepsBearers A.noted M.Storage.part_at M.id_of
+            entities.old entities.new allocator.old allocator.new markers.old markers.new };
 
     /// A value has data just where each entity that it names has a marker.
     ghost named: { (names : Entity → Option M) (value : Self)
@@ -82,7 +90,7 @@ pub fn plain_from<T>(saved: T) -> Result<T, Error>
 }
 
 /// An entity is saved as the marker that stands for it.
-impl<M: JsonForm> ConvertSaveload<M> for Entity {
+impl<M: SavedMarker> ConvertSaveload<M> for Entity {
     type Data = M;
 
     ghost use Rattle.std.specs.Prelude.{[], ◌∷◌};
@@ -103,12 +111,14 @@ impl<M: JsonForm> ConvertSaveload<M> for Entity {
         }
     }
 
-    fn convert_from<B: Bearers<M>>(
+    fn convert_from<A: MarkerAllocator<M>>(
         saved: M,
         _alloc: Global,
-        bearers: &mut B,
+        entities: &mut EntitiesRes,
+        markers: &mut MaskedStorage<M>,
+        allocator: &mut A,
     ) -> Result<Entity, Error> {
-        bearers.bearer(saved)
+        bearer(saved, entities, markers, allocator)
     }
 
     ghost named = { one-named };

@@ -2,17 +2,15 @@
 ghost use Rattle.std.specs.Prelude.{◌≡◌, ◌≢◌, ◌<◌, ℕ, List, Option, Some, IfOk, OnOk, OnErr};
 ghost use Rattle.specs_entity.specs.declared.ids.Entity.{Entity};
 ghost use Rattle.specs_layouts.specs.MaskedChanges.{KeepsParts, PutsIn};
-ghost use Rattle.specs_saving.specs.Bearing.{Asks, GoesOn};
-ghost use Rattle.specs_saving.specs.Known.{IsSound, LivesIn, NoLoan, bearer_at};
+ghost use Rattle.specs_saving.specs.Known.{AddsBearers, KeepsBearers, bearer_in};
 ghost use Rattle.specs_saving.specs.Saved.{named_in, plain_in};
 ghost use Rattle.specs_entity.specs.Births.{IsAlive};
 
-use crate::bearers::{Bearers, LentBearers};
 use crate::convert::ConvertSaveload;
 use crate::names::SavedMarker;
 use crate::serialize::SerializeComponents;
 use hibitset::Index;
-use specs_entity::{BoxedErr, EntitiesRes, Entity, Error, Generation, WrongGeneration};
+use specs_entity::{EntitiesRes, Entity, Error};
 use specs_layouts::{Component, MaskedStorage, UnprotectedStorage};
 use specs_markers::{Marker, MarkerAllocator};
 use std::alloc::{AllocError, Global};
@@ -30,19 +28,23 @@ pub trait DeserializeComponents<M: SavedMarker>: SerializeComponents<M> {
     /// Gives a living entity the parts of data, and takes from it those that are absent there. A dead one gets none.
     ///
     /// Errors: those of `convert_from`, and `Memory`. No other index has other parts than before.
-    fn deserialize_entity<B: Bearers<M>>(
+    fn deserialize_entity<G: MarkerAllocator<M>>(
         &mut self,
         alloc: Global,
         entity: Entity,
         saved: Self::Data,
-        bearers: &mut B,
+        entities: &mut EntitiesRes,
+        markers: &mut MaskedStorage<M>,
+        allocator: &mut G,
     ) -> Result<(), Error>
-        ensures ok { OnOk result (B.lives bearers.old entity
-            → loaded (B.bearer_of bearers.new) saved ≡ Some (Self.parts_at self.new entity.id)) }
-        ensures asks { OnOk result (Asks B.bearer_of B.lives B.is_sound (markers_of saved) bearers.old bearers.new) }
-        ensures goes { GoesOn B.bearer_of B.lives B.loan bearers.old bearers.new }
+        ensures ok { OnOk result (IsAlive entities.old entity → loaded (bearer_in G.noted M.Storage.part_at M.id_of
+            entities.new allocator.new markers.new) saved ≡ Some (Self.parts_at self.new entity.id)) }
+        ensures adds { OnOk result (AddsBearers G.noted M.Storage.part_at M.id_of
+            entities.old entities.new allocator.old allocator.new markers.old markers.new (markers_of saved)) }
+        ensures keeps { KeepsBearers G.noted M.Storage.part_at M.id_of
+            entities.old entities.new allocator.old allocator.new markers.old markers.new }
         ensures others { (index : ℕ) → index ≢ entity.id → Self.parts_at self.new index ≡ Self.parts_at self.old index }
-        ensures dead { ¬ (B.lives bearers.new entity)
+        ensures dead { ¬ (IsAlive entities.new entity)
             → (index : ℕ) → Self.parts_at self.new index ≡ Self.parts_at self.old index };
 
     /// Under a map that knows more bearers, data has the parts that it had.
@@ -57,19 +59,23 @@ pub trait DeserializeComponents<M: SavedMarker>: SerializeComponents<M> {
 }
 
 /// The part of data, where there is one.
-fn convert_part<M, C: ConvertSaveload<M>, B: Bearers<M>>(
+fn convert_part<M: SavedMarker, C: ConvertSaveload<M>, A: MarkerAllocator<M>>(
     saved: Option<C::Data>,
     alloc: Global,
-    bearers: &mut B,
+    entities: &mut EntitiesRes,
+    markers: &mut MaskedStorage<M>,
+    allocator: &mut A,
 ) -> Result<Option<C>, Error>
-    ensures ok { IfOk result (λ part. plain_in (C.loaded (B.bearer_of bearers.new)) saved ≡ Some part) }
-    ensures asks { OnOk result (Asks B.bearer_of B.lives B.is_sound (named_in C.markers_of saved)
-        bearers.old bearers.new) }
-    ensures goes { GoesOn B.bearer_of B.lives B.loan bearers.old bearers.new }
+    ensures ok { IfOk result (λ part. plain_in (C.loaded (bearer_in A.noted M.Storage.part_at M.id_of
+        entities.new allocator.new markers.new)) saved ≡ Some part) }
+    ensures adds { OnOk result (AddsBearers A.noted M.Storage.part_at M.id_of entities.old entities.new
+        allocator.old allocator.new markers.old markers.new (named_in C.markers_of saved)) }
+    ensures keeps { KeepsBearers A.noted M.Storage.part_at M.id_of
+        entities.old entities.new allocator.old allocator.new markers.old markers.new }
 {
     match saved {
         Some(saved) => {
-            let part = C::convert_from(saved, alloc, bearers)?;
+            let part = C::convert_from(saved, alloc, entities, markers, allocator)?;
             Ok(Some(part))
         }
         None => Ok(None),
@@ -100,15 +106,17 @@ impl<M: SavedMarker, C: Component + ConvertSaveload<M>> DeserializeComponents<M>
 
     ghost loaded = { λ bearers. plain_in (C.loaded bearers) };
 
-    fn deserialize_entity<B: Bearers<M>>(
+    fn deserialize_entity<G: MarkerAllocator<M>>(
         &mut self,
         alloc: Global,
         entity: Entity,
         saved: Option<C::Data>,
-        bearers: &mut B,
+        entities: &mut EntitiesRes,
+        markers: &mut MaskedStorage<M>,
+        allocator: &mut G,
     ) -> Result<(), Error> {
-        let part = convert_part(saved, alloc, bearers)?;
-        if bearers.is_alive(entity) {
+        let part = convert_part(saved, alloc, entities, markers, allocator)?;
+        if entities.is_alive(entity) {
             settle(self, entity.id(), part)?;
         }
         Ok(())
@@ -131,16 +139,18 @@ impl<M: SavedMarker, A: DeserializeComponents<M>, B: DeserializeComponents<M>> D
 
     ghost loaded = { λ bearers saved. both (A.loaded bearers saved.0) (B.loaded bearers saved.1) };
 
-    fn deserialize_entity<F: Bearers<M>>(
+    fn deserialize_entity<G: MarkerAllocator<M>>(
         &mut self,
         alloc: Global,
         entity: Entity,
         saved: (A::Data, B::Data),
-        bearers: &mut F,
+        entities: &mut EntitiesRes,
+        markers: &mut MaskedStorage<M>,
+        allocator: &mut G,
     ) -> Result<(), Error> {
         let (first, second) = saved;
-        match self.0.deserialize_entity(alloc, entity, first, bearers) {
-            Ok(()) => self.1.deserialize_entity(alloc, entity, second, bearers),
+        match self.0.deserialize_entity(alloc, entity, first, entities, markers, allocator) {
+            Ok(()) => self.1.deserialize_entity(alloc, entity, second, entities, markers, allocator),
             Err(error) => Err(error),
         }
     }
@@ -152,108 +162,4 @@ impl<M: SavedMarker, A: DeserializeComponents<M>, B: DeserializeComponents<M>> D
     ghost back = { λ bearers names saved parts same. both-back (A.loaded bearers saved.0) (B.loaded bearers saved.1)
         (A.plain names) (B.plain names) saved parts (λ part. A.back bearers names saved.0 part same)
         (λ part. B.back bearers names saved.1 part same) };
-}
-
-/// Why an entity isn't loaded, with no text that outlives what is lent.
-#[derive(Drop)]
-enum LoadRefusal {
-    WrongGeneration(Generation, Entity),
-    Custom(BoxedErr),
-    IndicesSpent,
-    GenerationsSpent,
-    MarkersSpent,
-    Unmarked,
-    NotRegistered,
-    Limit,
-    Memory,
-}
-
-/// The refusal as it is kept while something is lent.
-fn kept(error: Error) -> LoadRefusal {
-    match error {
-        Error::WrongGeneration(refusal) => LoadRefusal::WrongGeneration(refusal.actual_gen, refusal.entity),
-        Error::Custom(refusal) => LoadRefusal::Custom(refusal),
-        Error::IndicesSpent => LoadRefusal::IndicesSpent,
-        Error::GenerationsSpent => LoadRefusal::GenerationsSpent,
-        Error::MarkersSpent => LoadRefusal::MarkersSpent,
-        Error::Unmarked => LoadRefusal::Unmarked,
-        Error::NotRegistered => LoadRefusal::NotRegistered,
-        Error::Limit => LoadRefusal::Limit,
-        Error::Memory => LoadRefusal::Memory,
-    }
-}
-
-/// The refusal as it is told.
-fn told(refusal: LoadRefusal) -> Error {
-    match refusal {
-        LoadRefusal::WrongGeneration(actual_gen, entity) => Error::WrongGeneration(WrongGeneration {
-            action: "load",
-            actual_gen,
-            entity,
-        }),
-        LoadRefusal::Custom(refusal) => Error::Custom(refusal),
-        LoadRefusal::IndicesSpent => Error::IndicesSpent,
-        LoadRefusal::GenerationsSpent => Error::GenerationsSpent,
-        LoadRefusal::MarkersSpent => Error::MarkersSpent,
-        LoadRefusal::Unmarked => Error::Unmarked,
-        LoadRefusal::NotRegistered => Error::NotRegistered,
-        LoadRefusal::Limit => Error::Limit,
-        LoadRefusal::Memory => Error::Memory,
-    }
-}
-
-/// Loads the parts of an entity.
-fn load_parts<M: SavedMarker, S: DeserializeComponents<M>, B: Bearers<M>>(
-    storages: &mut S,
-    alloc: Global,
-    entity: Entity,
-    saved: S::Data,
-    bearers: &mut B,
-) -> Result<(), LoadRefusal>
-    ensures ok { OnOk result (B.lives bearers.old entity
-        → S.loaded (B.bearer_of bearers.new) saved ≡ Some (S.parts_at storages.new entity.id)) }
-    ensures asks { OnOk result (Asks B.bearer_of B.lives B.is_sound (S.markers_of saved) bearers.old bearers.new) }
-    ensures goes { GoesOn B.bearer_of B.lives B.loan bearers.old bearers.new }
-    ensures others { (index : ℕ) → index ≢ entity.id → S.parts_at storages.new index ≡ S.parts_at storages.old index }
-{
-    match storages.deserialize_entity(alloc, entity, saved, bearers) {
-        Ok(()) => Ok(()),
-        Err(error) => Err(kept(error)),
-    }
-}
-
-/// Loads the parts of an entity, among lent entities and markers.
-fn load_lent<M: SavedMarker, S: DeserializeComponents<M>, A: MarkerAllocator<M>>(
-    storages: &mut S,
-    alloc: Global,
-    entity: Entity,
-    saved: S::Data,
-    entities: &mut EntitiesRes,
-    markers: &mut MaskedStorage<M>,
-    allocator: &mut A,
-) -> Result<(), LoadRefusal>
-    ensures ok { OnOk result (IsAlive entities.old entity → S.loaded (bearer_at A.noted M.Storage.part_at M.id_of
-        (record { births = entities.new; allocator = allocator.new; markers = markers.new })) saved
-        ≡ Some (S.parts_at storages.new entity.id)) }
-    ensures asks { OnOk result (Asks (bearer_at A.noted M.Storage.part_at M.id_of) LivesIn
-        (IsSound A.noted M.Storage.part_at M.id_of) (S.markers_of saved)
-        (record { births = entities.old; allocator = allocator.old; markers = markers.old })
-        (record { births = entities.new; allocator = allocator.new; markers = markers.new })) }
-    ensures goes { GoesOn (bearer_at A.noted M.Storage.part_at M.id_of) LivesIn NoLoan
-        (record { births = entities.old; allocator = allocator.old; markers = markers.old })
-        (record { births = entities.new; allocator = allocator.new; markers = markers.new }) }
-    ensures others { (index : ℕ) → index ≢ entity.id → S.parts_at storages.new index ≡ S.parts_at storages.old index }
-{
-    let mut bearers = LentBearers {
-        entities,
-        markers,
-        allocator,
-    };
-    let result = load_parts(storages, alloc, entity, saved, &mut bearers);
-    let LentBearers {
-        entities: _,
-        markers: _,
-        allocator: _,
-    } = bearers;
-    result
 }

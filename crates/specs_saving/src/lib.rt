@@ -1,13 +1,13 @@
 //! Saving and loading: the marked entities of a world as a list of data, and entities made of such a list.
 #![tactic(auto)]
 
-pub mod bearers;
+mod bearers;
 pub mod convert;
 pub mod deserialize;
 pub mod names;
 pub mod serialize;
 
-pub use bearers::{Bearers, LentBearers};
+pub use bearers::bearer;
 pub use convert::{ConvertSaveload, plain_from, plain_into};
 pub use deserialize::DeserializeComponents;
 pub use names::{Marks, Names, SavedMarker};

@@ -1,14 +1,19 @@
 use Rattle.std.proofs.lemmas.Result.{on_ok_weaker}
-use Rattle.specs_saving.specs.Bearing.{Asks}
+use Rattle.specs_saving.specs.LoadingLemmas.{both-are}
 use Rattle.specs_saving.proofs.LoadLemmas.{asks-both, goes-both}
 use Rattle.specs_saving.proofs.deserialize.Tuple2DeserializeComponents.deserialize_entity.Goals as goal
 
-pub returns-in-Ok-clause-asks : goal.returns-in-Ok-clause-asks
-returns-in-Ok-clause-asks g c =
+pub returns-in-Ok-clause-ok : goal.returns-in-Ok-clause-ok
+returns-in-Ok-clause-ok g c =
     on_ok_weaker c.deserialize_entity-in-Ok.result
-    (asks-both g.F.Bearers.bearer_of g.F.Bearers.lives c.args.bearers.now c.deserialize_entity.new.bearers c.deserialize_entity-in-Ok.new.bearers g.F.Bearers.loan g.F.Bearers.is_sound _ _ c.in-Ok.ensures.asks c.deserialize_entity-in-Ok.ensures.goes)
-    c.deserialize_entity-in-Ok.ensures.asks
+    (λ second alive. both-are _ _ _ _
+      (g.met.A.DeserializeComponents.kept _ _ c.args.saved.0 _ c.deserialize_entity-in-Ok.ensures.keeps.keeps (c.in-Ok.ensures.ok alive))
+      (second (c.deserialize_entity.ensures.keeps.live_on c.args.entity alive)))
+    c.deserialize_entity-in-Ok.ensures.ok
 
-pub returns-in-Ok-clause-goes : goal.returns-in-Ok-clause-goes
-returns-in-Ok-clause-goes g c =
-    goes-both g.F.Bearers.bearer_of g.F.Bearers.lives c.args.bearers.now c.deserialize_entity.new.bearers c.deserialize_entity-in-Ok.new.bearers g.F.Bearers.loan (g.met.F.Bearers.goes_on _ _ _) c.deserialize_entity.ensures.goes c.deserialize_entity-in-Ok.ensures.goes
+pub returns-in-Ok-clause-adds : goal.returns-in-Ok-clause-adds
+returns-in-Ok-clause-adds g c =
+    on_ok_weaker c.deserialize_entity-in-Ok.result (asks-both _ _ _ _ _ _ _ _ c.in-Ok.ensures.adds c.deserialize_entity-in-Ok.ensures.keeps) c.deserialize_entity-in-Ok.ensures.adds
+
+pub returns-in-Ok-clause-keeps : goal.returns-in-Ok-clause-keeps
+returns-in-Ok-clause-keeps g c = goes-both _ _ _ _ _ c.deserialize_entity.ensures.keeps c.deserialize_entity-in-Ok.ensures.keeps

@@ -1,18 +1,11 @@
--- Bearers that are lent.
+-- Who is known by a marker, and who lives.
 use Rattle.std.proofs.Common.{◌≡◌, IsSome, nat_eq, ℕ, Bool, true, false, cond, ◌&&◌, Option, Some, None, is_some, option_and_then, option_map, unwrap_or, refl, sym, ap, subst, ◌∙◌}
 use Rattle.std.proofs.lemmas.Bool.{eqb-true, eq-eqb, false≢true}
-use Rattle.std.specs.Borrow.{MutBor}
 use Rattle.specs_entity.specs.Births.{Births, IsAlive, living}
 use Rattle.specs_entity.specs.Life.{Life, LifeAt}
 use Rattle.specs_saving.specs.Known.{Known, bearer_at, lives_there}
 use Rattle.specs_markers.specs.Marking.{IsKnown}
-use Rattle.specs_saving.specs.Lent.{SameLoans}
 use Rattle.specs_saving.specs.Saved.{same_birth, same_truth}
-
--- they are lent still, after one thing and another
-pub goes-on : {E M A : Type 0} (one two three : MutBor E) (marked marked' marked'' : MutBor M) (giver giver' giver'' : MutBor A) → SameLoans one two marked marked' giver giver' → SameLoans two three marked' marked'' giver' giver'' → SameLoans one three marked marked'' giver giver''
-goes-on one two three marked marked' marked'' giver giver' giver'' first second =
-    record { entities = second.entities ∙ first.entities; markers = second.markers ∙ first.markers; allocator = second.allocator ∙ first.allocator }
 
 -- ---- whether an entity lives
 
