@@ -3,7 +3,8 @@ use Rattle.std.proofs.Common.{◌≡◌, IsSome, nat_eq, ℕ, Bool, true, false,
 use Rattle.std.proofs.lemmas.Bool.{eqb-true, eq-eqb, false≢true}
 use Rattle.specs_entity.specs.Births.{Births, IsAlive, living}
 use Rattle.specs_entity.specs.Life.{Life, LifeAt}
-use Rattle.specs_saving.specs.Known.{Known, bearer_at, lives_there}
+use Rattle.specs_saving.specs.Known.{IsSound, Known, bearer_at, lives_there}
+use Rattle.specs_saving.specs.LoadingLemmas.{the-same}
 use Rattle.specs_markers.specs.Marking.{IsKnown}
 use Rattle.specs_saving.specs.Saved.{same_birth, same_truth}
 
@@ -87,3 +88,8 @@ module _ {A S M I : Type 0} (noted : A → I → Option LifeAt) (part_at : S →
   -- and alive
   pub bearer-alive : (known : Known A S) (marker : M) (entity : LifeAt) → bearer_at noted part_at id_of known marker ≡ Some entity → IsAlive known.births entity
   bearer-alive known marker entity is = (bearer-known known marker entity is).alive
+
+  -- of two known bearers at one index the markers are one, where each has just the marker that it is known by
+  pub bearers-apart : ((one other : M) → id_of one ≡ id_of other → one ≡ other) → (known : Known A S) → IsSound noted part_at id_of known → (one other : M) (entity entity' : LifeAt) → bearer_at noted part_at id_of known one ≡ Some entity → bearer_at noted part_at id_of known other ≡ Some entity' → entity.id ≡ entity'.id → one ≡ other
+  bearers-apart by_id known sound one other entity entity' bears bears' same =
+      by_id one other (the-same (id_of one) (id_of other) (sym (sound.named one entity bears) ∙ (ap (λ index. option_map id_of (part_at known.markers.inner index)) same ∙ sound.named other entity' bears')))

@@ -1,19 +1,23 @@
 //! Loading: entities and their parts made of a list of data.
-ghost use Rattle.std.specs.Prelude.{◌≡◌, ◌≢◌, ◌<◌, ℕ, List, Option, Some, IfOk, OnOk, OnErr};
+ghost use Rattle.std.specs.Prelude.{◌≡◌, ◌≢◌, ◌<◌, ◌∷◌, ℕ, List, Option, Some, IfOk, IfErr, OnOk, OnErr};
 ghost use Rattle.specs_entity.specs.declared.ids.Entity.{Entity};
 ghost use Rattle.specs_layouts.specs.MaskedChanges.{KeepsParts, PutsIn};
-ghost use Rattle.specs_saving.specs.Known.{AddsBearers, KeepsBearers, bearer_in};
+ghost use Rattle.specs_saving.specs.Known.{AddsBearers, IsSoundIn, KeepsBearers, bearer_in};
+ghost use Rattle.specs_saving.specs.Loading.{IsLoaded, Loads, LoadsBefore};
 ghost use Rattle.specs_saving.specs.Saved.{named_in, plain_in};
 ghost use Rattle.specs_entity.specs.Births.{IsAlive};
 
+use crate::bearers::bearer;
 use crate::convert::ConvertSaveload;
 use crate::names::SavedMarker;
 use crate::serialize::SerializeComponents;
 use hibitset::Index;
 use specs_entity::{EntitiesRes, Entity, Error};
+use specs_forms::EntityData;
 use specs_layouts::{Component, MaskedStorage, UnprotectedStorage};
 use specs_markers::{Marker, MarkerAllocator};
 use std::alloc::{AllocError, Global};
+use thiserror::Error as ThisError;
 
 /// Storages whose parts are loaded: one, or a tuple of such, which nest.
 ///
@@ -162,4 +166,72 @@ impl<M: SavedMarker, A: DeserializeComponents<M>, B: DeserializeComponents<M>> D
     ghost back = { λ bearers names saved parts same. both-back (A.loaded bearers saved.0) (B.loaded bearers saved.1)
         (A.plain names) (B.plain names) saved parts (λ part. A.back bearers names saved.0 part same)
         (λ part. B.back bearers names saved.1 part same) };
+}
+
+/// Why a list isn't loaded, and where.
+#[derive(Debug, Drop, ThisError)]
+#[error("the entry at {place} is not loaded: {error}")]
+pub struct LoadError {
+    /// The place of the entry in the list, counted from 0. Those before it are loaded.
+    pub place: usize,
+    /// The refusal.
+    pub error: Error,
+}
+
+/// Loads one entry: the parts of the entity that bears its marker, which is made where there is none.
+fn load_one<M: SavedMarker, S: DeserializeComponents<M>, A: MarkerAllocator<M>>(
+    storages: &mut S,
+    alloc: Global,
+    entry: EntityData<M, S::Data>,
+    entities: &mut EntitiesRes,
+    markers: &mut MaskedStorage<M>,
+    allocator: &mut A,
+) -> Result<(), Error>
+    ensures ok { OnOk result (IsLoaded S.loaded (bearer_in A.noted M.Storage.part_at M.id_of
+        entities.new allocator.new markers.new) (S.parts_at storages.new) entry) }
+    ensures adds { OnOk result (AddsBearers A.noted M.Storage.part_at M.id_of entities.old entities.new
+        allocator.old allocator.new markers.old markers.new (entry.marker ∷ S.markers_of entry.components)) }
+    ensures keeps { KeepsBearers A.noted M.Storage.part_at M.id_of
+        entities.old entities.new allocator.old allocator.new markers.old markers.new }
+    ensures others { IsSoundIn A.noted M.Storage.part_at M.id_of entities.old allocator.old markers.old
+        → (marker : M) (entity : Entity) → bearer_in A.noted M.Storage.part_at M.id_of
+        entities.old allocator.old markers.old marker ≡ Some entity → marker ≢ entry.marker
+        → S.parts_at storages.new entity.id ≡ S.parts_at storages.old entity.id }
+    ensures elsewhere { (index : ℕ) → ((entity : Entity) → bearer_in A.noted M.Storage.part_at M.id_of
+        entities.new allocator.new markers.new entry.marker ≡ Some entity → index ≢ entity.id)
+        → S.parts_at storages.new index ≡ S.parts_at storages.old index }
+{
+    let EntityData { marker, components } = entry;
+    match bearer(marker, entities, markers, allocator) {
+        Ok(entity) => storages.deserialize_entity(alloc, entity, components, entities, markers, allocator),
+        Err(error) => Err(error),
+    }
+}
+
+/// Loads the entries of a list, one after the other.
+fn load_all<M: SavedMarker, S: DeserializeComponents<M>, A: MarkerAllocator<M>>(
+    storages: &mut S,
+    alloc: Global,
+    list: Vec<EntityData<M, S::Data>>,
+    entities: &mut EntitiesRes,
+    markers: &mut MaskedStorage<M>,
+    allocator: &mut A,
+) -> Result<(), LoadError>
+    ensures ok { OnOk result (Loads A.noted M.Storage.part_at M.id_of S.markers_of S.loaded list.items
+        (record { births = entities.old; allocator = allocator.old; markers = markers.old })
+        (record { births = entities.new; allocator = allocator.new; markers = markers.new })
+        (S.parts_at storages.old) (S.parts_at storages.new)) }
+    ensures err { IfErr result (λ refused. LoadsBefore A.noted M.Storage.part_at M.id_of S.markers_of S.loaded list.items
+        (record { births = entities.old; allocator = allocator.old; markers = markers.old })
+        (record { births = entities.new; allocator = allocator.new; markers = markers.new })
+        (S.parts_at storages.old) (S.parts_at storages.new) refused.place) }
+{
+    let mut place = 0;
+    for entry in list {
+        match load_one(storages, alloc, entry, entities, markers, allocator) {
+            Ok(()) => place += 1,
+            Err(error) => return Err(LoadError { place, error }),
+        }
+    }
+    Ok(())
 }
