@@ -1,5 +1,5 @@
 -- What is loaded of a list of data.
-use Rattle.std.specs.Prelude.{◌≡◌, ◌≢◌, ◌⊎◌, ◌∷◌, ◌<◌, ℕ, List, length, take, Option, Some}
+use Rattle.std.specs.Prelude.{◌≡◌, ◌≢◌, ◌⊎◌, [], ◌∷◌, ◌<◌, ℕ, List, length, take, Option, Some}
 use Rattle.specs_entity.specs.Births.{Births, IsAlive}
 use Rattle.specs_entity.specs.Life.{LifeAt}
 use Rattle.specs_forms.specs.declared.entity_data.EntityData.{EntityData}
@@ -13,9 +13,10 @@ pub record IsLoaded {M D P : Type 0} (load : (M → Option LifeAt) → D → Opt
   pub bears : bearers entry.marker ≡ Some entity
   pub has : load bearers entry.components ≡ Some (parts_at entity.id)
 
--- two entries with one marker are one
-abbrev pub IsByMarker : {M D : Type 0} → List (EntityData M D) → Type 0
-IsByMarker {M} {D} list = (one other : EntityData M D) → IsAmong one list → IsAmong other list → one.marker ≡ other.marker → one ≡ other
+-- no two entries have one marker
+abbrev pub AreApart : {M D : Type 0} → List (EntityData M D) → Type 0
+AreApart [] = Unit {0}
+AreApart {M} {D} (first ∷ rest) = ((other : EntityData M D) → IsAmong other rest → first.marker ≢ other.marker) × AreApart rest
 
 -- a marker stands in an entry: it is the entry's, or stands in its data
 abbrev pub StandsIn : {M D : Type 0} → (D → List M) → M → EntityData M D → Type 0
@@ -26,7 +27,7 @@ module _ {A S M I D P : Type 0} (noted : A → I → Option LifeAt) (part_at : S
   pub record Loads : Type 0 where
     pub keeps : GoesOn (bearer_at noted part_at id_of) LivesIn before after
     pub sound : IsSound noted part_at id_of before → IsSound noted part_at id_of after
-    pub loaded : IsSound noted part_at id_of before → IsByMarker list → (entry : EntityData M D) → IsAmong entry list → IsLoaded load (bearer_at noted part_at id_of after) has entry
+    pub loaded : IsSound noted part_at id_of before → AreApart list → (entry : EntityData M D) → IsAmong entry list → IsLoaded load (bearer_at noted part_at id_of after) has entry
     pub only : (entity : LifeAt) → IsAlive after.births entity → IsAlive before.births entity ⊎ ((entry : EntityData M D) × (marker : M) × IsAmong entry list × StandsIn markers_of marker entry × (bearer_at noted part_at id_of after marker ≡ Some entity))
     pub others : (index : ℕ) → ((entry : EntityData M D) (entity : LifeAt) → IsAmong entry list → bearer_at noted part_at id_of after entry.marker ≡ Some entity → index ≢ entity.id) → has index ≡ had index
 
@@ -34,4 +35,4 @@ module _ {A S M I D P : Type 0} (noted : A → I → Option LifeAt) (part_at : S
   pub record LoadsBefore (place : ℕ) : Type 0 where
     pub inside : place < length list
     pub keeps : GoesOn (bearer_at noted part_at id_of) LivesIn before after
-    pub loaded : IsSound noted part_at id_of before → IsByMarker list → (entry : EntityData M D) → IsAmong entry (take place list) → IsLoaded load (bearer_at noted part_at id_of after) has entry
+    pub loaded : IsSound noted part_at id_of before → AreApart list → (entry : EntityData M D) → IsAmong entry (take place list) → IsLoaded load (bearer_at noted part_at id_of after) has entry

@@ -44,7 +44,7 @@ pub among-right : {X : Type 0} (item : X) (one other : List X) → IsAmong item 
 among-right item [] other among = among
 among-right item (first ∷ rest) other among = inr (among-right item rest other among)
 
-among-either : {X : Type 0} (item : X) (one other : List X) → IsAmong item (one ++ other) → IsAmong item one ⊎ IsAmong item other
+pub among-either : {X : Type 0} (item : X) (one other : List X) → IsAmong item (one ++ other) → IsAmong item one ⊎ IsAmong item other
 among-either item [] other among = inr among
 among-either item (first ∷ rest) other (inl is) = inl (inl is)
 among-either item (first ∷ rest) other (inr later) = elim (among-either item rest other later) [ inl left ↦ inl (inr left) | inr right ↦ inr right ]

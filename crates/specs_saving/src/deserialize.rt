@@ -226,6 +226,7 @@ fn load_all<M: SavedMarker, S: DeserializeComponents<M>, A: MarkerAllocator<M>>(
         (record { births = entities.new; allocator = allocator.new; markers = markers.new })
         (S.parts_at storages.old) (S.parts_at storages.new) refused.place) }
 {
+    let _count = list.as_slice().len();
     let mut place = 0;
     for entry in list {
         match load_one(storages, alloc, entry, entities, markers, allocator) {

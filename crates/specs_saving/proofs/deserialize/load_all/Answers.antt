@@ -1,28 +1,35 @@
-use Rattle.std.proofs.Common.{rules, ◌≡◌, ◌≢◌, ◌<◌, ◌∷◌, ℕ, List, Option, Some, IfOk, IfErr, OnOk, OnErr, ◌+◌, ◌-◌, ◌*◌, ◌≤◌, length, ◌/◌, ◌%◌, Bool, true, false, nat_eq, nat_lt, [], ◌++◌, slice_index_or, slice_set, bit_and, bit_or, Fits, w8, w32, w64, Bor, MutBor}
-use Rattle.specs_entity.specs.declared.ids.Entity.{Entity}
-use Rattle.specs_layouts.specs.MaskedChanges.{KeepsParts, PutsIn}
-use Rattle.specs_saving.specs.Known.{AddsBearers, IsSoundIn, KeepsBearers, bearer_in}
-use Rattle.specs_saving.specs.Loading.{IsLoaded, Loads, LoadsBefore}
-use Rattle.specs_saving.specs.Saved.{named_in, plain_in}
-use Rattle.specs_entity.specs.Births.{IsAlive}
+use Rattle.std.proofs.Common.{◌≡◌, ◌+◌, ◌<◌, ◌∷◌, [], List, length, w64, Fits, sym, ap, subst, ◌∙◌, arith}
+use Rattle.std.specs.Vec.Iter.{into_iter_items, into_iter_len}
+use Rattle.specs_saving.proofs.LoadLemmas.{loading-begins, loading-ends, loading-goes-on, loading-stops, none-left, one-less, place-inside}
 use Rattle.specs_saving.proofs.deserialize.load_all.Goals as goal
 
--- src/deserialize.rt:230:5
 pub loop-entry-init : goal.loop-entry-init
-loop-entry-init g c = ?
+loop-entry-init g c =
+    let into = c.into_iter-entry-iterator.ensures.into_iter_gives in
+    record {
+      len = into.1 ∙ (sym c.as_slice-count.ensures.len ∙ (ap length c.as_slice-count.ensures.value ∙ ap length (sym into.0)));
+      loading = loading-begins _ _ _ _ _ _ _ _ _ into.0;
+    }
 
--- src/deserialize.rt:232:23
 pub overflow_add-place : goal.overflow_add-place
-overflow_add-place g c = ?
+overflow_add-place g c =
+    let inside = place-inside _ _ _ _ _ _ _ _ _ _ _ _ _ _ c.loop-entry.invariant.loading c.in-Some.ensures.steps.0 in
+    let into = c.into_iter-entry-iterator.ensures.into_iter_gives in
+    let items : length c.args.list.items ≡ into_iter_len c.into_iter-entry-iterator.result = ap length (sym c.as_slice-count.ensures.value) ∙ (c.as_slice-count.ensures.len ∙ sym into.1) in
+    let short = into.2 in
+    omega (arith, inside, items, short)
 
--- src/deserialize.rt:230:5
 pub loop-entry-preserved : goal.loop-entry-preserved
-loop-entry-preserved g c = ?
+loop-entry-preserved g c =
+    record {
+      len = one-less _ _ c.in-Some.entry _ _ c.loop-entry.invariant.len c.in-Some.ensures.steps.0 c.in-Some.ensures.steps.1;
+      loading = loading-goes-on _ _ _ _ _ _ _ g.met.S.DeserializeComponents.kept _ _ _ c.in-Some.entry _ _ _ _ _ c.loop-entry.invariant.loading c.in-Some.ensures.steps.0 c.load_one.ensures.keeps c.load_one.ensures.others c.in-Ok.ensures.adds c.in-Ok.ensures.ok c.load_one.ensures.elsewhere;
+    }
 
--- src/deserialize.rt:233:27
 pub returns-in-Err-clause-err : goal.returns-in-Err-clause-err
-returns-in-Err-clause-err g c = ?
+returns-in-Err-clause-err g c =
+    loading-stops _ _ _ _ _ _ _ g.met.S.DeserializeComponents.kept _ _ _ c.in-Some.entry _ _ _ _ _ c.loop-entry.invariant.loading c.in-Some.ensures.steps.0 c.load_one.ensures.keeps c.load_one.ensures.others
 
--- src/deserialize.rt:212:1
 pub returns-clause-ok : goal.returns-clause-ok
-returns-clause-ok g c = ?
+returns-clause-ok g c =
+    loading-ends _ _ _ _ _ _ _ _ _ _ _ _ c.loop-entry.invariant.loading (none-left _ _ c.loop-entry.invariant.len c.in-None.ensures.steps.0)
