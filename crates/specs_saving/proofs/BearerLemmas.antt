@@ -1,17 +1,17 @@
 -- Which entities are known by their markers, before and after one was looked for.
-use Rattle.std.proofs.Common.{◌≡◌, ◌≢◌, ◌⊎◌, ◌↔◌, ◌+◌, ◌<◌, ◌≤◌, ◌&&◌, ℕ, nat_eq, Bool, true, false, cond, List, [], ◌∷◌, Option, Some, None, is_some, IsSome, option_and_then, option_map, unwrap_or, inl, inr, refl, sym, ap, subst, ◌∙◌, arith}
-use Rattle.std.proofs.lemmas.Bool.{eqb-true, eq-eqb, false≢true}
+use Rattle.std.proofs.Common.{◌≡◌, ◌≢◌, ◌⊎◌, ◌+◌, ◌<◌, ◌≤◌, ℕ, Bool, true, false, cond, [], ◌∷◌, Option, Some, None, is_some, IsSome, option_map, inl, inr, refl, sym, ap, subst, ◌∙◌, arith}
+use Rattle.std.proofs.lemmas.Bool.{eq-eqb, false≢true}
 use Rattle.std.proofs.lemmas.Bool.Decides.{eqb_tells}
 use Rattle.std.specs.FinSet as set
-use Rattle.specs_entity.specs.Births.{Births, BringsToLife, Continues, IsAlive, IsBorn, LivesOn, count, living, living_of, newborn, number_of, persistent_at}
+use Rattle.specs_entity.specs.Births.{Births, Continues, IsAlive, IsBorn, LivesOn, living, living_of, newborn, number_of, persistent_at}
 use Rattle.specs_entity.specs.Life.{Life, LifeAt}
 use Rattle.specs_entity.specs.declared.errors.Error.{Error}
 use Rattle.specs_layouts.specs.Masked.{Masked}
-use Rattle.specs_layouts.specs.MaskedChanges.{KeepsParts, PutsIn}
+use Rattle.specs_layouts.specs.MaskedChanges.{PutsIn}
 use Rattle.specs_layouts.specs.MaskedLends.{StorageMembers}
-use Rattle.specs_markers.specs.Marking.{FindsMarked, HasGiven, IsKnown, MakesMarked, RefusesCreation, RefusesGift, RefusesMarked, RefusesRetrieval, RefusesUpdate, Retrieves}
-use Rattle.specs_saving.specs.Bearing.{Asks, GoesOn, IsAmong}
-use Rattle.specs_saving.specs.Known.{IsSound, Known, LivesIn, bearer_at, lives_there}
+use Rattle.specs_markers.specs.Marking.{FindsMarked, IsKnown, MakesMarked, RefusesGift, RefusesRetrieval, Retrieves}
+use Rattle.specs_saving.specs.Bearing.{Asks, GoesOn}
+use Rattle.specs_saving.specs.Known.{IsSound, Known, LivesIn, bearer_at}
 use Rattle.specs_saving.proofs.KnownLemmas.{bearer-known, known-bearer}
 
 -- ---- who was born
@@ -42,6 +42,7 @@ one_alive births one other alive alive' same =
     life_in : Life → Option Life → Life
     life_in default None = default
     life_in default (Some life) = life
+
     some-life : Some one.generation ≡ Some other.generation → one.generation ≡ other.generation
     some-life is = ap (life_in one.generation) is
 

@@ -84,7 +84,6 @@ module _ {A S M I : Type 0} (noted : A → I → Option LifeAt) (part_at : S →
         ap (option_and_then (λ (other : LifeAt). cond (lives_there known.births other && is_some (part_at known.markers.inner other.id)) (Some other) None)) is.under
         ∙ ap (λ b. cond b (Some entity) None) (true-both (lives_there known.births entity) (is_some (part_at known.markers.inner entity.id)) (lives-there known.births entity is.alive) is.marked)
 
-
   -- and alive
   pub bearer-alive : (known : Known A S) (marker : M) (entity : LifeAt) → bearer_at noted part_at id_of known marker ≡ Some entity → IsAlive known.births entity
   bearer-alive known marker entity is = (bearer-known known marker entity is).alive

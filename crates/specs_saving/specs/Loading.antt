@@ -1,9 +1,8 @@
 -- What is loaded of a list of data.
 use Rattle.std.specs.Prelude.{◌≡◌, ◌≢◌, ◌⊎◌, [], ◌∷◌, ◌<◌, ℕ, List, length, take, Option, Some}
-use Rattle.specs_entity.specs.Births.{Births, IsAlive}
+use Rattle.specs_entity.specs.Births.{IsAlive}
 use Rattle.specs_entity.specs.Life.{LifeAt}
 use Rattle.specs_forms.specs.declared.entity_data.EntityData.{EntityData}
-use Rattle.specs_layouts.specs.Masked.{Masked}
 use Rattle.specs_saving.specs.Bearing.{GoesOn, IsAmong}
 use Rattle.specs_saving.specs.Known.{IsSound, Known, LivesIn, bearer_at}
 

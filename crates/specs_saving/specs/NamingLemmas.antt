@@ -1,5 +1,5 @@
 -- Which values have data under a map from entity to marker.
-use Rattle.std.proofs.Common.{◌≡◌, ◌≢◌, ℕ, Bool, true, false, ◌↔◌, ◌⊎◌, List, [], ◌∷◌, ◌++◌, Option, Some, None, IsSome, is_some, option_map, inl, inr, refl, sym, subst, ◌∙◌}
+use Rattle.std.proofs.Common.{◌≡◌, ◌≢◌, ℕ, Bool, true, false, ◌↔◌, ◌⊎◌, List, [], ◌∷◌, ◌++◌, Option, Some, None, IsSome, is_some, option_map, inl, inr, refl, sym, ap, subst, ◌∙◌}
 use Rattle.std.proofs.lemmas.Bool.{false≢true}
 use Rattle.std.proofs.lemmas.Slice.Eq.{bytes_eq-Decides}
 use Rattle.std.specs.Str.{bytes_eq}
@@ -19,6 +19,11 @@ bytes-tell one other = told-apart one other (bytes_eq one other) refl
 -- of one entity
 pub one-named : {M : Type 0} (names : LifeAt → Option M) (entity : LifeAt) → IsSome (names entity) ↔ ((other : LifeAt) → IsAmong other (entity ∷ []) → IsSome (names other))
 one-named names entity = (λ some other among. elim among [ inl is ↦ subst (λ e. IsSome (names e)) is some | inr none ↦ absurd none ], λ all. all entity (inl (λ i. entity)))
+
+-- the marker in an entity's data is its marker
+pub one-stands : {M : Type 0} (name : Option M) (saved marker : M) → name ≡ Some saved → IsAmong marker (saved ∷ []) → name ≡ Some marker
+one-stands name saved marker is (inl same) = is ∙ ap Some same
+one-stands name saved marker is (inr none) = absurd none
 
 some-mapped : {A B : Type 0} (f : A → B) (o : Option A) → is_some (option_map f o) ≡ is_some o
 some-mapped f None = refl

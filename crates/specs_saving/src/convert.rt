@@ -61,6 +61,11 @@ pub trait ConvertSaveload<M: SavedMarker>: Sized {
     ghost named: { (names : Entity → Option M) (value : Self)
         → IsSome (plain names value) ↔ ((entity : Entity) → IsAmong entity (refers_to value) → IsSome (names entity)) };
 
+    /// Each marker that stands in the data of a value is that of an entity.
+    ghost stands: { (names : Entity → Option M) (value : Self) (saved : Self.Data) (marker : M)
+        → plain names value ≡ Some saved → IsAmong marker (markers_of saved)
+        → (entity : Entity) × (names entity ≡ Some marker) };
+
     /// Under a map that knows more bearers, data has the value that it had.
     ghost kept: { (one other : M → Option Entity) (saved : Self.Data) (value : Self)
         → ((marker : M) (entity : Entity) → one marker ≡ Some entity → other marker ≡ Some entity)
@@ -94,7 +99,7 @@ impl<M: SavedMarker> ConvertSaveload<M> for Entity {
     type Data = M;
 
     ghost use Rattle.std.specs.Prelude.{[], ◌∷◌};
-    ghost use Rattle.specs_saving.specs.NamingLemmas.{one-named};
+    ghost use Rattle.specs_saving.specs.NamingLemmas.{one-named, one-stands};
 
     ghost refers_to = { λ entity. entity ∷ [] };
 
@@ -122,6 +127,8 @@ impl<M: SavedMarker> ConvertSaveload<M> for Entity {
     }
 
     ghost named = { one-named };
+
+    ghost stands = { λ names entity saved marker is among. (entity, one-stands (names entity) saved marker is among) };
 
     ghost kept = { λ one other marker entity more is. more marker entity is };
 

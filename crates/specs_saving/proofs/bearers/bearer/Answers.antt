@@ -1,4 +1,4 @@
-use Rattle.specs_saving.proofs.BearerLemmas.{retrieved-goes, retrieved-asks, retrieved-bearer, refused-goes}
+use Rattle.specs_saving.proofs.BearerLemmas.{retrieved-goes, retrieved-asks, refused-goes}
 use Rattle.specs_saving.proofs.bearers.bearer.Goals as goal
 
 pub returns-in-Ok-clause-adds : goal.returns-in-Ok-clause-adds

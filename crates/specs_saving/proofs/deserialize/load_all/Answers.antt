@@ -1,5 +1,5 @@
-use Rattle.std.proofs.Common.{◌≡◌, ◌+◌, ◌<◌, ◌∷◌, [], List, length, w64, Fits, sym, ap, subst, ◌∙◌, arith}
-use Rattle.std.specs.Vec.Iter.{into_iter_items, into_iter_len}
+use Rattle.std.proofs.Common.{◌≡◌, length, sym, ap, ◌∙◌, arith}
+use Rattle.std.specs.Vec.Iter.{into_iter_len}
 use Rattle.specs_saving.proofs.LoadLemmas.{loading-begins, loading-ends, loading-goes-on, loading-stops, none-left, one-less, place-inside}
 use Rattle.specs_saving.proofs.deserialize.load_all.Goals as goal
 

@@ -25,9 +25,9 @@ pub returns-in-Ok-clause-others : goal.returns-in-Ok-clause-others
 returns-in-Ok-clause-others g c sound marker entity bears apart =
     c.deserialize_entity.ensures.others entity.id
     (λ same. apart (bearers-apart g.A.MarkerAllocator.noted g.M.Storage.UnprotectedStorage.part_at g.M.Marker.id_of g.met.M.SavedMarker.by_id (record { births = c.bearer.new.entities; allocator = c.bearer.new.allocator; markers = c.bearer.new.markers }) (c.in-Ok.ensures.adds.sound sound) marker c.args.entry.marker entity c.in-Ok.entity
-      (c.bearer.ensures.keeps.keeps marker entity bears)
-      c.in-Ok.ensures.ok
-      same))
+    (c.bearer.ensures.keeps.keeps marker entity bears)
+    c.in-Ok.ensures.ok
+    same))
 
 pub returns-in-Ok-clause-elsewhere : goal.returns-in-Ok-clause-elsewhere
 returns-in-Ok-clause-elsewhere g c index apart =

@@ -1,14 +1,14 @@
 use Rattle.std.proofs.lemmas.Result.{on_ok_weaker}
 use Rattle.specs_saving.specs.LoadingLemmas.{both-are}
 use Rattle.specs_saving.proofs.LoadLemmas.{asks-both, goes-both}
-use Rattle.specs_saving.proofs.deserialize.Tuple2DeserializeComponents.deserialize_entity.Goals as goal
+use Rattle.specs_saving.proofs.deserialize.load_two.Goals as goal
 
 pub returns-in-Ok-clause-ok : goal.returns-in-Ok-clause-ok
 returns-in-Ok-clause-ok g c =
     on_ok_weaker c.deserialize_entity-in-Ok.result
     (λ second alive. both-are _ _ _ _
-      (g.met.A.DeserializeComponents.kept _ _ c.args.saved.0 _ c.deserialize_entity-in-Ok.ensures.keeps.keeps (c.in-Ok.ensures.ok alive))
-      (second (c.deserialize_entity.ensures.keeps.live_on c.args.entity alive)))
+    (g.met.A.DeserializeComponents.kept _ _ c.args.saved.0 _ c.deserialize_entity-in-Ok.ensures.keeps.keeps (c.in-Ok.ensures.ok alive))
+    (second (c.deserialize_entity.ensures.keeps.live_on c.args.entity alive)))
     c.deserialize_entity-in-Ok.ensures.ok
 
 pub returns-in-Ok-clause-adds : goal.returns-in-Ok-clause-adds
