@@ -35,7 +35,7 @@ same-life one other is =
     let lives = truths one.lives other.lives parts.1 in
     λ i. record { number = number i; lives = lives i }
 
-life-itself : (life : Life) → same_birth life life ≡ true
+pub life-itself : (life : Life) → same_birth life life ≡ true
 life-itself life = true-both (nat_eq life.number life.number) (same_truth life.lives life.lives) (eq-eqb life.number life.number refl) (truth-itself life.lives)
 
 lives-as : (o : Option Life) (life : Life) → unwrap_or (option_map (λ l. same_birth l life) o) false ≡ true → o ≡ Some life

@@ -2,3 +2,4 @@ pub mod SaveLemmas
 pub mod KnownLemmas
 pub mod BearerLemmas
 pub mod LoadLemmas
+pub mod ImageLemmas

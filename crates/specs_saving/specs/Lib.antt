@@ -4,3 +4,4 @@ pub mod Known
 pub mod NamingLemmas
 pub mod LoadingLemmas
 pub mod Loading
+pub mod Images

@@ -4,6 +4,7 @@
 mod bearers;
 pub mod convert;
 pub mod deserialize;
+pub mod laws;
 pub mod names;
 pub mod serialize;
 
