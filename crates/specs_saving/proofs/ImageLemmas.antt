@@ -11,12 +11,12 @@ use Rattle.specs_join.proofs.CallerLemmas.{walk-members}
 use Rattle.specs_layouts.proofs.CallerLemmas.{walk-come}
 use Rattle.specs_layouts.specs.ToCome.{IsToCome}
 use Rattle.specs_saving.specs.Bearing.{IsAmong}
-use Rattle.specs_saving.specs.Images.{IsImage, IsImageOf, MarkersDiffer, NamesOwn, SameEntries, SavesBack}
+use Rattle.specs_saving.specs.Images.{IsImage, IsImageOf, MarkersDiffer, NamesOwn, NamesUnmarked, SameEntries, SavesBack}
 use Rattle.specs_saving.specs.Known.{IsSound, Known, bearer_at}
 use Rattle.specs_saving.specs.Loading.{AreApart, IsLoaded, Loads}
 use Rattle.specs_saving.specs.LoadingLemmas.{the-same}
 use Rattle.specs_saving.specs.Saved.{all_some, entry_of, marked_at, name_of, same_birth, saved}
-use Rattle.specs_saving.proofs.KnownLemmas.{bearer-alive, bearer-known, life-itself}
+use Rattle.specs_saving.proofs.KnownLemmas.{bearer-alive, bearer-known, life-itself, same-life}
 
 -- ---- an empty world, and a list that was loaded into it
 
@@ -188,3 +188,207 @@ module _ {M D P : Type 0} (load : (M → Option LifeAt) → D → Option P) (pla
             subst (λ (e : EntityData M D). IsAmong e list) (the-same found.0 entry (sym (entry-back found.0 from.0.0 from.0.1 found.2 is.1) ∙ from.2)) found.1,
         );
       }
+
+-- ---- what is saved of a world whose markers differ
+
+-- values by the place
+abbrev AreOf : {X Y : Type 0} → (X → Option Y) → List X → List Y → Type 0
+AreOf f [] [] = Unit {0}
+AreOf f [] (y ∷ ys) = ⊥
+AreOf f (x ∷ xs) [] = ⊥
+AreOf f (x ∷ xs) (y ∷ ys) = (f x ≡ Some y) × AreOf f xs ys
+
+of-first : {X Y : Type 0} (f : X → Option Y) (x : X) (xs : List X) (ys : List Y) → ((rest : List Y) → all_some (map f xs) ≡ Some rest → AreOf f xs rest) → (here : Option Y) (more : Option (List Y)) → f x ≡ here → all_some (map f xs) ≡ more → option_and_then (λ value. option_map (λ values. value ∷ values) more) here ≡ Some ys → AreOf f (x ∷ xs) ys
+of-first f x xs ys later None more is are whole = cc
+of-first f x xs ys later (Some y) None is are whole = cc
+of-first f x xs ys later (Some y) (Some rest) is are whole = subst (AreOf f (x ∷ xs)) (the-same (y ∷ rest) ys whole) (is, later rest are)
+
+are-of : {X Y : Type 0} (f : X → Option Y) (xs : List X) (ys : List Y) → all_some (map f xs) ≡ Some ys → AreOf f xs ys
+are-of f [] ys is = subst (AreOf f []) (the-same [] ys is) tt
+are-of f (x ∷ xs) ys is = of-first f x xs ys (are-of f xs) (f x) (all_some (map f xs)) refl refl is
+
+from-of : {X Y : Type 0} (f : X → Option Y) (xs : List X) (ys : List Y) → AreOf f xs ys → (y : Y) → IsAmong y ys → (x : X) × IsAmong x xs × (f x ≡ Some y)
+from-of f (x ∷ xs) (first ∷ ys) are y (inl is) = (x, inl refl, are.0 ∙ ap Some is)
+from-of f (x ∷ xs) (first ∷ ys) are y (inr later) = let found = from-of f xs ys are.1 y later in (found.0, inr found.1, found.2)
+from-of f [] [] are y none = absurd none
+from-of f [] (first ∷ ys) are y among = absurd are
+from-of f (x ∷ xs) [] are y among = absurd are
+
+into-of : {X Y : Type 0} (f : X → Option Y) (xs : List X) (ys : List Y) → AreOf f xs ys → (x : X) → IsAmong x xs → (y : Y) × IsAmong y ys × (f x ≡ Some y)
+into-of f (first ∷ xs) (y ∷ ys) are x (inl is) = (y, inl refl, ap f (sym is) ∙ are.0)
+into-of f (first ∷ xs) (y ∷ ys) are x (inr later) = let found = into-of f xs ys are.1 x later in (found.0, inr found.1, found.2)
+into-of f [] [] are x none = absurd none
+into-of f [] (y ∷ ys) are x among = absurd are
+into-of f (first ∷ xs) [] are x among = absurd are
+
+-- where not all are there, one is none
+none-first : {X Y : Type 0} (f : X → Option Y) (x : X) (xs : List X) → (all_some (map f xs) ≡ None → (y : X) × IsAmong y xs × (f y ≡ None)) → (here : Option Y) (more : Option (List Y)) → f x ≡ here → all_some (map f xs) ≡ more → option_and_then (λ value. option_map (λ values. value ∷ values) more) here ≡ None → (y : X) × IsAmong y (x ∷ xs) × (f y ≡ None)
+none-first f x xs later None more is are none = (x, inl refl, is)
+none-first f x xs later (Some y) None is are none = let found = later are in (found.0, inr found.1, found.2)
+none-first f x xs later (Some y) (Some rest) is are none = cc
+
+first-none : {X Y : Type 0} (f : X → Option Y) (xs : List X) → all_some (map f xs) ≡ None → (x : X) × IsAmong x xs × (f x ≡ None)
+first-none f [] none = cc
+first-none f (x ∷ xs) none = none-first f x xs (first-none f xs) (f x) (all_some (map f xs)) refl refl none
+
+-- each index of a list is less than those after it
+abbrev Rises : List ℕ → Type 0
+Rises [] = Unit {0}
+Rises (first ∷ rest) = ((other : ℕ) → IsToCome other rest → first < other) × Rises rest
+
+test-from : (p : ℕ → Bool) (a index : ℕ) (rest : List ℕ) (test : Bool) → ((other : ℕ) → IsToCome other rest → a + 1 ≤ other) → IsToCome index (cond test (a ∷ rest) rest) → a ≤ index
+test-from p a index rest true from (inl here) = omega (arith, here)
+test-from p a index rest true from (inr there) = let after = from index there in omega (arith, after)
+test-from p a index rest false from there = let after = from index there in omega (arith, after)
+
+filter-from : (n a : ℕ) (p : ℕ → Bool) (index : ℕ) → IsToCome index (filter p (range_with_len a n)) → a ≤ index
+filter-from zero a p index come = absurd come
+filter-from (suc n) a p index come = test-from p a index (filter p (range_with_len (a + 1) n)) (p a) (filter-from n (a + 1) p) come
+
+above : (a other : ℕ) → a + 1 ≤ other → a < other
+above a other least = omega (arith, least)
+
+test-rises : (a : ℕ) (rest : List ℕ) (test : Bool) → ((other : ℕ) → IsToCome other rest → a + 1 ≤ other) → Rises rest → Rises (cond test (a ∷ rest) rest)
+test-rises a rest true from rises = (λ other come. above a other (from other come), rises)
+test-rises a rest false from rises = rises
+
+filter-rises : (n a : ℕ) (p : ℕ → Bool) → Rises (filter p (range_with_len a n))
+filter-rises zero a p = tt
+filter-rises (suc n) a p = test-rises a (filter p (range_with_len (a + 1) n)) (p a) (filter-from n (a + 1) p) (filter-rises n (a + 1) p)
+
+walk-is : (p : ℕ → Bool) → walk p ≡ filter p (range_with_len 0 16777216)
+unfolding walk
+walk-is p = refl
+
+rises-of : (p : ℕ → Bool) (count : ℕ) (indices : List ℕ) → indices ≡ filter p (range_with_len 0 count) → Rises indices
+rises-of p count indices is = subst Rises (sym is) (filter-rises count 0 p)
+
+walk-rises : (p : ℕ → Bool) → Rises (walk p)
+walk-rises p = rises-of p 16777216 (walk p) (walk-is p)
+
+-- each item of a list is at a lower index than those after it
+abbrev Ascends : {M : Type 0} → List (LifeAt × M) → Type 0
+Ascends [] = Unit {0}
+Ascends {M} (first ∷ rest) = ((other : LifeAt × M) → IsAmong other rest → first.0.id < other.0.id) × Ascends rest
+
+lower : (a b c d : ℕ) → a ≡ b → c ≡ d → b < d → a < c
+lower a b c d one other less = omega arith
+
+module _ {M : Type 0} (births : Births) (markers : ℕ → Option M) where
+  ascends-first : (first : ℕ) (rest : List ℕ) → ((other : ℕ) → IsToCome other rest → first < other) → Ascends (values_at (marked_at births markers) rest) → (o : Option (LifeAt × M)) → marked_at births markers first ≡ o → Ascends (cons_option o (values_at (marked_at births markers) rest))
+  ascends-first first rest less ascends None is = ascends
+  ascends-first first rest less ascends (Some item) is = (
+    λ other among.
+      let from = index-of (marked_at births markers) rest other among in
+      lower item.0.id first other.0.id from.0 (marked-is births markers first item.0 item.1 is).0 (marked-is births markers from.0 other.0 other.1 from.2).0 (less from.0 from.1),
+    ascends,
+  )
+
+  values-ascend : (indices : List ℕ) → Rises indices → Ascends (values_at (marked_at births markers) indices)
+  values-ascend [] rises = tt
+  values-ascend (first ∷ rest) rises = ascends-first first rest rises.0 (values-ascend rest rises.1) (marked_at births markers first) refl
+
+  chosen : (life : Option Life) (entity : LifeAt) (marker : M) (mark : Option M) → option_and_then (λ (l : Life). cond (same_birth l entity.generation) mark None) life ≡ Some marker → (life ≡ Some entity.generation) × (mark ≡ Some marker)
+  chosen None entity marker mark is = cc
+  chosen (Some life) entity marker mark is = by-test (same_birth life entity.generation) refl is
+    where
+      by-test : (b : Bool) → same_birth life entity.generation ≡ b → cond b mark None ≡ Some marker → (Some life ≡ Some entity.generation) × (mark ≡ Some marker)
+      by-test true same has = (ap Some (same-life life entity.generation same), has)
+      by-test false same has = cc
+
+  -- who is named is alive and bears the marker
+  named-is : (entity : LifeAt) (marker : M) → name_of births markers entity ≡ Some marker → IsAlive births entity × (markers entity.id ≡ Some marker)
+  named-is entity marker is = chosen (living births entity.id) entity marker (markers entity.id) is
+
+entry-is : {M D P : Type 0} (save : P → Option D) (parts_at : ℕ → P) (item : LifeAt × M) (entry : EntityData M D) → entry_of save parts_at item ≡ Some entry → (entry.marker ≡ item.1) × (save (parts_at item.0.id) ≡ Some entry.components)
+entry-is {M} {D} save parts_at item entry is = of-data (save (parts_at item.0.id)) is
+  where
+    of-data : (o : Option D) → option_map (λ components. record { marker = item.1; components = components }) o ≡ Some entry → (entry.marker ≡ item.1) × (o ≡ Some entry.components)
+    of-data None is = cc
+    of-data (Some components) is =
+        let same = the-same (record { marker = item.1; components = components }) entry is in
+        (sym (ap (λ (e : EntityData M D). e.marker) same), ap (λ (e : EntityData M D). Some e.components) same)
+
+module _ {M D P : Type 0} (plain : (LifeAt → Option M) → P → Option D) (markers_of : D → List M) (stands : (names : LifeAt → Option M) (parts : P) (given : D) (marker : M) → plain names parts ≡ Some given → IsAmong marker (markers_of given) → (entity : LifeAt) × (names entity ≡ Some marker))
+    (parts_at : ℕ → P) (births : Births) (markers : ℕ → Option M) (low : (index : ℕ) → IsSome (living births index) → index < 16777216) where
+  abbrev Entry : LifeAt × M → Option (EntityData M D)
+  Entry = entry_of (plain (name_of births markers)) parts_at
+
+  not-less : (n : ℕ) → n < n → ⊥
+  not-less n less = omega arith
+
+  apart-of : MarkersDiffer births markers → (items : List (LifeAt × M)) (list : List (EntityData M D)) → AreOf Entry items list → Ascends items → ((item : LifeAt × M) → IsAmong item items → IsAlive births item.0 × (markers item.0.id ≡ Some item.1)) → AreApart list
+  apart-of differ [] [] are ascends live = tt
+  apart-of differ [] (entry ∷ rest) are ascends live = absurd are
+  apart-of differ (item ∷ items) [] are ascends live = absurd are
+  apart-of differ (item ∷ items) (entry ∷ rest) are ascends live = (
+    λ other among same.
+      let from = from-of Entry items rest are.1 other among in
+      let here = live item (inl refl) in
+      let there = live from.0 (inr from.1) in
+      let mark = (entry-is (plain (name_of births markers)) parts_at item entry are.0).0 in
+      let mark' = (entry-is (plain (name_of births markers)) parts_at from.0 other from.2).0 in
+      let one = differ item.0 from.0.0 item.1 here.0 there.0 here.1 (there.1 ∙ ap Some (sym mark' ∙ (sym same ∙ mark))) in
+      not-less item.0.id (subst (λ (e : LifeAt). item.0.id < e.id) (sym one) (ascends.0 from.0 from.1)),
+    apart-of differ items rest are.1 ascends.1 (λ i among. live i (inr among)),
+  )
+
+  module _ (list : List (EntityData M D)) (is : saved plain parts_at births markers ≡ Some list) where
+    are : AreOf Entry (join_list (marked_at births markers)) list
+    are = are-of Entry (join_list (marked_at births markers)) list is
+
+    -- its markers differ
+    pub saved-apart : MarkersDiffer births markers → AreApart list
+    saved-apart differ =
+        apart-of differ (join_list (marked_at births markers)) list are
+        (values-ascend births markers (walk (λ index. is_some (marked_at births markers index))) (walk-rises (λ index. is_some (marked_at births markers index))))
+        (listed-is births markers)
+
+    -- its data names its own markers alone
+    pub saved-own : NamesOwn markers_of list
+    saved-own entry marker among names =
+        let from = from-of Entry (join_list (marked_at births markers)) list are entry among in
+        let data_is = (entry-is (plain (name_of births markers)) parts_at from.0 entry from.2).1 in
+        let named = stands (name_of births markers) (parts_at from.0.0.id) entry.components marker data_is names in
+        let lives = named-is births markers named.0 marker named.1 in
+        let own = into-of Entry (join_list (marked_at births markers)) list are (named.0, marker) (is-listed births markers low named.0 marker lives.0 lives.1) in
+        (own.0, own.1, (entry-is (plain (name_of births markers)) parts_at (named.0, marker) own.0 own.2).0)
+
+    -- a living marked entity has its entry
+    pub saved-has : (entity : LifeAt) (marker : M) (components : D) → IsAlive births entity → markers entity.id ≡ Some marker → plain (name_of births markers) (parts_at entity.id) ≡ Some components → IsAmong (record { marker = marker; components = components }) list
+    saved-has entity marker components alive has given =
+        let own = into-of Entry (join_list (marked_at births markers)) list are (entity, marker) (is-listed births markers low entity marker alive has) in
+        let entry = entry-is (plain (name_of births markers)) parts_at (entity, marker) own.0 own.2 in
+        let same = the-same own.0.components components (sym entry.1 ∙ given) in
+        subst (λ (e : EntityData M D). IsAmong e list) (λ i. record { marker = entry.0 i; components = same i }) own.1
+
+none-mapped : {X Y : Type 0} (f : X → Y) (o : Option X) → option_map f o ≡ None → o ≡ None
+none-mapped f None is = refl
+none-mapped f (Some x) is = cc
+
+-- nothing is saved where the parts of a living marked entity name one that has no marker
+saved-none : {M D P : Type 0} (plain : (LifeAt → Option M) → P → Option D) (parts_at : ℕ → P) (births : Births) (markers : ℕ → Option M) → saved plain parts_at births markers ≡ None → (item : LifeAt × M) × IsAlive births item.0 × (markers item.0.id ≡ Some item.1) × (plain (name_of births markers) (parts_at item.0.id) ≡ None)
+saved-none plain parts_at births markers is =
+    let found = first-none (entry_of (plain (name_of births markers)) parts_at) (join_list (marked_at births markers)) is in
+    let lives = listed-is births markers found.0 found.1 in
+    (found.0, lives.0, lives.1, none-mapped _ (plain (name_of births markers) (parts_at found.0.0.id)) found.2)
+
+at-head : {M : Type 0} (names : LifeAt → Option M) (first : LifeAt) (rest : List LifeAt) → ((entity : LifeAt) → IsAmong entity rest → IsSome (names entity)) ⊎ ((entity : LifeAt) × IsAmong entity rest × (names entity ≡ None)) → (o : Option M) → names first ≡ o
+    → ((entity : LifeAt) → IsAmong entity (first ∷ rest) → IsSome (names entity)) ⊎ ((entity : LifeAt) × IsAmong entity (first ∷ rest) × (names entity ≡ None))
+at-head names first rest more None is = inr (first, inl refl, is)
+at-head names first rest (inr one) (Some m) is = inr (one.0, inr one.1, one.2)
+at-head names first rest (inl all) (Some m) is = inl (λ entity among. elim among [ inl same ↦ subst (λ e. IsSome (names e)) same (ap is_some is) | inr later ↦ all entity later ])
+
+-- all of a list are named, or one isn't
+any-unnamed : {M : Type 0} (names : LifeAt → Option M) (list : List LifeAt) → ((entity : LifeAt) → IsAmong entity list → IsSome (names entity)) ⊎ ((entity : LifeAt) × IsAmong entity list × (names entity ≡ None))
+any-unnamed names [] = inl (λ entity none. absurd none)
+any-unnamed names (first ∷ rest) = at-head names first rest (any-unnamed names rest) (names first) refl
+
+pub unmarked-named : {M D P : Type 0} (plain : (LifeAt → Option M) → P → Option D) (refers_to : P → List LifeAt) → ((names : LifeAt → Option M) (parts : P) → IsSome (plain names parts) ↔ ((entity : LifeAt) → IsAmong entity (refers_to parts) → IsSome (names entity)))
+    → (parts_at : ℕ → P) (births : Births) (markers : ℕ → Option M) → saved plain parts_at births markers ≡ None → NamesUnmarked refers_to parts_at births markers
+unmarked-named plain refers_to named parts_at births markers is =
+    let found = saved-none plain parts_at births markers is in
+    elim (any-unnamed (name_of births markers) (refers_to (parts_at found.0.0.id))) [
+      | inl all ↦ absurd (false≢true (sym (ap is_some found.3) ∙ (named (name_of births markers) (parts_at found.0.0.id)).1 all))
+      | inr one ↦ record { entity = found.0.0; alive = found.1; marked = ap is_some found.2; named = one.0; refers = one.1; unmarked = one.2 }
+    ]

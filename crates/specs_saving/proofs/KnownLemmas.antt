@@ -28,7 +28,7 @@ truth-itself : (a : Bool) → same_truth a a ≡ true
 truth-itself true = refl
 truth-itself false = refl
 
-same-life : (one other : Life) → same_birth one other ≡ true → one ≡ other
+pub same-life : (one other : Life) → same_birth one other ≡ true → one ≡ other
 same-life one other is =
     let parts = both-true (nat_eq one.number other.number) (same_truth one.lives other.lives) is in
     let number = eqb-true one.number other.number parts.0 in

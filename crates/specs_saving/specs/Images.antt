@@ -1,10 +1,10 @@
 -- What a world is after a list of data was loaded into an empty one.
-use Rattle.std.specs.Prelude.{◌≡◌, ◌≢◌, ◌↔◌, ℕ, List, Option, Some}
+use Rattle.std.specs.Prelude.{◌≡◌, ◌≢◌, ◌↔◌, ℕ, List, Option, Some, None, IsSome}
 use Rattle.specs_entity.specs.Births.{Births, IsAlive}
 use Rattle.specs_entity.specs.Life.{LifeAt}
 use Rattle.specs_forms.specs.declared.entity_data.EntityData.{EntityData}
 use Rattle.specs_saving.specs.Bearing.{IsAmong}
-use Rattle.specs_saving.specs.Saved.{saved}
+use Rattle.specs_saving.specs.Saved.{name_of, saved}
 
 -- each marker that stands in the data of an entry is that of an entry
 abbrev pub NamesOwn : {M D : Type 0} → (D → List M) → List (EntityData M D) → Type 0
@@ -19,6 +19,15 @@ SameEntries {M} {D} one other = (entry : EntityData M D) → IsAmong entry one �
 abbrev pub MarkersDiffer : {M : Type 0} → Births → (ℕ → Option M) → Type 0
 MarkersDiffer {M} births markers =
     (one other : LifeAt) (marker : M) → IsAlive births one → IsAlive births other → markers one.id ≡ Some marker → markers other.id ≡ Some marker → one ≡ other
+
+-- the parts of a living marked entity name an entity that isn't alive or has no marker
+pub record NamesUnmarked {M P : Type 0} (refers_to : P → List LifeAt) (parts_at : ℕ → P) (births : Births) (markers : ℕ → Option M) : Type 0 where
+  pub entity : LifeAt
+  pub alive : IsAlive births entity
+  pub marked : IsSome (markers entity.id)
+  pub named : LifeAt
+  pub refers : IsAmong named (refers_to (parts_at entity.id))
+  pub unmarked : name_of births markers named ≡ None
 
 module _ {M D P : Type 0} (load : (M → Option LifeAt) → D → Option P) (list : List (EntityData M D)) (births : Births) (markers : ℕ → Option M) (bearers : M → Option LifeAt) (had has : ℕ → P) where
   -- an entity is alive, bears the marker of an entry, and has just the parts of its data
