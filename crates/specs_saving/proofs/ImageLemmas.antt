@@ -170,22 +170,22 @@ module _ {M D P : Type 0} (load : (M → Option LifeAt) → D → Option P) (pla
   pub saved-back : SavesBack plain list has births markers
   saved-back =
       let items = gather (entry_of (plain (name_of births markers)) has) (join_list (marked_at births markers))
-          (λ item among.
-            let is = listed-is births markers item among in
-            let found = image.no_other item.0 is.0 in
-            (found.0, entry-back found.0 item.0 item.1 found.2 is.1)) in
+      (λ item among.
+      let is = listed-is births markers item among in
+      let found = image.no_other item.0 is.0 in
+      (found.0, entry-back found.0 item.0 item.1 found.2 is.1)) in
       record {
         again = items.list;
         is = items.is;
         same = λ entry. (
           λ among.
-            let there = image.each entry among in
-            items.into (there.0, entry.marker) entry (is-listed births markers low there.0 entry.marker there.1.alive there.1.marked) (entry-back entry there.0 entry.marker there.1 there.1.marked),
+              let there = image.each entry among in
+              items.into (there.0, entry.marker) entry (is-listed births markers low there.0 entry.marker there.1.alive there.1.marked) (entry-back entry there.0 entry.marker there.1 there.1.marked),
           λ among.
-            let from = items.from entry among in
-            let is = listed-is births markers from.0 from.1 in
-            let found = image.no_other from.0.0 is.0 in
-            subst (λ (e : EntityData M D). IsAmong e list) (the-same found.0 entry (sym (entry-back found.0 from.0.0 from.0.1 found.2 is.1) ∙ from.2)) found.1,
+              let from = items.from entry among in
+              let is = listed-is births markers from.0 from.1 in
+              let found = image.no_other from.0.0 is.0 in
+              subst (λ (e : EntityData M D). IsAmong e list) (the-same found.0 entry (sym (entry-back found.0 from.0.0 from.0.1 found.2 is.1) ∙ from.2)) found.1,
         );
       }
 
@@ -279,8 +279,8 @@ module _ {M : Type 0} (births : Births) (markers : ℕ → Option M) where
   ascends-first first rest less ascends None is = ascends
   ascends-first first rest less ascends (Some item) is = (
     λ other among.
-      let from = index-of (marked_at births markers) rest other among in
-      lower item.0.id first other.0.id from.0 (marked-is births markers first item.0 item.1 is).0 (marked-is births markers from.0 other.0 other.1 from.2).0 (less from.0 from.1),
+        let from = index-of (marked_at births markers) rest other among in
+        lower item.0.id first other.0.id from.0 (marked-is births markers first item.0 item.1 is).0 (marked-is births markers from.0 other.0 other.1 from.2).0 (less from.0 from.1),
     ascends,
   )
 
@@ -323,13 +323,13 @@ module _ {M D P : Type 0} (plain : (LifeAt → Option M) → P → Option D) (ma
   apart-of differ (item ∷ items) [] are ascends live = absurd are
   apart-of differ (item ∷ items) (entry ∷ rest) are ascends live = (
     λ other among same.
-      let from = from-of Entry items rest are.1 other among in
-      let here = live item (inl refl) in
-      let there = live from.0 (inr from.1) in
-      let mark = (entry-is (plain (name_of births markers)) parts_at item entry are.0).0 in
-      let mark' = (entry-is (plain (name_of births markers)) parts_at from.0 other from.2).0 in
-      let one = differ item.0 from.0.0 item.1 here.0 there.0 here.1 (there.1 ∙ ap Some (sym mark' ∙ (sym same ∙ mark))) in
-      not-less item.0.id (subst (λ (e : LifeAt). item.0.id < e.id) (sym one) (ascends.0 from.0 from.1)),
+        let from = from-of Entry items rest are.1 other among in
+        let here = live item (inl refl) in
+        let there = live from.0 (inr from.1) in
+        let mark = (entry-is (plain (name_of births markers)) parts_at item entry are.0).0 in
+        let mark' = (entry-is (plain (name_of births markers)) parts_at from.0 other from.2).0 in
+        let one = differ item.0 from.0.0 item.1 here.0 there.0 here.1 (there.1 ∙ ap Some (sym mark' ∙ (sym same ∙ mark))) in
+        not-less item.0.id (subst (λ (e : LifeAt). item.0.id < e.id) (sym one) (ascends.0 from.0 from.1)),
     apart-of differ items rest are.1 ascends.1 (λ i among. live i (inr among)),
   )
 

@@ -13,8 +13,8 @@ ghost use Rattle.specs_saving.specs.Loading.{AreApart};
 use crate::deserialize::{DeserializeComponents, LoadError};
 use crate::names::{Names, SavedMarker};
 use crate::serialize::SerializeComponents;
-use specs_entity::{EntitiesRes, Entity, Error};
 use specs_entity::laws::the_living_are_below_the_limit;
+use specs_entity::{EntitiesRes, Entity, Error};
 use specs_forms::EntityData;
 use specs_layouts::{Component, MaskedStorage, UnprotectedStorage};
 use specs_markers::{Marker, MarkerAllocator};
@@ -23,7 +23,11 @@ use std::alloc::Global;
 /// A list whose markers differ, and whose data names its own markers alone, is loaded where nobody lives and nothing
 /// is noted: then there is one entity for each entry and no other. Each bears its entry's marker and has just the
 /// parts of its data, in which each marker stands for the entity that bears it. Saved again, it has the same entries.
-pub fn a_loaded_list_is_saved_again<M: SavedMarker, S: DeserializeComponents<M>, A: MarkerAllocator<M>>(
+pub fn a_loaded_list_is_saved_again<
+    M: SavedMarker,
+    S: DeserializeComponents<M>,
+    A: MarkerAllocator<M>,
+>(
     storages: &mut S,
     alloc: Global,
     list: Vec<EntityData<M, S::Data>>,
@@ -46,18 +50,18 @@ pub fn a_loaded_list_is_saved_again<M: SavedMarker, S: DeserializeComponents<M>,
     result
 }
 
-/// A list that is saved where no two entities bear one marker has no marker twice, and its data names its own markers
-/// alone: so it can be loaded as above.
+/// The data of a list that is saved names its own markers alone, and where no two living entities bear one marker it
+/// has no marker twice: so it can be loaded as above.
 pub fn a_saved_list_names_its_own<M: SavedMarker, S: DeserializeComponents<M>>(
     storages: &S,
     alloc: Global,
     entities: &EntitiesRes,
     markers: &MaskedStorage<M>,
 ) -> Result<Vec<EntityData<M, S::Data>>, Error>
-    requires { MarkersDiffer entities.now (M.Storage.part_at markers.now.inner) }
     ensures ok { IfOk result (λ list. saved S.plain (S.parts_at storages.now) entities.now
         (M.Storage.part_at markers.now.inner) ≡ Some list.items) }
-    ensures apart { IfOk result (λ list. AreApart list.items) }
+    ensures apart { IfOk result (λ list. MarkersDiffer entities.now (M.Storage.part_at markers.now.inner)
+        → AreApart list.items) }
     ensures own { IfOk result (λ list. NamesOwn S.markers_of list.items) }
 {
     the_living_are_below_the_limit(entities);
@@ -78,7 +82,11 @@ pub fn an_unmarked_refusal_names_one<M: SavedMarker, S: SerializeComponents<M>>(
 }
 
 /// What `serialize_entity` gives for a living marked entity is what the whole list has for it.
-pub fn one_entity_is_saved_as_in_the_whole<M: SavedMarker, S: DeserializeComponents<M>, N: Names<M>>(
+pub fn one_entity_is_saved_as_in_the_whole<
+    M: SavedMarker,
+    S: DeserializeComponents<M>,
+    N: Names<M>,
+>(
     storages: &S,
     alloc: Global,
     entity: Entity,
