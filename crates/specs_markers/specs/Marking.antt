@@ -1,6 +1,6 @@
 -- What an allocator, a storage of markers and the entities are after an entity was marked, or looked for.
 use Rattle.std.specs.Prelude.{◌≡◌, ◌⊎◌, ℕ, Bool, true, false, Option, Some, None, IsSome, IfSome, option_map}
-use Rattle.specs_entity.specs.Births.{Births, IsAlive, IsBorn, Continues, RefusesBirth, newborn, created, deleted}
+use Rattle.specs_entity.specs.Births.{Births, BringsToLife, IsAlive, IsBorn, LivesOn, Continues, RefusesBirth, newborn, created, deleted}
 use Rattle.specs_entity.specs.Life.{LifeAt}
 use Rattle.specs_entity.specs.declared.errors.Error.{Error}
 use Rattle.specs_entity.specs.declared.errors.Error.TheVariants as variant
@@ -109,6 +109,8 @@ module _ {A S M I : Type 0} (noted : A → I → Option LifeAt) (allocates : A �
       pub born : entity ≡ newborn births
       pub new : ¬ (IsBorn births entity)
       pub alive : IsAlive births' entity
+      pub lives : BringsToLife births entity births'
+      pub live_on : LivesOn births births'
       pub continues : Continues births births'
       pub entities : births' ≡ created births
       pub given : IsGiven (Some id) (newborn births) before after had has
@@ -137,6 +139,7 @@ module _ {A S M I : Type 0} (noted : A → I → Option LifeAt) (allocates : A �
       pub why : RefusesGift noted allocates id_of refuses (Some id) (newborn births) before after error
       pub unknown : IsUnknown noted s.part_at id births before had
       pub entities : births' ≡ deleted (created births) (newborn births).id
+      pub live_on : LivesOn births births'
       pub storage : IsUntold s had has
 
     -- what is left where an entity is looked for by its marker

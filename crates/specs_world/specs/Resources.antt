@@ -6,7 +6,7 @@ use Rattle.shred_world.specs.declared.resource_id.ResourceId.{ResourceId}
 use Rattle.shred_world.specs.ResourceIds.{id_of}
 use Rattle.shred_world.specs.Bundles.{DefaultsTo}
 use Rattle.shred_world.specs.Worlds.{Slots, resource_at, with_kind}
-use Rattle.specs_entity.specs.Births.{Births, AreNew, BringsToLife, IsAlive, IsBorn, LivesOn, RefusesBirth, RefusesBirths, all_allocated, allocated, deleted, newborn, newborns, persistent_at}
+use Rattle.specs_entity.specs.Births.{Births, AreNew, BringsToLife, Continues, IsAlive, IsBorn, LivesOn, RefusesBirth, RefusesBirths, all_allocated, allocated, deleted, newborn, newborns, persistent_at}
 use Rattle.specs_entity.specs.declared.errors.Error.{Error}
 use Rattle.specs_entity.specs.declared.errors.Error.TheVariants as variant
 use Rattle.specs_entity.specs.declared.ids.Entity.{Entity}
@@ -81,6 +81,7 @@ pub record IsBirth (entity : Entity) (was now : Births) : Type 0 where
   pub unborn : ¬ (IsBorn was entity)
   pub lives : BringsToLife was entity now
   pub live_on : LivesOn was now
+  pub continues : Continues was now
 
 -- the next entity came to life
 abbrev pub Allocates : {V : Type 0} → Place V Births → Entity → Slots V → Slots V → Type 0
@@ -92,6 +93,7 @@ pub record AreBirths (count : ℕ) (entities : List Entity) (was now : Births) :
   pub value : entities ≡ newborns count was
   pub new : AreNew was entities now
   pub live_on : LivesOn was now
+  pub continues : Continues was now
 
 -- the next so many entities came to life
 abbrev pub AllocatesAll : {V : Type 0} → Place V Births → ℕ → List Entity → Slots V → Slots V → Type 0

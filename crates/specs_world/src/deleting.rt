@@ -125,6 +125,7 @@ fn merge_with_parts<V: AnyStorage>(
         ≡ set.contains births.old.deletions index) }
     ensures lives { OnOk result (LivesBut (set.contains births.old.deletions) births.old births.new) }
     ensures done { OnOk result (births.new.deletions ≡ set.empty) }
+    ensures continues { OnOk result (Continues births.old births.new) }
     ensures parts { IfOk result (λ deleted. DropsIn V.drops kinds.now (ids_of deleted.items) world.old world.new) }
     ensures same { OnErr result (births.new ≡ births.old) }
     ensures rests { OnErr result (Rests V.drops world.old world.new) }
@@ -149,6 +150,7 @@ where
         ≡ set.contains births.old.deletions index) }
     ensures lives { OnOk result (LivesBut (set.contains births.old.deletions) births.old births.new) }
     ensures done { OnOk result (births.new.deletions ≡ set.empty) }
+    ensures continues { OnOk result (Continues births.old births.new) }
     ensures parts { IfOk result (λ deleted. DropsComponents
         ⟦<MetaTable as Held<V>>⟧.stands_at
         V.drops deleted.items world.old world.new) }

@@ -1,0 +1,5 @@
+pub mod SaveLemmas
+pub mod KnownLemmas
+pub mod BearerLemmas
+pub mod LoadLemmas
+pub mod ImageLemmas

@@ -1,0 +1,169 @@
+-- What is known of bearers after one was asked for and then others.
+use Rattle.std.proofs.Common.{◌≡◌, ◌≢◌, ◌+◌, ◌<◌, ℕ, suc, List, [], ◌∷◌, ◌++◌, length, take, Option, Some, inl, inr, refl, sym, subst, ap, ◌∙◌, append-nil, append_assoc, length-append, arith}
+use Rattle.std.proofs.Math.Seq.{take-append_seam}
+use Rattle.specs_forms.specs.declared.entity_data.EntityData.{EntityData}
+use Rattle.specs_saving.specs.Known.{IsSound, Known, LivesIn, bearer_at}
+use Rattle.specs_saving.specs.Loading.{AreApart, IsLoaded, Loads, LoadsBefore}
+use Rattle.specs_entity.specs.Life.{LifeAt}
+use Rattle.specs_saving.specs.Bearing.{Asks, GoesOn, IsAmong}
+use Rattle.specs_saving.specs.NamingLemmas.{among-either, among-left, among-right}
+
+module _ {S M : Type 0} (bearer_of : S → M → Option LifeAt) (lives : S → LifeAt → Type 0) where
+  pub goes-none : (state : S) → GoesOn bearer_of lives state state
+  goes-none state = record { keeps = λ marker entity is. is; live_on = λ entity lives. lives }
+
+  pub asks-none : (IsSound : S → Type 0) (state : S) → Asks bearer_of lives IsSound [] state state
+  asks-none IsSound state = record { only = λ entity lives. inl lives; sound = λ sound. sound }
+
+  module _ (first second third : S) where
+    pub goes-both : GoesOn bearer_of lives first second → GoesOn bearer_of lives second third → GoesOn bearer_of lives first third
+    goes-both one other =
+        record {
+          keeps = λ marker entity is. other.keeps marker entity (one.keeps marker entity is);
+          live_on = λ entity is. other.live_on entity (one.live_on entity is);
+        }
+
+    pub asks-both : (IsSound : S → Type 0) (named others : List M) → Asks bearer_of lives IsSound named first second → GoesOn bearer_of lives second third → Asks bearer_of lives IsSound others second third → Asks bearer_of lives IsSound (named ++ others) first third
+    asks-both IsSound named others one goes other =
+        record {
+          only = λ entity is. elim (other.only entity is) [
+            | inl before ↦ elim (one.only entity before) [
+              | inl old ↦ inl old
+              | inr asked ↦ inr (asked.0, among-left asked.0 named others asked.1, goes.keeps asked.0 entity asked.2)
+            ]
+            | inr asked ↦ inr (asked.0, among-right asked.0 named others asked.1, asked.2)
+          ];
+          sound = λ sound. other.sound (one.sound sound);
+        }
+
+-- ---- a list that is gone through
+
+pub one-less : {X : Type 0} (before after : List X) (first : X) (many few : ℕ) → many ≡ length before → before ≡ first ∷ after → few + 1 ≡ many → few ≡ length after
+one-less before after first many few count is less = let sum = ap length is in omega (arith, count, sum, less)
+
+pub none-left : {X : Type 0} (left : List X) (many : ℕ) → many ≡ length left → many ≡ 0 → left ≡ []
+none-left [] many count none = refl
+none-left (first ∷ rest) many count none = absurd (not-none (length rest) many count none)
+  where
+    not-none : (n m : ℕ) → m ≡ suc n → m ≡ 0 → ⊥
+    not-none n m is none = omega (arith, is, none)
+
+-- ---- entries that are apart
+
+module _ {M D : Type 0} where
+  apart-front : (done left : List (EntityData M D)) → AreApart (done ++ left) → AreApart done
+  apart-front [] left apart = tt
+  apart-front (first ∷ rest) left apart = (λ other among. apart.0 other (among-left other rest left among), apart-front rest left apart.1)
+
+  apart-next : (done rest : List (EntityData M D)) (next : EntityData M D) → AreApart (done ++ next ∷ rest) → (entry : EntityData M D) → IsAmong entry done → entry.marker ≢ next.marker
+  apart-next (first ∷ more) rest next apart entry (inl is) same = apart.0 next (among-right next more (next ∷ rest) (inl refl)) (ap (λ (e : EntityData M D). e.marker) is ∙ same)
+  apart-next (first ∷ more) rest next apart entry (inr later) same = apart-next more rest next apart.1 entry later same
+  apart-next [] rest next apart entry none same = none
+
+  counted : (done rest : List (EntityData M D)) (next : EntityData M D) → length done < length (done ++ next ∷ rest)
+  counted done rest next = let sum = length-append done (next ∷ rest) in omega (arith, sum)
+
+  one-further : (done : List (EntityData M D)) (next : EntityData M D) (place : ℕ) → length done ≡ place → length (done ++ next ∷ []) ≡ place + 1
+  one-further done next place is = let sum = length-append done (next ∷ []) in omega (arith, sum)
+
+  taken : (done left : List (EntityData M D)) (place : ℕ) → length done ≡ place → take place (done ++ left) ≡ done
+  taken done left place is = ap (λ n. take n (done ++ left)) (sym is) ∙ take-append_seam done left
+
+-- ---- one entry after the other
+
+module _ {A S M I D P : Type 0} (noted : A → I → Option LifeAt) (part_at : S → ℕ → Option M) (id_of : M → I) (markers_of : D → List M) (load : (M → Option LifeAt) → D → Option P) (before : Known A S) (had : ℕ → P) where
+  -- the entries of a list are loaded as far as those that are left
+  pub record IsLoading (list : List (EntityData M D)) (place : ℕ) (left : List (EntityData M D)) (after : Known A S) (has : ℕ → P) : Type 0 where
+    pub done : List (EntityData M D)
+    pub count : length done ≡ place
+    pub whole : list ≡ done ++ left
+    pub loads : Loads noted part_at id_of markers_of load done before after had has
+
+  none-loaded : Loads noted part_at id_of markers_of load [] before before had had
+  none-loaded =
+      record {
+        keeps = goes-none (bearer_at noted part_at id_of) LivesIn before;
+        sound = λ sound. sound;
+        loaded = λ sound apart entry none. absurd none;
+        only = λ entity alive. inl alive;
+        others = λ index apart. refl;
+      }
+
+  pub loading-begins : (list left : List (EntityData M D)) → left ≡ list → IsLoading list 0 left before had
+  loading-begins list left is = record { done = []; count = refl; whole = sym is; loads = none-loaded }
+
+  pub loading-ends : (list left : List (EntityData M D)) (place : ℕ) (after : Known A S) (has : ℕ → P) → IsLoading list place left after has → left ≡ [] → Loads noted part_at id_of markers_of load list before after had has
+  loading-ends list left place after has loading is =
+      subst (λ done. Loads noted part_at id_of markers_of load done before after had has)
+      (sym (loading.whole ∙ (ap (λ l. loading.done ++ l) is ∙ append-nil loading.done)))
+      loading.loads
+
+  pub place-inside : (list left rest : List (EntityData M D)) (next : EntityData M D) (place : ℕ) (after : Known A S) (has : ℕ → P) → IsLoading list place left after has → left ≡ next ∷ rest → place < length list
+  place-inside list left rest next place after has loading is =
+      subst (λ n. n < length list) loading.count (subst (λ l. length loading.done < length l) (sym (loading.whole ∙ ap (λ l. loading.done ++ l) is)) (counted loading.done rest next))
+
+module _ {A S M I D P : Type 0} (noted : A → I → Option LifeAt) (part_at : S → ℕ → Option M) (id_of : M → I) (markers_of : D → List M) (load : (M → Option LifeAt) → D → Option P) (before : Known A S) (had : ℕ → P) (kept : (one other : M → Option LifeAt) (saved : D) (parts : P) → ((marker : M) (entity : LifeAt) → one marker ≡ Some entity → other marker ≡ Some entity) → load one saved ≡ Some parts → load other saved ≡ Some parts) where
+  module _ (done : List (EntityData M D)) (next : EntityData M D) (mid after : Known A S) (between has : ℕ → P) (loads : Loads noted part_at id_of markers_of load done before mid had between)
+      (keeps : GoesOn (bearer_at noted part_at id_of) LivesIn mid after) (others : IsSound noted part_at id_of mid → (marker : M) (entity : LifeAt) → bearer_at noted part_at id_of mid marker ≡ Some entity → marker ≢ next.marker → has entity.id ≡ between entity.id) where
+    goes : GoesOn (bearer_at noted part_at id_of) LivesIn before after
+    goes = goes-both (bearer_at noted part_at id_of) LivesIn before mid after loads.keeps keeps
+
+    -- what was loaded is loaded still
+    loaded-still : IsSound noted part_at id_of before → (entry : EntityData M D) → entry.marker ≢ next.marker → IsLoaded load (bearer_at noted part_at id_of mid) between entry → IsLoaded load (bearer_at noted part_at id_of after) has entry
+    loaded-still sound entry apart was =
+        record {
+          entity = was.entity;
+          bears = keeps.keeps entry.marker was.entity was.bears;
+          has = kept (bearer_at noted part_at id_of mid) (bearer_at noted part_at id_of after) entry.components (between was.entity.id) keeps.keeps was.has
+              ∙ ap Some (sym (others (loads.sound sound) entry.marker was.entity was.bears apart));
+        }
+
+    module _ (adds : Asks (bearer_at noted part_at id_of) LivesIn (IsSound noted part_at id_of) (next.marker ∷ markers_of next.components) mid after) (ok : IsLoaded load (bearer_at noted part_at id_of after) has next)
+        (elsewhere : (index : ℕ) → ((entity : LifeAt) → bearer_at noted part_at id_of after next.marker ≡ Some entity → index ≢ entity.id) → has index ≡ between index) where
+      next-loads : Loads noted part_at id_of markers_of load (done ++ next ∷ []) before after had has
+      next-loads =
+          record {
+            keeps = goes;
+            sound = λ sound. adds.sound (loads.sound sound);
+            loaded = λ sound apart entry among. elim (among-either entry done (next ∷ []) among) [
+              | inl old ↦ loaded-still sound entry (apart-next done [] next apart entry old) (loads.loaded sound (apart-front done (next ∷ []) apart) entry old)
+              | inr new ↦ elim new [ inl is ↦ subst (IsLoaded load (bearer_at noted part_at id_of after) has) is ok | inr none ↦ absurd none ]
+            ];
+            only = λ entity alive. elim (adds.only entity alive) [
+              | inl lived ↦ elim (loads.only entity lived) [
+                | inl old ↦ inl old
+                | inr made ↦ inr (made.0, made.1, among-left made.0 done (next ∷ []) made.2, made.3, keeps.keeps made.1 entity made.4)
+              ]
+              | inr made ↦ inr (next, made.0, among-right next done (next ∷ []) (inl refl), made.1, made.2)
+            ];
+            others = λ index apart.
+                elsewhere index (λ entity is. apart next entity (among-right next done (next ∷ []) (inl refl)) is)
+                ∙ loads.others index (λ entry entity among is. apart entry entity (among-left entry done (next ∷ []) among) (keeps.keeps entry.marker entity is));
+          }
+
+  module _ (list left rest : List (EntityData M D)) (next : EntityData M D) (place : ℕ) (mid after : Known A S) (between has : ℕ → P) (loading : IsLoading noted part_at id_of markers_of load before had list place left mid between) (is : left ≡ next ∷ rest)
+      (keeps : GoesOn (bearer_at noted part_at id_of) LivesIn mid after) (others : IsSound noted part_at id_of mid → (marker : M) (entity : LifeAt) → bearer_at noted part_at id_of mid marker ≡ Some entity → marker ≢ next.marker → has entity.id ≡ between entity.id) where
+    all : list ≡ loading.done ++ next ∷ rest
+    all = loading.whole ∙ ap (λ l. loading.done ++ l) is
+
+    pub loading-goes-on : Asks (bearer_at noted part_at id_of) LivesIn (IsSound noted part_at id_of) (next.marker ∷ markers_of next.components) mid after → IsLoaded load (bearer_at noted part_at id_of after) has next
+        → ((index : ℕ) → ((entity : LifeAt) → bearer_at noted part_at id_of after next.marker ≡ Some entity → index ≢ entity.id) → has index ≡ between index) → IsLoading noted part_at id_of markers_of load before had list (place + 1) rest after has
+    loading-goes-on adds ok elsewhere =
+        record {
+          done = loading.done ++ next ∷ [];
+          count = one-further loading.done next place loading.count;
+          whole = all ∙ sym (append_assoc loading.done (next ∷ []) rest);
+          loads = next-loads loading.done next mid after between has loading.loads keeps others adds ok elsewhere;
+        }
+
+    pub loading-stops : LoadsBefore noted part_at id_of markers_of load list before after had has place
+    loading-stops =
+        record {
+          inside = place-inside noted part_at id_of markers_of load before had list left rest next place mid between loading is;
+          keeps = goes loading.done next mid after between has loading.loads keeps others;
+          loaded = λ sound apart entry among.
+              let old = subst (λ l. IsAmong entry l) (ap (take place) all ∙ taken loading.done (next ∷ rest) place loading.count) among in
+              let far = subst (λ l. AreApart l) all apart in
+              loaded-still loading.done next mid after between has loading.loads keeps others sound entry (apart-next loading.done rest next far entry old)
+              (loading.loads.loaded sound (apart-front loading.done (next ∷ rest) far) entry old);
+        }

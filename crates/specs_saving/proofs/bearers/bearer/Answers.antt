@@ -1,0 +1,11 @@
+use Rattle.specs_saving.proofs.BearerLemmas.{retrieved-goes, retrieved-asks, refused-goes}
+use Rattle.specs_saving.proofs.bearers.bearer.Goals as goal
+
+pub returns-in-Ok-clause-adds : goal.returns-in-Ok-clause-adds
+returns-in-Ok-clause-adds g c = retrieved-asks _ _ _ _ _ _ _ _ _ _ g.M.SavedMarker.same_id g.met.M.SavedMarker.ids _ _ c.in-Ok.ensures.ok
+
+pub returns-in-Ok-clause-keeps : goal.returns-in-Ok-clause-keeps
+returns-in-Ok-clause-keeps g c = retrieved-goes _ _ _ _ _ _ _ _ _ _ _ _ c.in-Ok.ensures.ok
+
+pub returns-clause-keeps : goal.returns-clause-keeps
+returns-clause-keeps g c = refused-goes _ _ _ _ _ _ _ _ _ _ _ _ _ c.in-Err.ensures.refused

@@ -1,0 +1,19 @@
+use Rattle.std.proofs.lemmas.Result.{on_ok_weaker}
+use Rattle.specs_saving.specs.LoadingLemmas.{three-of}
+use Rattle.specs_saving.proofs.LoadLemmas.{asks-both, goes-both}
+use Rattle.specs_saving.proofs.deserialize.Tuple3DeserializeComponents.deserialize_entity.Goals as goal
+
+pub returns-in-Ok-clause-ok : goal.returns-in-Ok-clause-ok
+returns-in-Ok-clause-ok g c =
+    on_ok_weaker c.load_two.result
+    (λ two alive. three-of _ _ _ _ _ _
+    (g.met.A.DeserializeComponents.kept _ _ c.args.saved.0 _ c.load_two.ensures.keeps.keeps (c.in-Ok.ensures.ok alive))
+    (two (c.deserialize_entity.ensures.keeps.live_on c.args.entity alive)))
+    c.load_two.ensures.ok
+
+pub returns-in-Ok-clause-adds : goal.returns-in-Ok-clause-adds
+returns-in-Ok-clause-adds g c =
+    on_ok_weaker c.load_two.result (asks-both _ _ _ _ _ _ _ _ c.in-Ok.ensures.adds c.load_two.ensures.keeps) c.load_two.ensures.adds
+
+pub returns-in-Ok-clause-keeps : goal.returns-in-Ok-clause-keeps
+returns-in-Ok-clause-keeps g c = goes-both _ _ _ _ _ c.deserialize_entity.ensures.keeps c.load_two.ensures.keeps

@@ -1,0 +1,34 @@
+use Rattle.std.proofs.Common.{[], ◌∷◌}
+use Rattle.std.proofs.lemmas.Result.{on_ok_weaker}
+use Rattle.specs_saving.proofs.KnownLemmas.{bearer-alive, bearers-apart}
+use Rattle.specs_saving.proofs.LoadLemmas.{asks-both, goes-both}
+use Rattle.specs_saving.proofs.deserialize.load_one.Goals as goal
+
+pub returns-in-Ok-clause-ok : goal.returns-in-Ok-clause-ok
+returns-in-Ok-clause-ok g c =
+    on_ok_weaker c.deserialize_entity.result
+    (λ has. record {
+      entity = c.in-Ok.entity;
+      bears = c.deserialize_entity.ensures.keeps.keeps c.args.entry.marker c.in-Ok.entity c.in-Ok.ensures.ok;
+      has = has (bearer-alive g.A.MarkerAllocator.noted g.M.Storage.UnprotectedStorage.part_at g.M.Marker.id_of (record { births = c.bearer.new.entities; allocator = c.bearer.new.allocator; markers = c.bearer.new.markers }) c.args.entry.marker c.in-Ok.entity c.in-Ok.ensures.ok);
+    })
+    c.deserialize_entity.ensures.ok
+
+pub returns-in-Ok-clause-adds : goal.returns-in-Ok-clause-adds
+returns-in-Ok-clause-adds g c =
+    on_ok_weaker c.deserialize_entity.result (asks-both _ _ _ _ _ _ (c.args.entry.marker ∷ []) _ c.in-Ok.ensures.adds c.deserialize_entity.ensures.keeps) c.deserialize_entity.ensures.adds
+
+pub returns-in-Ok-clause-keeps : goal.returns-in-Ok-clause-keeps
+returns-in-Ok-clause-keeps g c = goes-both _ _ _ _ _ c.bearer.ensures.keeps c.deserialize_entity.ensures.keeps
+
+pub returns-in-Ok-clause-others : goal.returns-in-Ok-clause-others
+returns-in-Ok-clause-others g c sound marker entity bears apart =
+    c.deserialize_entity.ensures.others entity.id
+    (λ same. apart (bearers-apart g.A.MarkerAllocator.noted g.M.Storage.UnprotectedStorage.part_at g.M.Marker.id_of g.met.M.SavedMarker.by_id (record { births = c.bearer.new.entities; allocator = c.bearer.new.allocator; markers = c.bearer.new.markers }) (c.in-Ok.ensures.adds.sound sound) marker c.args.entry.marker entity c.in-Ok.entity
+    (c.bearer.ensures.keeps.keeps marker entity bears)
+    c.in-Ok.ensures.ok
+    same))
+
+pub returns-in-Ok-clause-elsewhere : goal.returns-in-Ok-clause-elsewhere
+returns-in-Ok-clause-elsewhere g c index apart =
+    c.deserialize_entity.ensures.others index (apart c.in-Ok.entity (c.deserialize_entity.ensures.keeps.keeps c.args.entry.marker c.in-Ok.entity c.in-Ok.ensures.ok))

@@ -1,0 +1,7 @@
+pub mod Saved
+pub mod Bearing
+pub mod Known
+pub mod NamingLemmas
+pub mod LoadingLemmas
+pub mod Loading
+pub mod Images

@@ -1,0 +1,37 @@
+-- What is loaded of a list of data.
+use Rattle.std.specs.Prelude.{◌≡◌, ◌≢◌, ◌⊎◌, [], ◌∷◌, ◌<◌, ℕ, List, length, take, Option, Some}
+use Rattle.specs_entity.specs.Births.{IsAlive}
+use Rattle.specs_entity.specs.Life.{LifeAt}
+use Rattle.specs_forms.specs.declared.entity_data.EntityData.{EntityData}
+use Rattle.specs_saving.specs.Bearing.{GoesOn, IsAmong}
+use Rattle.specs_saving.specs.Known.{IsSound, Known, LivesIn, bearer_at}
+
+-- an entry is loaded: the entity that bears its marker has just the parts of its data
+pub record IsLoaded {M D P : Type 0} (load : (M → Option LifeAt) → D → Option P) (bearers : M → Option LifeAt) (parts_at : ℕ → P) (entry : EntityData M D) : Type 0 where
+  pub entity : LifeAt
+  pub bears : bearers entry.marker ≡ Some entity
+  pub has : load bearers entry.components ≡ Some (parts_at entity.id)
+
+-- no two entries have one marker
+abbrev pub AreApart : {M D : Type 0} → List (EntityData M D) → Type 0
+AreApart [] = Unit {0}
+AreApart {M} {D} (first ∷ rest) = ((other : EntityData M D) → IsAmong other rest → first.marker ≢ other.marker) × AreApart rest
+
+-- a marker stands in an entry: it is the entry's, or stands in its data
+abbrev pub StandsIn : {M D : Type 0} → (D → List M) → M → EntityData M D → Type 0
+StandsIn markers_of marker entry = IsAmong marker (entry.marker ∷ markers_of entry.components)
+
+module _ {A S M I D P : Type 0} (noted : A → I → Option LifeAt) (part_at : S → ℕ → Option M) (id_of : M → I) (markers_of : D → List M) (load : (M → Option LifeAt) → D → Option P) (list : List (EntityData M D)) (before after : Known A S) (had has : ℕ → P) where
+  -- each entry is loaded, and nothing else was done
+  pub record Loads : Type 0 where
+    pub keeps : GoesOn (bearer_at noted part_at id_of) LivesIn before after
+    pub sound : IsSound noted part_at id_of before → IsSound noted part_at id_of after
+    pub loaded : IsSound noted part_at id_of before → AreApart list → (entry : EntityData M D) → IsAmong entry list → IsLoaded load (bearer_at noted part_at id_of after) has entry
+    pub only : (entity : LifeAt) → IsAlive after.births entity → IsAlive before.births entity ⊎ ((entry : EntityData M D) × (marker : M) × IsAmong entry list × StandsIn markers_of marker entry × (bearer_at noted part_at id_of after marker ≡ Some entity))
+    pub others : (index : ℕ) → ((entry : EntityData M D) (entity : LifeAt) → IsAmong entry list → bearer_at noted part_at id_of after entry.marker ≡ Some entity → index ≢ entity.id) → has index ≡ had index
+
+  -- the entries before a place are loaded
+  pub record LoadsBefore (place : ℕ) : Type 0 where
+    pub inside : place < length list
+    pub keeps : GoesOn (bearer_at noted part_at id_of) LivesIn before after
+    pub loaded : IsSound noted part_at id_of before → AreApart list → (entry : EntityData M D) → IsAmong entry (take place list) → IsLoaded load (bearer_at noted part_at id_of after) has entry

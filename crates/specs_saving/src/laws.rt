@@ -1,0 +1,99 @@
+//! Laws on which callers rely. Each contract is the law.
+ghost use Rattle.std.specs.Prelude.{◌≡◌, List, Some, None, IfOk, OnOk, IsErrOf};
+ghost use Rattle.specs_entity.specs.Births.{IsAlive};
+ghost use Rattle.specs_entity.specs.declared.ids.Entity.{Entity};
+ghost use Rattle.specs_saving.specs.Images.{IsImage, MarkersDiffer, NamesOwn, NamesUnmarked, SavesBack};
+ghost use Rattle.specs_saving.specs.Bearing.{IsAmong};
+ghost use Rattle.specs_saving.specs.Saved.{name_of, saved};
+ghost use Rattle.specs_entity.specs.declared.errors.Error.TheVariants as refusal;
+ghost use Rattle.specs_forms.specs.declared.entity_data.EntityData.{EntityData};
+ghost use Rattle.specs_saving.specs.Known.{bearer_in};
+ghost use Rattle.specs_saving.specs.Loading.{AreApart};
+
+use crate::deserialize::{DeserializeComponents, LoadError};
+use crate::names::{Names, SavedMarker};
+use crate::serialize::SerializeComponents;
+use specs_entity::{EntitiesRes, Entity, Error};
+use specs_entity::laws::the_living_are_below_the_limit;
+use specs_forms::EntityData;
+use specs_layouts::{Component, MaskedStorage, UnprotectedStorage};
+use specs_markers::{Marker, MarkerAllocator};
+use std::alloc::Global;
+
+/// A list whose markers differ, and whose data names its own markers alone, is loaded where nobody lives and nothing
+/// is noted: then there is one entity for each entry and no other. Each bears its entry's marker and has just the
+/// parts of its data, in which each marker stands for the entity that bears it. Saved again, it has the same entries.
+pub fn a_loaded_list_is_saved_again<M: SavedMarker, S: DeserializeComponents<M>, A: MarkerAllocator<M>>(
+    storages: &mut S,
+    alloc: Global,
+    list: Vec<EntityData<M, S::Data>>,
+    entities: &mut EntitiesRes,
+    markers: &mut MaskedStorage<M>,
+    allocator: &mut A,
+) -> Result<(), LoadError>
+    requires nobody { (entity : Entity) → ¬ (IsAlive entities.old entity) }
+    requires unknown { (id : M.Identifier) → A.noted allocator.old id ≡ None }
+    requires apart { AreApart list.items }
+    requires own { NamesOwn S.markers_of list.items }
+    ensures image { OnOk result (IsImage S.loaded list.items entities.new (M.Storage.part_at markers.new.inner)
+        (bearer_in A.noted M.Storage.part_at M.id_of entities.new allocator.new markers.new)
+        (S.parts_at storages.old) (S.parts_at storages.new)) }
+    ensures back { OnOk result (SavesBack S.plain list.items (S.parts_at storages.new) entities.new
+        (M.Storage.part_at markers.new.inner)) }
+{
+    let result = storages.deserialize(alloc, list, entities, markers, allocator);
+    the_living_are_below_the_limit(entities);
+    result
+}
+
+/// A list that is saved where no two entities bear one marker has no marker twice, and its data names its own markers
+/// alone: so it can be loaded as above.
+pub fn a_saved_list_names_its_own<M: SavedMarker, S: DeserializeComponents<M>>(
+    storages: &S,
+    alloc: Global,
+    entities: &EntitiesRes,
+    markers: &MaskedStorage<M>,
+) -> Result<Vec<EntityData<M, S::Data>>, Error>
+    requires { MarkersDiffer entities.now (M.Storage.part_at markers.now.inner) }
+    ensures ok { IfOk result (λ list. saved S.plain (S.parts_at storages.now) entities.now
+        (M.Storage.part_at markers.now.inner) ≡ Some list.items) }
+    ensures apart { IfOk result (λ list. AreApart list.items) }
+    ensures own { IfOk result (λ list. NamesOwn S.markers_of list.items) }
+{
+    the_living_are_below_the_limit(entities);
+    storages.serialize(alloc, entities, markers)
+}
+
+/// `Unmarked` tells of a living marked entity whose parts name an entity that isn't alive or has no marker.
+pub fn an_unmarked_refusal_names_one<M: SavedMarker, S: SerializeComponents<M>>(
+    storages: &S,
+    alloc: Global,
+    entities: &EntitiesRes,
+    markers: &MaskedStorage<M>,
+) -> Result<Vec<EntityData<M, S::Data>>, Error>
+    ensures { IsErrOf result refusal.Unmarked → NamesUnmarked S.refers_to (S.parts_at storages.now) entities.now
+        (M.Storage.part_at markers.now.inner) }
+{
+    storages.serialize(alloc, entities, markers)
+}
+
+/// What `serialize_entity` gives for a living marked entity is what the whole list has for it.
+pub fn one_entity_is_saved_as_in_the_whole<M: SavedMarker, S: DeserializeComponents<M>, N: Names<M>>(
+    storages: &S,
+    alloc: Global,
+    entity: Entity,
+    names: &N,
+    entities: &EntitiesRes,
+    markers: &MaskedStorage<M>,
+) -> Result<S::Data, Error>
+    requires names { (other : Entity) → N.name names.now other
+        ≡ name_of entities.now (M.Storage.part_at markers.now.inner) other }
+    requires alive { IsAlive entities.now entity }
+    ensures { IfOk result (λ found. (marker : M) (list : List (EntityData M S.Data))
+        → M.Storage.part_at markers.now.inner entity.id ≡ Some marker
+        → saved S.plain (S.parts_at storages.now) entities.now (M.Storage.part_at markers.now.inner) ≡ Some list
+        → IsAmong (record { marker = marker; components = found }) list) }
+{
+    the_living_are_below_the_limit(entities);
+    storages.serialize_entity(alloc, entity, names)
+}
