@@ -24,7 +24,7 @@ fn put<V: Drop, R: Resource<V> + Drop>(world: &mut World<V>, resource: R) -> Res
 /// Puts the queue of the number 0 in, without jobs.
 ///
 /// Errors: want of memory, which leaves the world as it was.
-fn put_queue<V: Drop, J: Drop>(world: &mut World<V>) -> Result<(), AllocError>
+pub(crate) fn put_queue<V: Drop, J: Drop>(world: &mut World<V>) -> Result<(), AllocError>
 where
     LazyUpdate<J>: Resource<V>,
     ensures ok { OnOk result (HasQueue ⟦<LazyUpdate<J> as Held<V>>⟧.stands_at world.old world.new) }

@@ -12,7 +12,6 @@ use specs_entity::{EntitiesRes, Entity, Error};
 use specs_layouts::Component;
 
 /// An entity that was created, and whose parts are queued: it has them once the world is maintained.
-#[derive(Drop)]
 pub struct LazyBuilder<'a, J> {
     /// The entity.
     pub entity: Entity,
@@ -74,12 +73,22 @@ impl<'a, J> LazyBuilder<'a, J> {
     /// Ends the building, and answers the entity.
     pub fn build(self) -> Entity
         ensures value { result ≡ self.entry.entity }
+        ensures queue { self.exit.1.0.now ≡ self.entry.lazy.now }
     {
         let LazyBuilder {
             entity: built,
             lazy: _,
         } = self;
         built
+    }
+}
+
+impl<J> Drop for LazyBuilder<'_, J> {
+    /// Ends the building: entity and queue are as they were.
+    fn drop(self)
+        ensures { self.exit.1.0.now ≡ self.entry.lazy.now }
+    {
+        let LazyBuilder { entity: _, lazy: _ } = self;
     }
 }
 

@@ -13,7 +13,8 @@ use specs_entity::Error;
 pub(crate) fn count(counts: Maintained, outcome: Result<(), Error>) -> Result<Maintained, Error>
     requires jobs { counts.jobs + 1 < 2 ^ 64 }
     requires failed { counts.failed ≤ counts.jobs }
-    ensures ok { IfOk result (λ more. (result_err outcome ≢ Some refusal.Memory) × (more ≡ counted (result_err outcome) counts)) }
+    ensures ok { IfOk result (λ more. (result_err outcome ≢ Some refusal.Memory)
+        × (more ≡ counted (result_err outcome) counts)) }
     ensures err { IfErr result (λ error. (error ≡ refusal.Memory) × (result_err outcome ≡ Some refusal.Memory)) }
 {
     match outcome {

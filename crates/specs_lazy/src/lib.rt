@@ -11,6 +11,7 @@ pub mod maintained;
 mod queues;
 mod removing;
 mod running;
+pub mod setup;
 pub mod shared;
 
 pub use builder::LazyBuilder;
@@ -18,4 +19,5 @@ pub use job::{Insert, InsertAll, Job, Remove};
 pub use lazy::LazyUpdate;
 pub use lazy_world::LazyWorld;
 pub use maintained::Maintained;
+pub use setup::NewQueue;
 pub use shared::SharedLazy;

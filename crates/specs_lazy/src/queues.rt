@@ -51,7 +51,8 @@ where
 fn take_under<V, J>(world: &mut World<V>, number: u64) -> Option<J>
 where
     LazyUpdate<J>: Resource<V>,
-    ensures taken { IfSome result (λ job. TakesUnder ⟦<LazyUpdate<J> as Held<V>>⟧.stands_at number job world.old world.new) }
+    ensures taken { IfSome result (λ job. TakesUnder ⟦<LazyUpdate<J> as Held<V>>⟧.stands_at
+        number job world.old world.new) }
     ensures none { IfNone result (waiting ⟦<LazyUpdate<J> as Held<V>>⟧.stands_at world.old number ≡ []) }
 {
     let id = ResourceId::new_with_dynamic_id::<V, LazyUpdate<J>>(number);
