@@ -25,10 +25,14 @@ pub enum Story {
     AllDeleted,
     /// Parts are dropped by index, and the entity lives on.
     PartsDropped,
+    /// A kind that is registered again keeps its parts.
+    RegisteredTwice,
+    /// Entities in a row are alive at once, each with its own index, also at one that was used before.
+    MadeInARow,
 }
 
 /// Every story.
-pub const STORIES: [Story; 8] = [
+pub const STORIES: [Story; 10] = [
     Story::BuiltWithParts,
     Story::RegisteredLate,
     Story::StaleEntity,
@@ -37,6 +41,8 @@ pub const STORIES: [Story; 8] = [
     Story::Unregistered,
     Story::AllDeleted,
     Story::PartsDropped,
+    Story::RegisteredTwice,
+    Story::MadeInARow,
 ];
 
 /// Whether a story is as it should be.
@@ -50,6 +56,8 @@ pub fn holds(alloc: Global, story: Story) -> Result<bool, Error> {
         Story::Unregistered => unregistered(alloc),
         Story::AllDeleted => all_deleted(alloc),
         Story::PartsDropped => parts_dropped(alloc),
+        Story::RegisteredTwice => registered_twice(alloc),
+        Story::MadeInARow => made_in_a_row(alloc),
     }
 }
 
@@ -186,4 +194,26 @@ fn parts_dropped(alloc: Global) -> Result<bool, Error> {
             && health_at(&world, first).is_none()
             && health_at(&world, second) == Some(Health(2)),
     )
+}
+
+fn registered_twice(alloc: Global) -> Result<bool, Error> {
+    let mut world = world_with_healths(alloc)?;
+    let entity = with_health(&mut world, 10)?;
+    world.register::<Health>()?;
+    Ok(health_at(&world, entity) == Some(Health(10)))
+}
+
+fn made_in_a_row(alloc: Global) -> Result<bool, Error> {
+    let mut world = world_with_healths(alloc)?;
+    let stale = with_health(&mut world, 1)?;
+    world.delete_entity(stale)?;
+    let mut ids = Vec::new(alloc);
+    let mut lives = true;
+    for entity in world.create_iter(3)? {
+        lives = lives && world.is_alive(entity);
+        if ids.push(entity.id()).is_err() {
+            return Err(Error::Memory);
+        }
+    }
+    Ok(lives && ids.as_slice() == [0, 1, 2].as_slice() && !world.is_alive(stale))
 }
