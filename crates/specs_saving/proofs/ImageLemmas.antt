@@ -1,19 +1,18 @@
 -- A list that is loaded into an empty world, and what is saved of that.
-use Rattle.std.proofs.Common.{◌≡◌, ◌≢◌, ◌⊎◌, ◌↔◌, ◌+◌, ◌<◌, ◌≤◌, ℕ, zero, suc, Bool, true, false, cond, List, [], ◌∷◌, filter, map, Option, Some, None, is_some, IsSome, option_and_then, option_map, inl, inr, refl, sym, ap, subst, ◌∙◌, arith}
+use Rattle.std.proofs.Common.{◌≡◌, ◌⊎◌, ◌↔◌, ◌+◌, ◌<◌, ◌≤◌, ℕ, zero, suc, Bool, true, false, cond, List, [], ◌∷◌, filter, map, Option, Some, None, is_some, IsSome, option_and_then, option_map, inl, inr, refl, sym, ap, subst, ◌∙◌, arith}
 use Rattle.std.proofs.lemmas.Bool.{false≢true}
 use Rattle.std.specs.List.{range_with_len, cons_option}
 use Rattle.hibitset_sets.specs.Walk.{walk}
 use Rattle.specs_entity.specs.Births.{Births, IsAlive, living}
 use Rattle.specs_entity.specs.Life.{Life, LifeAt}
 use Rattle.specs_forms.specs.declared.entity_data.EntityData.{EntityData}
-use Rattle.specs_join.specs.Joins.{both, join_list, living_entity, values_at}
-use Rattle.specs_join.proofs.CallerLemmas.{walk-members}
+use Rattle.specs_join.specs.Joins.{both, join_list, values_at}
 use Rattle.specs_layouts.proofs.CallerLemmas.{walk-come}
 use Rattle.specs_layouts.specs.ToCome.{IsToCome}
 use Rattle.specs_saving.specs.Bearing.{IsAmong}
-use Rattle.specs_saving.specs.Images.{IsImage, IsImageOf, MarkersDiffer, NamesOwn, NamesUnmarked, SameEntries, SavesBack}
+use Rattle.specs_saving.specs.Images.{IsImage, IsImageOf, MarkersDiffer, NamesOwn, NamesUnmarked, SavesBack}
 use Rattle.specs_saving.specs.Known.{IsSound, Known, bearer_at}
-use Rattle.specs_saving.specs.Loading.{AreApart, IsLoaded, Loads}
+use Rattle.specs_saving.specs.Loading.{AreApart, Loads}
 use Rattle.specs_saving.specs.LoadingLemmas.{the-same}
 use Rattle.specs_saving.specs.Saved.{all_some, entry_of, marked_at, name_of, same_birth, saved}
 use Rattle.specs_saving.proofs.KnownLemmas.{bearer-alive, bearer-known, life-itself, same-life}

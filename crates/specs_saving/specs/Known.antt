@@ -16,6 +16,9 @@ pub record Known (A S : Type 0) : Type 0 where
   pub allocator : A
   pub markers : Masked S
 
+abbrev pub known_of : {A S : Type 0} → Births → A → Masked S → Known A S
+known_of births allocator markers = record { births = births; allocator = allocator; markers = markers }
+
 -- an entity is alive
 abbrev pub LivesIn : {A S : Type 0} → Known A S → LifeAt → Type 0
 LivesIn known = IsAlive known.births

@@ -5,3 +5,4 @@ pub mod NamingLemmas
 pub mod LoadingLemmas
 pub mod Loading
 pub mod Images
+pub mod Builders

@@ -4,7 +4,7 @@ ghost use Rattle.specs_entity.specs.declared.ids.Entity.{Entity};
 ghost use Rattle.specs_layouts.specs.MaskedChanges.{KeepsParts, PutsIn};
 ghost use Rattle.specs_join.specs.Joins.{both};
 ghost use Rattle.specs_saving.specs.Bearing.{IsAmong};
-ghost use Rattle.specs_saving.specs.Known.{AddsBearers, IsSoundIn, KeepsBearers, bearer_in};
+ghost use Rattle.specs_saving.specs.Known.{AddsBearers, IsSoundIn, KeepsBearers, bearer_in, known_of};
 ghost use Rattle.specs_saving.specs.Loading.{IsLoaded, Loads, LoadsBefore};
 ghost use Rattle.specs_saving.specs.Saved.{named_in, plain_in};
 ghost use Rattle.specs_entity.specs.Births.{IsAlive};
@@ -69,13 +69,12 @@ pub trait DeserializeComponents<M: SavedMarker>: SerializeComponents<M> {
     where
         Self: Sized,
         ensures ok { OnOk result (Loads G.noted M.Storage.part_at M.id_of markers_of loaded list.items
-            (record { births = entities.old; allocator = allocator.old; markers = markers.old })
-            (record { births = entities.new; allocator = allocator.new; markers = markers.new })
+            (known_of entities.old allocator.old markers.old) (known_of entities.new allocator.new markers.new)
             (Self.parts_at self.old) (Self.parts_at self.new)) }
-        ensures err { IfErr result (λ refused. LoadsBefore G.noted M.Storage.part_at M.id_of markers_of loaded list.items
-            (record { births = entities.old; allocator = allocator.old; markers = markers.old })
-            (record { births = entities.new; allocator = allocator.new; markers = markers.new })
-            (Self.parts_at self.old) (Self.parts_at self.new) refused.place) }
+        ensures err { IfErr result (λ refused. LoadsBefore G.noted M.Storage.part_at M.id_of markers_of loaded
+            list.items (known_of entities.old allocator.old markers.old)
+            (known_of entities.new allocator.new markers.new) (Self.parts_at self.old) (Self.parts_at self.new)
+            refused.place) }
     {
         load_all(self, alloc, list, entities, markers, allocator)
     }
@@ -374,15 +373,18 @@ impl<
     ghost stands = { λ names parts saved marker. both-stands names
         (both (A.plain names parts.0.0) (B.plain names parts.0.1))
         (both (C.plain names parts.1.0) (D.plain names parts.1.1))
-        (λ two. A.markers_of two.0 ++ B.markers_of two.1) (λ two. C.markers_of two.0 ++ D.markers_of two.1) saved marker
-        (λ two. both-stands names (A.plain names parts.0.0) (B.plain names parts.0.1) A.markers_of B.markers_of two marker
-        (λ first. A.stands names parts.0.0 first marker) (λ second. B.stands names parts.0.1 second marker))
-        (λ two. both-stands names (C.plain names parts.1.0) (D.plain names parts.1.1) C.markers_of D.markers_of two marker
-        (λ first. C.stands names parts.1.0 first marker) (λ second. D.stands names parts.1.1 second marker)) };
+        (λ two. A.markers_of two.0 ++ B.markers_of two.1) (λ two. C.markers_of two.0 ++ D.markers_of two.1)
+        saved marker
+        (λ two. both-stands names (A.plain names parts.0.0) (B.plain names parts.0.1) A.markers_of B.markers_of two
+        marker (λ first. A.stands names parts.0.0 first marker) (λ second. B.stands names parts.0.1 second marker))
+        (λ two. both-stands names (C.plain names parts.1.0) (D.plain names parts.1.1) C.markers_of D.markers_of two
+        marker (λ first. C.stands names parts.1.0 first marker) (λ second. D.stands names parts.1.1 second marker)) };
 
     ghost kept = { λ one other saved parts more. both-kept
-        (both (A.loaded one saved.0.0) (B.loaded one saved.0.1)) (both (A.loaded other saved.0.0) (B.loaded other saved.0.1))
-        (both (C.loaded one saved.1.0) (D.loaded one saved.1.1)) (both (C.loaded other saved.1.0) (D.loaded other saved.1.1))
+        (both (A.loaded one saved.0.0) (B.loaded one saved.0.1))
+        (both (A.loaded other saved.0.0) (B.loaded other saved.0.1))
+        (both (C.loaded one saved.1.0) (D.loaded one saved.1.1))
+        (both (C.loaded other saved.1.0) (D.loaded other saved.1.1))
         parts
         (λ two. both-kept (A.loaded one saved.0.0) (A.loaded other saved.0.0) (B.loaded one saved.0.1)
         (B.loaded other saved.0.1) two (λ part. A.kept one other saved.0.0 part more)
@@ -394,10 +396,12 @@ impl<
     ghost back = { λ bearers names saved parts same. both-back
         (both (A.loaded bearers saved.0.0) (B.loaded bearers saved.0.1))
         (both (C.loaded bearers saved.1.0) (D.loaded bearers saved.1.1))
-        (λ two. both (A.plain names two.0) (B.plain names two.1)) (λ two. both (C.plain names two.0) (D.plain names two.1))
+        (λ two. both (A.plain names two.0) (B.plain names two.1))
+        (λ two. both (C.plain names two.0) (D.plain names two.1))
         saved parts
         (λ two. both-back (A.loaded bearers saved.0.0) (B.loaded bearers saved.0.1) (A.plain names) (B.plain names)
-        saved.0 two (λ part. A.back bearers names saved.0.0 part same) (λ part. B.back bearers names saved.0.1 part same))
+        saved.0 two (λ part. A.back bearers names saved.0.0 part same)
+        (λ part. B.back bearers names saved.0.1 part same))
         (λ two. both-back (C.loaded bearers saved.1.0) (D.loaded bearers saved.1.1) (C.plain names) (D.plain names)
         saved.1 two (λ part. C.back bearers names saved.1.0 part same)
         (λ part. D.back bearers names saved.1.1 part same)) };
@@ -455,13 +459,12 @@ fn load_all<M: SavedMarker, S: DeserializeComponents<M>, A: MarkerAllocator<M>>(
     allocator: &mut A,
 ) -> Result<(), LoadError>
     ensures ok { OnOk result (Loads A.noted M.Storage.part_at M.id_of S.markers_of S.loaded list.items
-        (record { births = entities.old; allocator = allocator.old; markers = markers.old })
-        (record { births = entities.new; allocator = allocator.new; markers = markers.new })
+        (known_of entities.old allocator.old markers.old) (known_of entities.new allocator.new markers.new)
         (S.parts_at storages.old) (S.parts_at storages.new)) }
-    ensures err { IfErr result (λ refused. LoadsBefore A.noted M.Storage.part_at M.id_of S.markers_of S.loaded list.items
-        (record { births = entities.old; allocator = allocator.old; markers = markers.old })
-        (record { births = entities.new; allocator = allocator.new; markers = markers.new })
-        (S.parts_at storages.old) (S.parts_at storages.new) refused.place) }
+    ensures err { IfErr result (λ refused. LoadsBefore A.noted M.Storage.part_at M.id_of S.markers_of S.loaded
+        list.items (known_of entities.old allocator.old markers.old)
+        (known_of entities.new allocator.new markers.new) (S.parts_at storages.old) (S.parts_at storages.new)
+        refused.place) }
 {
     let _count = list.as_slice().len();
     let mut place = 0;

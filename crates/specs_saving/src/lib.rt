@@ -2,6 +2,7 @@
 #![tactic(auto)]
 
 mod bearers;
+pub mod builder;
 pub mod convert;
 pub mod deserialize;
 pub mod laws;
@@ -9,6 +10,7 @@ pub mod names;
 pub mod serialize;
 
 pub use bearers::bearer;
+pub use builder::MarkedBuilder;
 pub use convert::{ConvertSaveload, plain_from, plain_into};
 pub use deserialize::DeserializeComponents;
 pub use names::{Marks, Names, SavedMarker};

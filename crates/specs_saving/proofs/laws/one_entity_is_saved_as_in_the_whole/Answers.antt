@@ -1,6 +1,5 @@
-use Rattle.std.proofs.Common.{sym, ap, ◌∙◌, Option}
+use Rattle.std.proofs.Common.{sym, ◌∙◌}
 use Rattle.std.proofs.lemmas.Result.{IfOk-weaker}
-use Rattle.specs_entity.specs.Life.{LifeAt}
 use Rattle.specs_saving.proofs.ImageLemmas.{saved-has}
 use Rattle.specs_saving.proofs.laws.one_entity_is_saved_as_in_the_whole.Goals as goal
 
