@@ -4,6 +4,7 @@ use crate::setup::{empty_world, spawn};
 use crate::values::{Position, Value, Velocity};
 use shred::World;
 use specs_entity::{Entity, Error};
+use specs_layouts::MaskedStorage;
 use specs_world::WorldExt;
 use std::alloc::Global;
 use std::sync::Wait;
@@ -64,6 +65,37 @@ fn wrong_course<R: AllocGlobal + Threads + Wait + Sync>(
         }
     }
     Ok(None)
+}
+
+/// Whether a dispatcher's setup registers both kinds in a world that has none: an entity has both parts then, and loses
+/// them with its life.
+fn registers_by_setup(alloc: Global) -> Result<bool, Failure> {
+    let mut world: World<Value> = WorldExt::new(alloc)?;
+    let mut both = dispatcher(alloc, 0).map_err(|_| Failure::Dispatch)?;
+    both.setup(&mut world).map_err(|_| Failure::Dispatch)?;
+    let entity = match world.create_entity()?.with(Position(1)) {
+        Ok(builder) => match builder.with(Velocity(2)) {
+            Ok(builder) => builder.build(),
+            Err(_) => return Err(Failure::World),
+        },
+        Err(_) => return Err(Failure::World),
+    };
+    let begun = place_of(&world, entity)? == Some(1);
+    world.delete_entity(entity)?;
+    Ok(begun && !has_velocity(&world, entity))
+}
+
+/// Whether a world has a velocity at an entity's index.
+fn has_velocity(world: &World<Value>, entity: Entity) -> bool {
+    match world.try_fetch::<MaskedStorage<Velocity>>() {
+        Some(velocities) => velocities.contains(entity.id()),
+        None => true,
+    }
+}
+
+#[test]
+fn setup_registers_what_systems_fetch(rt: HostRuntime) {
+    assert_eq!(rt; registers_by_setup(rt.alloc()), Ok(true));
 }
 
 #[test]
