@@ -1,5 +1,5 @@
 -- A list that is loaded into an empty world, and what is saved of that.
-use Rattle.std.proofs.Common.{◌≡◌, ◌⊎◌, ◌↔◌, ◌+◌, ◌<◌, ◌≤◌, ℕ, zero, suc, Bool, true, false, cond, List, [], ◌∷◌, filter, map, Option, Some, None, is_some, IsSome, option_and_then, option_map, inl, inr, refl, sym, ap, subst, ◌∙◌, arith}
+use Rattle.std.proofs.Common.{◌≡◌, ◌⊎◌, ◌↔◌, ◌+◌, ◌<◌, ◌≤◌, ℕ, zero, suc, Bool, true, false, cond, List, [], ◌∷◌, filter, map, Option, Some, None, is_some, IsSome, IfSome, option_and_then, option_map, inl, inr, refl, sym, ap, subst, ◌∙◌, arith}
 use Rattle.std.proofs.lemmas.Bool.{false≢true}
 use Rattle.std.specs.List.{range_with_len, cons_option}
 use Rattle.hibitset_sets.specs.Walk.{walk}
@@ -14,7 +14,7 @@ use Rattle.specs_saving.specs.Images.{IsImage, IsImageOf, MarkersDiffer, NamesOw
 use Rattle.specs_saving.specs.Known.{IsSound, Known, bearer_at}
 use Rattle.specs_saving.specs.Loading.{AreApart, Loads}
 use Rattle.specs_saving.specs.LoadingLemmas.{the-same}
-use Rattle.specs_saving.specs.Saved.{all_some, entry_of, marked_at, name_of, same_birth, saved}
+use Rattle.specs_saving.specs.Saved.{IsEntryOf, all_some, entry_of, marked_at, name_of, same_birth, saved}
 use Rattle.specs_saving.proofs.KnownLemmas.{bearer-alive, bearer-known, life-itself, same-life}
 
 -- ---- an empty world, and a list that was loaded into it
@@ -360,6 +360,13 @@ module _ {M D P : Type 0} (plain : (LifeAt → Option M) → P → Option D) (ma
         let entry = entry-is (plain (name_of births markers)) parts_at (entity, marker) own.0 own.2 in
         let same = the-same own.0.components components (sym entry.1 ∙ given) in
         subst (λ (e : EntityData M D). IsAmong e list) (λ i. record { marker = entry.0 i; components = same i }) own.1
+
+  -- what is saved of an entity is its entry
+  pub entry-among : (entity : LifeAt) (found : Option (EntityData M D)) → IfSome found (IsEntryOf plain parts_at births markers entity) → IfSome found (λ entry. (list : List (EntityData M D)) → saved plain parts_at births markers ≡ Some list → IsAmong entry list)
+  entry-among entity None some = tt
+  entry-among entity (Some entry) some = λ list whole.
+      let lives = named-is births markers entity entry.marker some.marked in
+      saved-has list whole entity entry.marker entry.components lives.0 lives.1 some.parts
 
 none-mapped : {X Y : Type 0} (f : X → Y) (o : Option X) → option_map f o ≡ None → o ≡ None
 none-mapped f None is = refl

@@ -1,5 +1,5 @@
 -- What is saved of the entities: for each living marked one its marker and its parts.
-use Rattle.std.specs.Prelude.{◌≡◌, ◌++◌, ℕ, nat_eq, Bool, true, false, ◌&&◌, List, [], ◌∷◌, map, Option, Some, None, if◌then◌else◌, option_and_then, option_map}
+use Rattle.std.specs.Prelude.{◌≡◌, ◌++◌, ℕ, nat_eq, Bool, true, false, ◌&&◌, List, [], ◌∷◌, map, Option, Some, None, IsSome, if◌then◌else◌, option_and_then, option_map}
 use Rattle.specs_entity.specs.Births.{Births, living}
 use Rattle.specs_entity.specs.Life.{Life, LifeAt}
 use Rattle.specs_forms.specs.declared.entity_data.EntityData.{EntityData}
@@ -53,3 +53,13 @@ pub record IsSavedNext {X : Type 0} (entry : Option X) (before after : List X) :
   pub value : X
   pub saved : entry ≡ Some value
   pub behind : after ≡ before ++ value ∷ []
+
+-- an entry is what is saved of an entity, which is alive and has a marker
+pub record IsEntryOf {M D P : Type 0} (plain : (LifeAt → Option M) → P → Option D) (parts_at : ℕ → P) (births : Births) (markers : ℕ → Option M) (entity : LifeAt) (entry : EntityData M D) : Type 0 where
+  pub marked : name_of births markers entity ≡ Some entry.marker
+  pub parts : plain (name_of births markers) (parts_at entity.id) ≡ Some entry.components
+
+-- the parts of an entity that is alive and has a marker name one that isn't alive or has none
+pub record NamesNone {M D P : Type 0} (plain : (LifeAt → Option M) → P → Option D) (parts_at : ℕ → P) (births : Births) (markers : ℕ → Option M) (entity : LifeAt) : Type 0 where
+  pub marked : IsSome (name_of births markers entity)
+  pub parts : plain (name_of births markers) (parts_at entity.id) ≡ None

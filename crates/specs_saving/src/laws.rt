@@ -1,17 +1,17 @@
 //! Laws on which callers rely. Each contract is the law.
-ghost use Rattle.std.specs.Prelude.{◌≡◌, List, Some, None, IfOk, OnOk, IsErrOf};
+ghost use Rattle.std.specs.Prelude.{◌≡◌, List, Some, None, IfOk, IfSome, OnOk, IsErrOf};
 ghost use Rattle.specs_entity.specs.Births.{IsAlive};
 ghost use Rattle.specs_entity.specs.declared.ids.Entity.{Entity};
 ghost use Rattle.specs_saving.specs.Images.{IsImage, MarkersDiffer, NamesOwn, NamesUnmarked, SavesBack};
 ghost use Rattle.specs_saving.specs.Bearing.{IsAmong};
-ghost use Rattle.specs_saving.specs.Saved.{name_of, saved};
+ghost use Rattle.specs_saving.specs.Saved.{saved};
 ghost use Rattle.specs_entity.specs.declared.errors.Error.TheVariants as refusal;
 ghost use Rattle.specs_forms.specs.declared.entity_data.EntityData.{EntityData};
 ghost use Rattle.specs_saving.specs.Known.{bearer_in};
 ghost use Rattle.specs_saving.specs.Loading.{AreApart};
 
 use crate::deserialize::{DeserializeComponents, LoadError};
-use crate::names::{Names, SavedMarker};
+use crate::names::SavedMarker;
 use crate::serialize::SerializeComponents;
 use specs_entity::laws::the_living_are_below_the_limit;
 use specs_entity::{EntitiesRes, Entity, Error};
@@ -81,27 +81,18 @@ pub fn an_unmarked_refusal_names_one<M: SavedMarker, S: SerializeComponents<M>>(
     storages.serialize(alloc, entities, markers)
 }
 
-/// What `serialize_entity` gives for a living marked entity is what the whole list has for it.
-pub fn one_entity_is_saved_as_in_the_whole<
-    M: SavedMarker,
-    S: DeserializeComponents<M>,
-    N: Names<M>,
->(
+/// What is saved of one entity is the entry that the whole list has for it.
+pub fn one_entity_is_saved_as_in_the_whole<M: SavedMarker, S: DeserializeComponents<M>>(
     storages: &S,
     alloc: Global,
     entity: Entity,
-    names: &N,
     entities: &EntitiesRes,
     markers: &MaskedStorage<M>,
-) -> Result<S::Data, Error>
-    requires names { (other : Entity) → N.name names.now other
-        ≡ name_of entities.now (M.Storage.part_at markers.now.inner) other }
-    requires alive { IsAlive entities.now entity }
-    ensures { IfOk result (λ found. (marker : M) (list : List (EntityData M S.Data))
-        → M.Storage.part_at markers.now.inner entity.id ≡ Some marker
+) -> Result<Option<EntityData<M, S::Data>>, Error>
+    ensures { IfOk result (λ found. IfSome found (λ entry. (list : List (EntityData M S.Data))
         → saved S.plain (S.parts_at storages.now) entities.now (M.Storage.part_at markers.now.inner) ≡ Some list
-        → IsAmong (record { marker = marker; components = found }) list) }
+        → IsAmong entry list)) }
 {
     the_living_are_below_the_limit(entities);
-    storages.serialize_entity(alloc, entity, names)
+    storages.serialize_marked(alloc, entity, entities, markers)
 }

@@ -1,9 +1,9 @@
 //! Saving: the marked entities as a list of data.
-ghost use Rattle.std.specs.Prelude.{◌≡◌, ◌⊎◌, ◌↔◌, ℕ, List, Option, Some, None, IsSome, IfOk, IfErr, IsErrOf, OnOk};
+ghost use Rattle.std.specs.Prelude.{◌≡◌, ◌⊎◌, ◌↔◌, ℕ, List, Option, Some, None, IsSome, IfOk, IfErr, IfSome, IsErrOf, OnOk};
 ghost use Rattle.specs_entity.specs.declared.ids.Entity.{Entity};
 ghost use Rattle.specs_entity.specs.declared.errors.Error.TheVariants as refusal;
 ghost use Rattle.specs_saving.specs.Bearing.{IsAmong};
-ghost use Rattle.specs_saving.specs.Saved.{IsSavedNext, entry_of, saved};
+ghost use Rattle.specs_saving.specs.Saved.{IsEntryOf, IsSavedNext, NamesNone, entry_of, name_of, saved};
 ghost use Rattle.specs_join.specs.Joins.{living_entity};
 ghost use Rattle.specs_saving.specs.declared.serialize.SaveRefusal.TheVariants as want;
 
@@ -47,6 +47,34 @@ pub trait SerializeComponents<M: SavedMarker> {
         ensures unmarked { IsErrOf result refusal.Unmarked
             → plain (N.name names.now) (parts_at self.now entity.id) ≡ None }
         ensures refused { IfErr result (λ error. (error ≡ refusal.Unmarked) ⊎ (error ≡ refusal.Memory)) };
+
+    /// The marker of an entity and the data of its parts, as `serialize` has it, or none where it isn't alive or has
+    /// no marker.
+    ///
+    /// Errors: those of `serialize_entity`.
+    final fn serialize_marked(
+        &self,
+        alloc: Global,
+        entity: Entity,
+        entities: &EntitiesRes,
+        markers: &MaskedStorage<M>,
+    ) -> Result<Option<EntityData<M, Self::Data>>, Error>
+    where
+        Self: Sized,
+        ensures none { IfOk result (λ found. found ≡ None
+            → name_of entities.now (M.Storage.part_at markers.now.inner) entity ≡ None) }
+        ensures some { IfOk result (λ found. IfSome found (IsEntryOf plain (parts_at self.now) entities.now
+            (M.Storage.part_at markers.now.inner) entity)) }
+        ensures unmarked { IsErrOf result refusal.Unmarked → NamesNone plain (parts_at self.now) entities.now
+            (M.Storage.part_at markers.now.inner) entity }
+        ensures refused { IfErr result (λ error. (error ≡ refusal.Unmarked) ⊎ (error ≡ refusal.Memory)) }
+    {
+        match entry_at(self, alloc, entity, entities, markers) {
+            Ok(found) => Ok(found),
+            Err(SaveRefusal::Unmarked) => Err(Error::Unmarked),
+            Err(SaveRefusal::Memory) => Err(Error::Memory),
+        }
+    }
 
     /// The marker and the data of each living marked entity, ascending by index.
     ///
@@ -98,6 +126,55 @@ fn living_at(entities: &EntitiesRes, id: Index) -> Option<Entity>
     }
 }
 
+/// What is saved of an entity with a marker.
+fn entry_for<M: SavedMarker, S: SerializeComponents<M>, N: Names<M>>(
+    storages: &S,
+    alloc: Global,
+    entity: Entity,
+    marker: &M,
+    names: &N,
+) -> Result<EntityData<M, S::Data>, SaveRefusal>
+    ensures ok { IfOk result (λ entry. entry_of (S.plain (N.name names.now)) (S.parts_at storages.now)
+        (entity, marker.now) ≡ Some entry) }
+    ensures unmarked { IsErrOf result want.Unmarked → entry_of (S.plain (N.name names.now))
+        (S.parts_at storages.now) (entity, marker.now) ≡ None }
+{
+    let components = match storages.serialize_entity(alloc, entity, names) {
+        Ok(components) => components,
+        Err(Error::Unmarked) => return Err(SaveRefusal::Unmarked),
+        Err(_) => return Err(SaveRefusal::Memory),
+    };
+    match marker.copy() {
+        Ok(marker) => Ok(EntityData { marker, components }),
+        Err(_) => Err(SaveRefusal::Memory),
+    }
+}
+
+/// What is saved of an entity, or none where it isn't alive or has no marker.
+fn entry_at<M: SavedMarker, S: SerializeComponents<M>>(
+    storages: &S,
+    alloc: Global,
+    entity: Entity,
+    entities: &EntitiesRes,
+    markers: &MaskedStorage<M>,
+) -> Result<Option<EntityData<M, S::Data>>, SaveRefusal>
+    ensures none { IfOk result (λ found. found ≡ None
+        → name_of entities.now (M.Storage.part_at markers.now.inner) entity ≡ None) }
+    ensures some { IfOk result (λ found. IfSome found (IsEntryOf S.plain (S.parts_at storages.now) entities.now
+        (M.Storage.part_at markers.now.inner) entity)) }
+    ensures unmarked { IsErrOf result want.Unmarked → NamesNone S.plain (S.parts_at storages.now) entities.now
+        (M.Storage.part_at markers.now.inner) entity }
+{
+    let marks = Marks { entities, markers };
+    if !entities.is_alive(entity) || !markers.contains(entity.id()) {
+        return Ok(None);
+    }
+    match entry_for(storages, alloc, entity, markers.get(entity.id()), &marks) {
+        Ok(entry) => Ok(Some(entry)),
+        Err(refused) => Err(refused),
+    }
+}
+
 /// Puts what is saved of one entity behind a list.
 fn save_one<M: SavedMarker, S: SerializeComponents<M>, N: Names<M>>(
     list: &mut Vec<EntityData<M, S::Data>>,
@@ -112,16 +189,11 @@ fn save_one<M: SavedMarker, S: SerializeComponents<M>, N: Names<M>>(
     ensures unmarked { IsErrOf result want.Unmarked → entry_of (S.plain (N.name names.now))
         (S.parts_at storages.now) (entity, marker.now) ≡ None }
 {
-    let components = match storages.serialize_entity(alloc, entity, names) {
-        Ok(components) => components,
-        Err(Error::Unmarked) => return Err(SaveRefusal::Unmarked),
-        Err(_) => return Err(SaveRefusal::Memory),
+    let entry = match entry_for(storages, alloc, entity, marker, names) {
+        Ok(entry) => entry,
+        Err(refused) => return Err(refused),
     };
-    let marker = match marker.copy() {
-        Ok(marker) => marker,
-        Err(_) => return Err(SaveRefusal::Memory),
-    };
-    match list.push(EntityData { marker, components }) {
+    match list.push(entry) {
         Ok(()) => Ok(()),
         Err(_) => Err(SaveRefusal::Memory),
     }

@@ -1,4 +1,4 @@
-use Rattle.std.proofs.Common.{Some, is_ok, option_map, sym, ap, ◌∙◌}
+use Rattle.std.proofs.Common.{is_ok, ap}
 use Rattle.specs_saving.proofs.SaveLemmas.{saved-next}
 use Rattle.specs_saving.proofs.serialize.save_one.Goals as goal
 use Rattle.specs_saving.proofs.serialize.save_one.Goals.{in-Ok-push, in-Err-push}
@@ -6,6 +6,6 @@ use Rattle.specs_saving.proofs.serialize.save_one.Goals.{in-Ok-push, in-Err-push
 pub returns-clause-ok : goal.returns-clause-ok
 returns-clause-ok g c =
     elim c.match-push.branch [
-      | in-Ok-push w ↦ rw w.result-is (saved-next _ _ _ _ (is_ok c.push.result) (ap (option_map (λ components. record { marker = c.args.marker.now; components = components })) c.in-Ok.ensures.ok ∙ ap (λ m. Some (record { marker = m; components = c.in-Ok.components })) (sym c.in-Ok-copy.ensures)) c.push.ensures.items (ap is_ok w.in-Ok-push.is))
+      | in-Ok-push w ↦ rw w.result-is (saved-next _ _ _ _ (is_ok c.push.result) c.in-Ok.ensures.ok c.push.ensures.items (ap is_ok w.in-Ok-push.is))
       | in-Err-push w ↦ rw w.result-is tt
     ]
