@@ -216,7 +216,9 @@ fn lazy_removal<R: AllocGlobal + Wait>(rt: &R) -> Result<bool, Error> {
     let entity = make_entity(&mut world)?;
     let stale = make_entity(&mut world)?;
     world.delete_entity(stale)?;
-    let put = world.insert_part(entity, Health(1)).is_ok();
+    if let Err((error, _)) = world.insert_part(entity, Health(1)) {
+        return Err(error);
+    }
     match world.get_mut::<LazyUpdate<Task>>() {
         Some(lazy) => {
             if lazy.remove::<Health>(entity).is_err() || lazy.remove::<Health>(stale).is_err() {
@@ -228,7 +230,7 @@ fn lazy_removal<R: AllocGlobal + Wait>(rt: &R) -> Result<bool, Error> {
     let before = health_at(&world, entity);
     let outcome = world.maintain(rt, 10);
     Ok(
-        put && before == Some(Health(1))
+        before == Some(Health(1))
             && is_maintained(&outcome, 2, 0)
             && health_at(&world, entity).is_none(),
     )
