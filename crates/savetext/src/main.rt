@@ -1,0 +1,167 @@
+//! Saves a world as JSON text, loads that text into an empty one, and saves that again: two lines, which are the same.
+//!
+//! Entity 0 owns entity 1, which owns entity 0; a third has health alone; a fourth has no marker, and isn't saved.
+#![tactic(auto)]
+
+use saves_tests::kinds::{Health, Owner};
+use serde_json::Value;
+use specs_entity::{EntitiesRes, Entity, Error};
+use specs_forms::{EntityData, FormError, JsonForm, PartForms};
+use specs_layouts::{DenseVecStorage, MaskedStorage, TryDefault, VecStorage};
+use specs_markers::{MarkerAllocator, SimpleMarker, SimpleMarkerAllocator};
+use specs_saving::{DeserializeComponents, SerializeComponents};
+use std::alloc::{AllocError, Global};
+use std::io;
+
+/// What the markers are for.
+struct Saved;
+
+/// Owners and healths.
+type Parts = (MaskedStorage<Owner>, MaskedStorage<Health>);
+
+/// What is saved of an entity's parts.
+type Data = (Option<SimpleMarker<Saved>>, Option<i64>);
+
+/// Entities with their markers and parts.
+#[derive(Drop)]
+struct World {
+    entities: EntitiesRes,
+    markers: MaskedStorage<SimpleMarker<Saved>>,
+    allocator: SimpleMarkerAllocator<Saved>,
+    parts: Parts,
+}
+
+/// A world without entities.
+fn empty(alloc: Global) -> World {
+    World {
+        entities: EntitiesRes::new(alloc),
+        markers: MaskedStorage::new(alloc, DenseVecStorage::unwrap_default(alloc)),
+        allocator: SimpleMarkerAllocator::new(alloc),
+        parts: (
+            MaskedStorage::new(alloc, DenseVecStorage::unwrap_default(alloc)),
+            MaskedStorage::new(alloc, VecStorage::unwrap_default(alloc)),
+        ),
+    }
+}
+
+/// Gives an entity health, and marks it.
+fn heal(world: &mut World, entity: Entity, health: i64) -> Result<(), Error> {
+    if world.entities.is_alive(entity)
+        && world.parts.1.insert(entity.id(), Health(health)).is_err()
+    {
+        return Err(Error::Memory);
+    }
+    let _ = world
+        .allocator
+        .mark(entity, &mut world.markers, &world.entities)?;
+    Ok(())
+}
+
+/// Gives an entity an owner.
+fn own(world: &mut World, entity: Entity, owner: Entity) -> Result<(), Error> {
+    if world.entities.is_alive(entity) && world.parts.0.insert(entity.id(), Owner(owner)).is_err() {
+        return Err(Error::Memory);
+    }
+    Ok(())
+}
+
+/// The world that is saved.
+fn made(alloc: Global) -> Result<World, Error> {
+    let mut world = empty(alloc);
+    let first = world.entities.create()?;
+    let second = world.entities.create()?;
+    let third = world.entities.create()?;
+    let _unmarked = world.entities.create()?;
+    heal(&mut world, first, 7)?;
+    heal(&mut world, second, -5)?;
+    heal(&mut world, third, 3)?;
+    own(&mut world, first, second)?;
+    own(&mut world, second, first)?;
+    Ok(world)
+}
+
+/// The JSON text of a list.
+fn text_of<D: PartForms>(
+    alloc: Global,
+    list: &[EntityData<SimpleMarker<Saved>, D>],
+) -> Result<String, AllocError> {
+    let mut values = Vec::new(alloc);
+    for entry in list {
+        let value = entry.to_value(alloc)?;
+        values.push(value)?;
+    }
+    Value::Array(values).to_string(alloc)
+}
+
+/// The text that a world is saved as.
+fn saved_text(alloc: Global, world: &World) -> Result<String, Error> {
+    let list = world
+        .parts
+        .serialize(alloc, &world.entities, &world.markers)?;
+    Ok(text_of(alloc, list.as_slice())?)
+}
+
+/// The list of a text.
+fn list_of(
+    alloc: Global,
+    text: &str,
+) -> Result<Vec<EntityData<SimpleMarker<Saved>, Data>>, FormError> {
+    let Ok(json) = Value::from_str(alloc, text) else {
+        return Err(FormError::Shape);
+    };
+    let Some(values) = json.as_array() else {
+        return Err(FormError::Shape);
+    };
+    let mut list = Vec::new(alloc);
+    for value in values {
+        let entry = EntityData::from_value(alloc, value)?;
+        match list.push(entry) {
+            Ok(()) => {}
+            Err(_) => return Err(FormError::Memory),
+        }
+    }
+    Ok(list)
+}
+
+/// An empty world into which a text was loaded, or none where the text is no list of entities.
+fn loaded(alloc: Global, text: &str) -> Result<Option<World>, Error> {
+    let list = match list_of(alloc, text) {
+        Ok(list) => list,
+        Err(FormError::Shape) => return Ok(None),
+        Err(FormError::Memory) => return Err(Error::Memory),
+    };
+    let mut world = empty(alloc);
+    match world.parts.deserialize(
+        alloc,
+        list,
+        &mut world.entities,
+        &mut world.markers,
+        &mut world.allocator,
+    ) {
+        Ok(()) => Ok(Some(world)),
+        Err(refused) => Err(refused.error),
+    }
+}
+
+/// Both lines; the second is empty where the first is no list of entities.
+fn both(alloc: Global) -> Result<(String, String), Error> {
+    let world = made(alloc)?;
+    let first = saved_text(alloc, &world)?;
+    match loaded(alloc, &first)? {
+        Some(again) => {
+            let second = saved_text(alloc, &again)?;
+            Ok((first, second))
+        }
+        None => Ok((first, String::new(alloc))),
+    }
+}
+
+fn main(rt: HostRuntime) -> io::Result<()> {
+    match both(rt.alloc()) {
+        Ok((first, second)) => {
+            println!(rt; "{first}")?;
+            println!(rt; "{second}")
+        }
+        Err(error) => println!(rt; "refused: {error}"),
+    }
+}
