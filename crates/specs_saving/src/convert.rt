@@ -1,5 +1,6 @@
 //! What a part is in what is saved.
-ghost use Rattle.std.specs.Prelude.{◌≡◌, ◌++◌, ◌⊎◌, ◌↔◌, List, Option, Some, None, IsSome, Ok, IfOk, IfErr, OnOk, IsErrOf};
+ghost use Rattle.std.specs.Prelude.{◌≡◌, ◌++◌, ◌⊎◌, ◌↔◌, List, Option, Some};
+ghost use Rattle.std.specs.Prelude.{None, IsSome, Ok, IfOk, IfErr, OnOk, IsErrOf};
 ghost use Rattle.specs_entity.specs.declared.ids.Entity.{Entity};
 ghost use Rattle.specs_entity.specs.declared.errors.Error.TheVariants as refusal;
 ghost use Rattle.specs_saving.specs.Bearing.{IsAmong};

@@ -1,7 +1,8 @@
 //! Saving with all that is named: who is asked for is marked, and saved behind those before it.
 ghost use Rattle.std.specs.Prelude.{◌≡◌, ◌+◌, ℕ, map, length, slice_get, Some, is_some, IfOk, OnOk};
 ghost use Rattle.specs_entity.specs.declared.ids.Entity.{Entity};
-ghost use Rattle.specs_saving.specs.Reached.{IsOrder, IsReached, KeepsMarks, Order, SavesReached, marked_first, named_entry};
+ghost use Rattle.specs_saving.specs.Reached.{IsOrder, IsReached, KeepsMarks};
+ghost use Rattle.specs_saving.specs.Reached.{Order, SavesReached, marked_first, named_entry};
 ghost use Rattle.specs_saving.specs.Reached.{with_asked, with_all_asked};
 ghost use Rattle.specs_saving.specs.Saved.{all_some};
 

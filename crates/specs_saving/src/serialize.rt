@@ -1,5 +1,6 @@
 //! Saving: the marked entities as a list of data.
-ghost use Rattle.std.specs.Prelude.{◌≡◌, ◌++◌, ◌⊎◌, ◌↔◌, ℕ, List, Option, Some, None, IsSome, IfOk, IfErr, IfSome, IsErrOf, OnOk};
+ghost use Rattle.std.specs.Prelude.{◌≡◌, ◌++◌, ◌⊎◌, ◌↔◌, ℕ, List, Option};
+ghost use Rattle.std.specs.Prelude.{Some, None, IsSome, IfOk, IfErr, IfSome, IsErrOf, OnOk};
 ghost use Rattle.specs_entity.specs.declared.ids.Entity.{Entity};
 ghost use Rattle.specs_entity.specs.declared.errors.Error.TheVariants as refusal;
 ghost use Rattle.specs_saving.specs.Bearing.{IsAmong};
