@@ -109,6 +109,8 @@ impl EntitiesRes {
     /// Errors: `AllocError`, and nothing changed.
     pub fn merge(&mut self) -> Result<Vec<Entity>, AllocError>
         ensures value { IfOk result (λ deleted. deleted.items ≡ all_deleted self.old) }
+        ensures named { IfOk result (λ deleted. (index : ℕ) → is_named deleted.items index
+            ≡ set.contains self.old.deletions index) }
         ensures ok { OnOk result (self.new ≡ merged self.old) }
         ensures lives { OnOk result (LivesBut (set.contains self.old.deletions) self.old self.new) }
         ensures done { OnOk result (self.new.deletions ≡ set.empty) }

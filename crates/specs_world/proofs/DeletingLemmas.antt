@@ -10,7 +10,7 @@ use Rattle.shred_world.specs.Worlds.{Slots, value_at, resource_at, is_of_kinds}
 use Rattle.shred_world.proofs.IdLemmas.{same_id-is, same_id-itself}
 use Rattle.shred_world.proofs.WorldLemmas.{get-insert_here}
 use Rattle.specs_entity.proofs.ListLemmas.{fault-not-killable}
-use Rattle.specs_entity.specs.Births.{Births, CanKill, LivesBut, is_named, living, all_buried, all_deleted, merged, indices_of}
+use Rattle.specs_entity.specs.Births.{Births, CanKill, Continues, LivesBut, is_named, living, all_buried, all_deleted, merged, indices_of}
 use Rattle.specs_entity.specs.declared.ids.Entity.{Entity}
 use Rattle.specs_entity.specs.declared.errors.Error.{Error}
 use Rattle.specs_entity.specs.declared.errors.Error.TheVariants as variant
@@ -148,21 +148,24 @@ module _ {V : Type 0} (drops : V → List ℕ → V → Type 0) (w w1 w2 w3 : Sl
     registered = table-there table kills.dropped.kinds kills.dropped.registered;
     killable = kills.killable;
     lives = subst (LivesBut (is_named entities) births) kills.buried kills.lives;
+    continues = subst (Continues births) kills.buried kills.continues;
     deletes = entities-around births_part wrapped table entities (all_buried births (indices_of entities)) (is ∙ ap wrapped kills.buried) kills.dropped;
   }
 
   pub merges-around : (births_part : V → Option Births) (wrapped : Births → V) (table : Place V (List ℕ)) (entities : List Entity) (births after : Births)
       → resource_at births_part w id ≡ Some births → v ≡ wrapped after → after ≡ merged births → entities ≡ all_deleted births
-      → LivesBut (fin.contains births.deletions) births after → after.deletions ≡ fin.empty → DropsComponents table drops entities w1 w2
+      → ((index : ℕ) → is_named entities index ≡ fin.contains births.deletions index) → LivesBut (fin.contains births.deletions) births after → after.deletions ≡ fin.empty → Continues births after → DropsComponents table drops entities w1 w2
       → MergesIn (record { part = births_part; wrapped = wrapped; id = id }) table drops entities w w3
-  merges-around births_part wrapped table entities births after there is merges dead lives done dropped = record {
+  merges-around births_part wrapped table entities births after there is merges dead named lives done continues dropped = record {
     births = births;
     kinds = dropped.kinds;
     alive_in = there;
     registered = table-there table dropped.kinds dropped.registered;
     dead = dead;
+    named = named;
     lives = subst (LivesBut (fin.contains births.deletions) births) merges lives;
     done = sym (ap (λ (b : Births). b.deletions) merges) ∙ done;
+    continues = subst (Continues births) merges continues;
     deletes = entities-around births_part wrapped table entities (merged births) (is ∙ ap wrapped merges) dropped;
   }
 
@@ -203,14 +206,14 @@ whole-refused births (Some kinds) one_id entities error can refused =
     elim refused [ inl same ↦ inl same | inr death ↦ inr (killable-refused births entities error can death) ]
 
 -- facts of an `Ok`, and of an `Err`, taken together
-pub on_ok_all : {T E P Q L R S : Type 0} (r : Result T E) → (P → Q → L → R → S) → OnOk r P → OnOk r Q → OnOk r L → OnOk r R → OnOk r S
-on_ok_all (Ok t) f p q l s = f p q l s
-on_ok_all (Err e) f p q l s = tt
+pub on_ok_all : {T E P Q L C R S : Type 0} (r : Result T E) → (P → Q → L → C → R → S) → OnOk r P → OnOk r Q → OnOk r L → OnOk r C → OnOk r R → OnOk r S
+on_ok_all (Ok t) f p q l c s = f p q l c s
+on_ok_all (Err e) f p q l c s = tt
 
 pub on_err_both : {T E P Q R : Type 0} (r : Result T E) → (P → Q → R) → OnErr r P → OnErr r Q → OnErr r R
 on_err_both (Ok t) f p q = tt
 on_err_both (Err e) f p q = f p q
 
-pub if_ok_all : {T E P L D : Type 0} {Q R S : T → Type 0} (r : Result T E) → ((t : T) → P → Q t → L → D → R t → S t) → OnOk r P → IfOk r Q → OnOk r L → OnOk r D → IfOk r R → IfOk r S
-if_ok_all (Ok t) f p q l d s = f t p q l d s
-if_ok_all (Err e) f p q l d s = tt
+pub if_ok_all : {T E P L D C : Type 0} {Q N R S : T → Type 0} (r : Result T E) → ((t : T) → P → Q t → N t → L → D → C → R t → S t) → OnOk r P → IfOk r Q → IfOk r N → OnOk r L → OnOk r D → OnOk r C → IfOk r R → IfOk r S
+if_ok_all (Ok t) f p q n l d c s = f t p q n l d c s
+if_ok_all (Err e) f p q n l d c s = tt

@@ -10,7 +10,7 @@ use Rattle.shred_world.specs.ResourceIds.{id_cmp, same_id}
 use Rattle.shred_world.specs.Worlds.{Slots, value_at, resource_at}
 use Rattle.shred_world.proofs.IdLemmas.{exact_ids, ids_total, same_id-is}
 use Rattle.shred_world.proofs.WorldLemmas.{insert_same, insert-insert, insert_value_same, get-insert_here, on_some}
-use Rattle.shred_world.specs.Bundles.{DefaultsTo}
+use Rattle.shred_world.specs.Bundles.{DefaultsTo, holding_of, readable, slot_of}
 use Rattle.specs_entity.specs.Births.{Births, IsAlive, deleted}
 use Rattle.specs_entity.specs.declared.ids.Entity.{Entity}
 use Rattle.specs_layouts.specs.Masked.{Masked}
@@ -131,3 +131,18 @@ lent-deletes {V} part wrapped w w' id lent value left is stood leaves only entit
 pub nothing-there : {A : Type 0} (found : Option A) → is_some found ≡ false → found ≡ None
 nothing-there None none = refl
 nothing-there (Some a) none = cc
+
+slot-as : {V : Type 0} (one other : Option (Option V)) → slot_of one ≡ slot_of other → one ≡ other
+slot-as None None e = refl
+slot-as None (Some None) e = cc
+slot-as None (Some (Some v)) e = cc
+slot-as (Some None) None e = cc
+slot-as (Some None) (Some None) e = refl
+slot-as (Some None) (Some (Some v)) e = cc
+slot-as (Some (Some u)) None e = cc
+slot-as (Some (Some u)) (Some None) e = cc
+slot-as (Some (Some u)) (Some (Some v)) e = ap Some (ap readable e)
+
+-- worlds that hold the same are the same
+pub held-same : {V : Type 0} (w w' : Slots V) → holding_of w' ≡ holding_of w → w' ≡ w
+held-same w w' e = same_map ids_total exact_ids w' w (λ q. slot-as (get w' q) (get w q) (ap (λ h. h q) e))

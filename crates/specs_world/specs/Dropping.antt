@@ -7,7 +7,7 @@ use Rattle.shred_world.specs.declared.resource_id.ResourceId.{ResourceId}
 use Rattle.shred_world.specs.ResourceIds.{id_of, same_id}
 use Rattle.shred_world.specs.Worlds.{Slots, value_at, is_of_kinds}
 use Rattle.specs_world.specs.Resources.{Place, held}
-use Rattle.specs_entity.specs.Births.{Births, living, all_buried, all_deleted, all_living, merged, indices_of, is_named, CanKill, LivesBut, RefusesKill}
+use Rattle.specs_entity.specs.Births.{Births, living, all_buried, all_deleted, all_living, merged, indices_of, is_named, CanKill, Continues, LivesBut, RefusesKill}
 use Rattle.specs_entity.specs.declared.ids.Entity.{Entity}
 use Rattle.specs_entity.specs.declared.errors.Error.{Error}
 use Rattle.specs_entity.specs.declared.errors.Error.TheVariants as variant
@@ -64,6 +64,7 @@ pub record DeletesIn {V : Type 0} (births_at : Place V Births) (table_at : Place
   pub registered : held table_at before ≡ Some kinds
   pub killable : CanKill (living births) entities
   pub lives : LivesBut (is_named entities) births (all_buried births (indices_of entities))
+  pub continues : Continues births (all_buried births (indices_of entities))
   pub deletes : Deletes births_at table_at.id drops (all_buried births (indices_of entities)) kinds entities before after
 
 -- all entities of a world that live died so, ascending by index
@@ -77,8 +78,10 @@ pub record MergesIn {V : Type 0} (births_at : Place V Births) (table_at : Place 
   pub alive_in : held births_at before ≡ Some births
   pub registered : held table_at before ≡ Some kinds
   pub dead : deleted ≡ all_deleted births
+  pub named : (index : ℕ) → is_named deleted index ≡ set.contains births.deletions index
   pub lives : LivesBut (set.contains births.deletions) births (merged births)
   pub done : (merged births).deletions ≡ set.empty
+  pub continues : Continues births (merged births)
   pub deletes : Deletes births_at table_at.id drops (merged births) kinds deleted before after
 
 -- what the death of entities is refused for: the first isn't alive or is named before, or there was no memory
@@ -117,4 +120,5 @@ pub record Kills {V : Type 0} (table_at : Place V (List ℕ)) (drops : V → Lis
   pub killable : CanKill (living births) entities
   pub buried : births_after ≡ all_buried births (indices_of entities)
   pub lives : LivesBut (is_named entities) births births_after
+  pub continues : Continues births births_after
   pub dropped : DropsComponents table_at drops entities before after

@@ -4,9 +4,9 @@ use Rattle.std.specs.Option.{MatchOption}
 use Rattle.std.specs.FinMap as map
 use Rattle.shred_world.specs.declared.resource_id.ResourceId.{ResourceId}
 use Rattle.shred_world.specs.ResourceIds.{id_of}
-use Rattle.shred_world.specs.Bundles.{DefaultsTo}
+use Rattle.shred_world.specs.Bundles.{DefaultsTo, holding_of, out, with_slot}
 use Rattle.shred_world.specs.Worlds.{Slots, resource_at, with_kind}
-use Rattle.specs_entity.specs.Births.{Births, AreNew, BringsToLife, IsAlive, IsBorn, LivesOn, RefusesBirth, RefusesBirths, all_allocated, allocated, deleted, newborn, newborns, persistent_at}
+use Rattle.specs_entity.specs.Births.{Births, AreNew, BringsToLife, Continues, IsAlive, IsBorn, LivesOn, RefusesBirth, RefusesBirths, all_allocated, allocated, deleted, newborn, newborns, persistent_at}
 use Rattle.specs_entity.specs.declared.errors.Error.{Error}
 use Rattle.specs_entity.specs.declared.errors.Error.TheVariants as variant
 use Rattle.specs_entity.specs.declared.ids.Entity.{Entity}
@@ -30,6 +30,10 @@ held at w = resource_at at.part w at.id
 -- the resource at the place is another after, by the relation, and no other id's slot changed
 abbrev pub Becomes : {V R : Type 0} → Place V R → (R → R → Type 0) → Slots V → Slots V → Type 0
 Becomes {R = R} at change before after = (was now : R) × (held at before ≡ Some was) × change was now × (after ≡ map.insert before at.id (Some (at.wrapped now)))
+
+-- what stood at an id was taken out: the slot is there without it, and each other id's slot is as it was
+abbrev pub IsTakenOut : {V : Type 0} → ResourceId → Slots V → Slots V → Type 0
+IsTakenOut id before after = holding_of after ≡ with_slot (holding_of before) id out
 
 -- a storage that was made anew: its layout is a default, and no index has a part
 pub record IsNew {S T : Type 0} (is_default : S → Type 0) (part_at : S → ℕ → Option T) (storage : Masked S) : Type 0 where
@@ -81,6 +85,7 @@ pub record IsBirth (entity : Entity) (was now : Births) : Type 0 where
   pub unborn : ¬ (IsBorn was entity)
   pub lives : BringsToLife was entity now
   pub live_on : LivesOn was now
+  pub continues : Continues was now
 
 -- the next entity came to life
 abbrev pub Allocates : {V : Type 0} → Place V Births → Entity → Slots V → Slots V → Type 0
@@ -92,6 +97,7 @@ pub record AreBirths (count : ℕ) (entities : List Entity) (was now : Births) :
   pub value : entities ≡ newborns count was
   pub new : AreNew was entities now
   pub live_on : LivesOn was now
+  pub continues : Continues was now
 
 -- the next so many entities came to life
 abbrev pub AllocatesAll : {V : Type 0} → Place V Births → ℕ → List Entity → Slots V → Slots V → Type 0

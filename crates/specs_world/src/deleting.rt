@@ -1,5 +1,5 @@
 //! Entities of a world that die with their parts.
-ghost use Rattle.std.specs.Prelude.{◌≡◌, ◌↔◌, None, Some, ◌⊎◌, IsOk, OnOk, OnErr, IfOk, IfErr, IsErrOf, false, true};
+ghost use Rattle.std.specs.Prelude.{ℕ, ◌≡◌, ◌↔◌, None, Some, ◌⊎◌, IsOk, OnOk, OnErr, IfOk, IfErr, IsErrOf, false, true};
 ghost use Rattle.std.specs.Option.{OnSome, MatchOption};
 ghost use Rattle.std.specs.FinMap as map;
 ghost use Rattle.std.specs.FinSet as set;
@@ -121,8 +121,11 @@ fn merge_with_parts<V: AnyStorage>(
     requires once { AreDistinct kinds.now }
     ensures births { OnOk result (births.new ≡ merged births.old) }
     ensures dead { IfOk result (λ deleted. deleted.items ≡ all_deleted births.old) }
+    ensures named { IfOk result (λ deleted. (index : ℕ) → is_named deleted.items index
+        ≡ set.contains births.old.deletions index) }
     ensures lives { OnOk result (LivesBut (set.contains births.old.deletions) births.old births.new) }
     ensures done { OnOk result (births.new.deletions ≡ set.empty) }
+    ensures continues { OnOk result (Continues births.old births.new) }
     ensures parts { IfOk result (λ deleted. DropsIn V.drops kinds.now (ids_of deleted.items) world.old world.new) }
     ensures same { OnErr result (births.new ≡ births.old) }
     ensures rests { OnErr result (Rests V.drops world.old world.new) }
@@ -143,8 +146,11 @@ where
     MetaTable: Resource<V>,
     ensures births { OnOk result (births.new ≡ merged births.old) }
     ensures dead { IfOk result (λ deleted. deleted.items ≡ all_deleted births.old) }
+    ensures named { IfOk result (λ deleted. (index : ℕ) → is_named deleted.items index
+        ≡ set.contains births.old.deletions index) }
     ensures lives { OnOk result (LivesBut (set.contains births.old.deletions) births.old births.new) }
     ensures done { OnOk result (births.new.deletions ≡ set.empty) }
+    ensures continues { OnOk result (Continues births.old births.new) }
     ensures parts { IfOk result (λ deleted. DropsComponents
         ⟦<MetaTable as Held<V>>⟧.stands_at
         V.drops deleted.items world.old world.new) }

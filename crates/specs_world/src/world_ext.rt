@@ -8,17 +8,18 @@ ghost use Rattle.specs_entity.specs.Births.{IsAlive, Births, allocated, deleted,
 ghost use Rattle.specs_entity.specs.declared.errors.Error.TheVariants as refusal;
 ghost use Rattle.specs_layouts.specs.Parts.{HasNone};
 ghost use Rattle.specs_world.specs.Resources.{Allocates, AllocatesAll, Place, place, held, Becomes, IsNew, Registers, IsPersistent};
-ghost use Rattle.specs_world.specs.Resources.{RefusesBirthIn, RefusesBirthsIn, DeletesLater};
+ghost use Rattle.specs_world.specs.Resources.{RefusesBirthIn, RefusesBirthsIn, DeletesLater, IsTakenOut};
 ghost use Rattle.specs_world.specs.Dropping.{Rests, DeletesIn, DeletesAll, MergesIn, DropsComponents, RefusesDeletion, RefusesMerge};
 ghost use Rattle.specs_world.specs.Inserting.{PutsPart, KeepsStorage, RefusesPart, AcceptsPart};
 
 use crate::builder::EntityBuilder;
+use crate::bundles::WriteStorage;
 use crate::deleting::{drop_registered, kill_living, kill_registered, merge_registered};
 use crate::held::Held;
 use crate::inserting::{put_part, test_alive};
 use crate::registering::{enter_there, put_and_enter, register_default};
 use crate::taking::{put_in, take_out};
-use shred_world::{MetaTable, Resource, World};
+use shred_world::{MetaTable, Resource, SystemData, World};
 use specs_entity::{CreateIter, EntitiesRes, Entity, Error};
 use specs_layouts::{AnyStorage, Component, MaskedStorage, TryDefault, UnprotectedStorage};
 use specs_storage::ReadStorage as LentStorage;
@@ -219,6 +220,63 @@ where
         ensures not_registered { OnErr result ((held entities_at (slots self.now) ≡ None)
             ⊎ (held ⟦<MaskedStorage<T> as Held<V>>⟧.stands_at (slots self.now) ≡ None)) };
 
+    /// The same as `read_storage`.
+    ///
+    /// Errors: those of `read_storage`.
+    final fn read_component<'w, T: Component + 'w>(&'w self) -> Result<LentStorage<'w, T>, Error>
+    where
+        MaskedStorage<T>: Resource<V>,
+        T::Storage: 'w,
+        ensures entities { IfOk result (λ storage. held entities_at (slots self.now) ≡ Some storage.entities.now) }
+        ensures parts { IfOk result (λ storage. held ⟦<MaskedStorage<T> as Held<V>>⟧.stands_at (slots self.now)
+            ≡ Some storage.store.now) }
+        ensures named { IfErr result (λ error. error ≡ refusal.NotRegistered) }
+        ensures not_registered { OnErr result ((held entities_at (slots self.now) ≡ None)
+            ⊎ (held ⟦<MaskedStorage<T> as Held<V>>⟧.stands_at (slots self.now) ≡ None)) }
+    {
+        self.read_storage::<T>()
+    }
+
+    /// The parts of one kind, taken out of the world for writing: `SystemData::give_back` puts them in again. Until then the slot
+    /// is there without them. Takes no memory.
+    ///
+    /// Errors: `NotRegistered`, exactly where the world has no storage of the kind, and the world is as it was.
+    fn write_storage<T: Component>(&mut self) -> Result<WriteStorage<T>, Error>
+    where
+        MaskedStorage<T>: Resource<V>,
+        ensures parts { IfOk result (λ bundle. held ⟦<MaskedStorage<T> as Held<V>>⟧.stands_at (slots self.old)
+            ≡ Some bundle.0.value) }
+        ensures out { OnOk result (IsTakenOut ⟦<MaskedStorage<T> as Held<V>>⟧.stands_at.id
+            (slots self.old) (slots self.new)) }
+        ensures named { IfErr result (λ error. error ≡ refusal.NotRegistered) }
+        ensures not_registered { OnErr result (held ⟦<MaskedStorage<T> as Held<V>>⟧.stands_at (slots self.old) ≡ None) }
+        ensures err { OnErr result (slots self.new ≡ slots self.old) };
+
+    /// The same as `write_storage`.
+    ///
+    /// Errors: those of `write_storage`.
+    final fn write_component<T: Component>(&mut self) -> Result<WriteStorage<T>, Error>
+    where
+        MaskedStorage<T>: Resource<V>,
+        ensures parts { IfOk result (λ bundle. held ⟦<MaskedStorage<T> as Held<V>>⟧.stands_at (slots self.old)
+            ≡ Some bundle.0.value) }
+        ensures out { OnOk result (IsTakenOut ⟦<MaskedStorage<T> as Held<V>>⟧.stands_at.id
+            (slots self.old) (slots self.new)) }
+        ensures named { IfErr result (λ error. error ≡ refusal.NotRegistered) }
+        ensures not_registered { OnErr result (held ⟦<MaskedStorage<T> as Held<V>>⟧.stands_at (slots self.old) ≡ None) }
+        ensures err { OnErr result (slots self.new ≡ slots self.old) }
+    {
+        self.write_storage::<T>()
+    }
+
+    /// The resource under its type's id.
+    ///
+    /// Errors: `NotRegistered`, exactly where the world has none.
+    fn read_resource<R: Resource<V>>(&self) -> Result<&R, Error>
+        ensures ok { IfOk result (λ resource. held ⟦<R as Held<V>>⟧.stands_at (slots self.now) ≡ Some resource.now) }
+        ensures named { IfErr result (λ error. error ≡ refusal.NotRegistered) }
+        ensures not_registered { OnErr result (held ⟦<R as Held<V>>⟧.stands_at (slots self.now) ≡ None) };
+
     /// Drops the parts at the indices of entities from each registered storage, whether they are alive or not.
     ///
     /// Errors: `NotRegistered`, where the world has no table of kinds; `Memory`. Both leave all parts as they were; storages may have more room.
@@ -393,6 +451,23 @@ where
         };
         match self.try_fetch::<MaskedStorage<T>>() {
             Some(parts) => Ok(LentStorage::new(entities, parts)),
+            None => Err(Error::NotRegistered),
+        }
+    }
+
+    fn write_storage<T: Component>(&mut self) -> Result<WriteStorage<T>, Error>
+    where
+        MaskedStorage<T>: Resource<V>,
+    {
+        match <WriteStorage<T> as SystemData<V>>::fetch(self) {
+            Ok(bundle) => Ok(bundle),
+            Err(_) => Err(Error::NotRegistered),
+        }
+    }
+
+    fn read_resource<R: Resource<V>>(&self) -> Result<&R, Error> {
+        match self.try_fetch::<R>() {
+            Some(resource) => Ok(resource),
             None => Err(Error::NotRegistered),
         }
     }

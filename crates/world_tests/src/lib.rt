@@ -10,11 +10,12 @@ use stories::{STORIES, holds};
 
 #[test]
 fn stories_are_as_they_should_be(rt: HostRuntime) {
+    // The last story that isn't as it should be, and whether it was refused.
     let mut wrong = None;
     for story in STORIES {
         match holds(rt.alloc(), story) {
             Ok(true) => {}
-            _ => wrong = Some(story),
+            outcome => wrong = Some((story, outcome.is_err())),
         }
     }
     assert_eq!(rt; wrong, None);

@@ -1,8 +1,9 @@
 //! What callers of a world of entities come to: each story makes its calls, and answers whether all was as it should be.
 use crate::values::{Health, Speed, Value};
-use shred_world::World;
-use specs_entity::{Entity, Error};
+use shred_world::{SystemData, World};
+use specs_entity::{EntitiesRes, Entity, Error};
 use specs_layouts::MaskedStorage;
+use specs_storage::Storage;
 use specs_world::{WorldExt, WriteStorage};
 use std::alloc::Global;
 
@@ -25,10 +26,16 @@ pub enum Story {
     AllDeleted,
     /// Parts are dropped by index, and the entity lives on.
     PartsDropped,
+    /// A kind that is registered again keeps its parts.
+    RegisteredTwice,
+    /// Entities in a row are alive at once, each with its own index, also at one that was used before.
+    MadeInARow,
+    /// A storage that is taken out for writing is wanting until it is given back, and then has what was written.
+    TakenOut,
 }
 
 /// Every story.
-pub const STORIES: [Story; 8] = [
+pub const STORIES: [Story; 11] = [
     Story::BuiltWithParts,
     Story::RegisteredLate,
     Story::StaleEntity,
@@ -37,6 +44,9 @@ pub const STORIES: [Story; 8] = [
     Story::Unregistered,
     Story::AllDeleted,
     Story::PartsDropped,
+    Story::RegisteredTwice,
+    Story::MadeInARow,
+    Story::TakenOut,
 ];
 
 /// Whether a story is as it should be.
@@ -50,6 +60,9 @@ pub fn holds(alloc: Global, story: Story) -> Result<bool, Error> {
         Story::Unregistered => unregistered(alloc),
         Story::AllDeleted => all_deleted(alloc),
         Story::PartsDropped => parts_dropped(alloc),
+        Story::RegisteredTwice => registered_twice(alloc),
+        Story::MadeInARow => made_in_a_row(alloc),
+        Story::TakenOut => taken_out(alloc),
     }
 }
 
@@ -186,4 +199,54 @@ fn parts_dropped(alloc: Global) -> Result<bool, Error> {
             && health_at(&world, first).is_none()
             && health_at(&world, second) == Some(Health(2)),
     )
+}
+
+fn registered_twice(alloc: Global) -> Result<bool, Error> {
+    let mut world = world_with_healths(alloc)?;
+    let entity = with_health(&mut world, 10)?;
+    world.register::<Health>()?;
+    Ok(health_at(&world, entity) == Some(Health(10)))
+}
+
+fn made_in_a_row(alloc: Global) -> Result<bool, Error> {
+    let mut world = world_with_healths(alloc)?;
+    let stale = with_health(&mut world, 1)?;
+    world.delete_entity(stale)?;
+    let mut ids = Vec::new(alloc);
+    let mut lives = true;
+    for entity in world.create_iter(3)? {
+        lives = lives && world.is_alive(entity);
+        if ids.push(entity.id()).is_err() {
+            return Err(Error::Memory);
+        }
+    }
+    Ok(lives && ids.as_slice() == [0, 1, 2].as_slice() && !world.is_alive(stale))
+}
+
+/// Puts a health into a storage that was taken out.
+fn put_outside(
+    entities: &EntitiesRes,
+    bundle: &mut WriteStorage<Health>,
+    entity: Entity,
+) -> Result<(), Error> {
+    match Storage::new(entities, &mut bundle.0.value).insert(entity, Health(9)) {
+        Ok(_) => Ok(()),
+        Err((error, _)) => Err(error),
+    }
+}
+
+fn taken_out(alloc: Global) -> Result<bool, Error> {
+    let mut world = world_with_healths(alloc)?;
+    let entity = with_health(&mut world, 7)?;
+    let mut bundle = world.write_storage::<Health>()?;
+    let wanting = matches!(world.read_component::<Health>(), Err(Error::NotRegistered));
+    let put = match world.read_resource::<EntitiesRes>() {
+        Ok(entities) => put_outside(entities, &mut bundle, entity),
+        Err(error) => Err(error),
+    };
+    SystemData::give_back(bundle, &mut world);
+    put?;
+    let again = world.write_component::<Health>()?;
+    SystemData::give_back(again, &mut world);
+    Ok(wanting && health_at(&world, entity) == Some(Health(9)))
 }

@@ -21,17 +21,19 @@ returns-clause-ok g c =
     let id = id_of g.bound-2.kind_number 0 in
     let there : resource_at g.bound-2.part c.args.world.now id ≡ Some c.in-Some.table = sym c.take_out.ensures.value ∙ c.in-Some.is in
     on_ok_all c.kill_with_parts-result.result
-    (λ buried killable lives dropped.
+    (λ buried killable lives continues dropped.
     record {
       killable = killable;
       buried = buried;
       lives = lives;
+      continues = continues;
       dropped =
           drops-around g.V.AnyStorage.drops c.args.world.now c.take_out.new.world c.kill_with_parts-result.new.world c.put_in.new.world id (g.bound-2.wrapped c.in-Some.table)
           c.in-Some.ensures.out c.put_in.ensures g.bound-2.part g.bound-2.wrapped g.bound-2-met.only_wrapped c.args.entities.now c.in-Some.table there refl
           (subst (λ kinds. DropsIn g.V.AnyStorage.drops kinds (ids_of c.args.entities.now) c.take_out.new.world c.kill_with_parts-result.new.world) c.iter_mut.ensures.kinds dropped);
     })
-    c.kill_with_parts-result.ensures.births c.kill_with_parts-result.ensures.killable c.kill_with_parts-result.ensures.lives c.kill_with_parts-result.ensures.parts
+    c.kill_with_parts-result.ensures.births c.kill_with_parts-result.ensures.killable c.kill_with_parts-result.ensures.lives c.kill_with_parts-result.ensures.continues
+    c.kill_with_parts-result.ensures.parts
 
 pub returns-clause-rests : goal.returns-clause-rests
 returns-clause-rests g c =

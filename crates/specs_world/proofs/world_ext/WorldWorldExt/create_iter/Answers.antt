@@ -7,7 +7,7 @@ pub returns-in-Ok-clause-ok : goal.returns-in-Ok-clause-ok
 returns-in-Ok-clause-ok g c =
     lent-becomes g.bound-2.part g.bound-2.wrapped c.args.self.now _ (id_of g.bound-2.kind_number 0) c.get_mut.result c.in-Some.entities c.allocate_iter.new.self c.in-Some.is c.get_mut.ensures.value
     (c.get_mut.follows.holds c.allocate_iter.new.self) (AreBirths c.args.count c.in-Ok.entities)
-    (record { births = c.in-Ok.ensures.ok; value = c.in-Ok.ensures.value; new = c.in-Ok.ensures.new; live_on = c.in-Ok.ensures.live_on })
+    (record { births = c.in-Ok.ensures.ok; value = c.in-Ok.ensures.value; new = c.in-Ok.ensures.new; live_on = c.in-Ok.ensures.live_on; continues = c.in-Ok.ensures.continues })
 
 pub returns-in-Err-clause-err : goal.returns-in-Err-clause-err
 returns-in-Err-clause-err g c =

@@ -21,11 +21,11 @@ returns-clause-ok g c =
     let id = id_of g.bound-2.kind_number 0 in
     let there : resource_at g.bound-2.part c.args.self.now id ≡ Some c.in-Some.births = sym c.take_out.ensures.value ∙ c.in-Some.is in
     if_ok_all c.merge_registered-result.result
-    (λ deleted merges dead lives done dropped.
+    (λ deleted merges dead named lives done continues dropped.
     merges-around g.V.AnyStorage.drops c.args.self.now c.take_out.new.world c.merge_registered-result.new.world c.put_in.new.world id (g.bound-2.wrapped c.merge_registered-result.new.births)
     c.in-Some.ensures.out c.put_in.ensures g.bound-2.part g.bound-2.wrapped (place g.bound-3.part g.bound-3.wrapped g.bound-3.kind_number) deleted.items c.in-Some.births
-    c.merge_registered-result.new.births there refl merges dead lives done dropped)
-    c.merge_registered-result.ensures.births c.merge_registered-result.ensures.dead c.merge_registered-result.ensures.lives c.merge_registered-result.ensures.done
+    c.merge_registered-result.new.births there refl merges dead named lives done continues dropped)
+    c.merge_registered-result.ensures.births c.merge_registered-result.ensures.dead c.merge_registered-result.ensures.named c.merge_registered-result.ensures.lives c.merge_registered-result.ensures.done c.merge_registered-result.ensures.continues
     c.merge_registered-result.ensures.parts
 
 pub returns-clause-rests : goal.returns-clause-rests

@@ -1,0 +1,2 @@
+pub mod GivingLemmas
+pub mod ValueLemmas

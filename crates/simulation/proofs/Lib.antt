@@ -1,0 +1,5 @@
+pub mod ValueLemmas
+pub mod ReapingLemmas
+pub mod FrameLemmas
+pub mod MergeLemmas
+pub mod SetupLemmas

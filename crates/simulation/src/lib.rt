@@ -1,0 +1,11 @@
+//! A simulation as a user of worlds, storages and dispatchers writes it: entities move, and those that have come far enough die.
+#![tactic(auto)]
+
+pub mod frames;
+pub mod movement;
+pub mod reaping;
+pub mod setup;
+pub mod steps;
+#[cfg(test)]
+mod tests;
+pub mod values;

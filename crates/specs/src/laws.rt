@@ -1,0 +1,32 @@
+//! Laws of entities over every list of calls. The functions have no code; each contract is the law.
+ghost use Rattle.std.specs.Prelude.{◌≡◌, List};
+ghost use Rattle.specs_entity.specs.Births.{Births, Continues, IsAlive, IsBorn, IsDead};
+ghost use Rattle.specs.specs.Histories.{ContinuesAlong, last_of};
+
+use specs_entity::Entity;
+
+/// Over every list of calls no birth is lost, and who lives at the end lived at the beginning or was born since.
+pub fn calls_continue()
+    ensures { (first : Births) (later : List Births) → ContinuesAlong first later
+        → Continues first (last_of first later) }
+{}
+
+/// An entity that died doesn't live again, whatever is called after its death.
+pub fn the_dead_stay_dead(entity: Entity)
+    ensures { (first : Births) (later : List Births) → ContinuesAlong first later → IsDead first entity
+        → IsDead (last_of first later) entity }
+{}
+
+/// An entity that was born isn't given again: whatever is called after its birth, each entity that comes to life then wasn't
+/// born before, and this one was.
+pub fn an_entity_is_given_once(entity: Entity)
+    ensures { (first : Births) (later : List Births) → ContinuesAlong first later → IsBorn first entity
+        → IsBorn (last_of first later) entity }
+{}
+
+/// A stale entity, one whose index has been given again, is dead, and reaches nothing.
+pub fn the_stale_are_dead(stale: Entity, newer: Entity)
+    ensures { (first : Births) (later : List Births) → ContinuesAlong first later → IsBorn first stale
+        → stale.id ≡ newer.id → (stale ≡ newer → ⊥) → IsAlive (last_of first later) newer
+        → IsDead (last_of first later) stale }
+{}

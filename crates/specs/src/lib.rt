@@ -1,0 +1,66 @@
+//! Entities, their parts, and worlds of them: what users of Specs look for, in one place.
+//!
+//! The names that most programs want stand here, and again in `prelude`; storages that are lent by hand, restricted storages and
+//! entries in `storage`, joins in `join`, markers and saving in `saveload`.
+#![tactic(auto)]
+
+pub mod laws;
+pub mod prelude;
+
+pub use hibitset::{BitSet, BitSetLike, Index};
+pub use shred::{
+    Accessor, AsyncDispatcher, BatchAccessor, BatchController, Dispatcher, DispatcherBuilder,
+    MetaTable, Read, ReadExpect, Resource, ResourceId, RunNow, RunningTime, Stop, System,
+    SystemData, World, Write, WriteExpect,
+};
+pub use specs_changes::{ChangeSet, store_all};
+pub use specs_entity::{
+    CreateIter, Entities, EntitiesRes, Entity, EntityResBuilder, Error, Generation, WrongGeneration,
+};
+pub use specs_events::{EventChannel, ReaderId};
+pub use specs_flagged::FlaggedStorage;
+pub use specs_join::{Join, JoinCursor, JoinIter, ParJoin, change_each};
+pub use specs_layouts::{
+    AnyStorage, BTreeStorage, Component, ComponentEvent, DefaultVecStorage, DenseVecStorage,
+    HashMapStorage, MaskedStorage, NullStorage, Tracked, VecStorage,
+};
+pub use specs_lazy::{
+    Insert, InsertAll, Job, LazyBuilder, LazyUpdate, LazyWorld, Maintained, Remove, SharedLazy,
+};
+pub use specs_storage::Storage;
+pub use specs_world::{EntityBuilder, ReadStorage, WorldExt, WriteStorage};
+
+/// Storages and what is lent of them.
+pub mod storage {
+    pub use specs_layouts::{
+        DistinctStorage, MaskedStorage, SliceAccess, Tracked, TryDefault, UnprotectedStorage,
+    };
+    pub use specs_storage::{
+        BuildWith, Drain, Entries, EntryCursor, EntryError, GenericReadStorage,
+        GenericWriteStorage, ImmutableAliasing, ImmutableParallelRestriction, InsertResult,
+        LendError, MutableParallelRestriction, OccupiedEntry, PairCursor, PairedStorage,
+        PairedStorageMut, Place, ReadStorage, Restrict, RestrictMut, RestrictedStorage,
+        RestrictedStorageMut, SequentialRestriction, Storage, StorageEntry, VacantEntry,
+        WriteStorage, entry_at,
+    };
+}
+
+/// Joins, and changes beside them.
+pub mod join {
+    pub use specs_join::{
+        AntiStorage, BitAnd, Change, EachError, Join, JoinCursor, JoinIter, JoinParIter, MaybeJoin,
+        ParJoin, change_each,
+    };
+}
+
+/// Markers, and entities that are saved and loaded.
+pub mod saveload {
+    pub use specs_forms::{EntityData, FormError, JsonForm};
+    pub use specs_markers::{
+        Marker, MarkerAllocator, SimpleMarker, SimpleMarkerAllocator, UuidMarker,
+        UuidMarkerAllocator,
+    };
+    pub use specs_saving::{
+        ConvertSaveload, DeserializeComponents, Marks, Names, SavedMarker, SerializeComponents,
+    };
+}

@@ -1,0 +1,4 @@
+pub mod CallerLemmas
+pub mod JobLemmas
+pub mod QueueLemmas
+pub mod RunLemmas

@@ -1,0 +1,4 @@
+pub mod Building
+pub mod Jobs
+pub mod Maintaining
+pub mod Queues
