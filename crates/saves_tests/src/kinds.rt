@@ -4,8 +4,8 @@ ghost use Rattle.std.specs.Prelude.{◌≡◌};
 use specs_entity::{EntitiesRes, Entity, Error};
 use specs_layouts::{Component, DenseVecStorage, MaskedStorage, VecStorage};
 use specs_markers::MarkerAllocator;
-use specs_saving::{ConvertSaveload, Names, SavedMarker};
-use std::alloc::Global;
+use specs_saving::{ConvertSaveload, Names, SavedMarker, plain_from, plain_into};
+use std::alloc::{AllocError, Global};
 
 /// Whose an entity is.
 #[derive(Drop)]
@@ -38,6 +38,11 @@ impl<M: SavedMarker> ConvertSaveload<M> for Owner {
     ghost plain = { λ names owner. names owner.0 };
 
     ghost loaded = { λ bearers marker. option_map (λ entity. record { 0 = entity }) (bearers marker) };
+
+    fn references(&self, list: &mut Vec<Entity>) -> Result<(), AllocError> {
+        list.push(self.0)?;
+        Ok(())
+    }
 
     fn convert_into<N: Names<M>>(&self, alloc: Global, names: &N) -> Result<M, Error> {
         self.0.convert_into(alloc, names)
@@ -80,8 +85,12 @@ impl<M: SavedMarker> ConvertSaveload<M> for Health {
 
     ghost loaded = { λ bearers number. Some (record { 0 = number }) };
 
+    fn references(&self, _list: &mut Vec<Entity>) -> Result<(), AllocError> {
+        Ok(())
+    }
+
     fn convert_into<N: Names<M>>(&self, _alloc: Global, _names: &N) -> Result<i64, Error> {
-        Ok(self.0)
+        plain_into(&self.0)
     }
 
     fn convert_from<A: MarkerAllocator<M>>(
@@ -91,7 +100,8 @@ impl<M: SavedMarker> ConvertSaveload<M> for Health {
         _markers: &mut MaskedStorage<M>,
         _allocator: &mut A,
     ) -> Result<Health, Error> {
-        Ok(Health(saved))
+        let number = plain_from(saved)?;
+        Ok(Health(number))
     }
 
     ghost named = { λ names health. none-named names health.0 };

@@ -6,7 +6,8 @@ use specs_entity::{EntitiesRes, Entity, Error};
 use specs_forms::{EntityData, FormError, JsonForm, PartForms};
 use specs_layouts::{DenseVecStorage, MaskedStorage, TryDefault, VecStorage};
 use specs_markers::{MarkerAllocator, SimpleMarker, SimpleMarkerAllocator};
-use specs_saving::{DeserializeComponents, SerializeComponents};
+use specs_saving::laws::{an_unmarked_refusal_names_one, one_entity_is_saved_as_in_the_whole};
+use specs_saving::{DeserializeComponents, MarkedBuilder, SerializeComponents};
 use std::alloc::{AllocError, Global};
 
 /// The kind of the markers.
@@ -120,6 +121,71 @@ const ROWS: [Row; 7] = [
         again: Some(
             "[{\"components\":[2,null],\"marker\":0},{\"components\":[null,null],\"marker\":2},{\"components\":[null,null],\"marker\":1}]",
         ),
+    },
+];
+
+/// A world, and what is saved of its owners with all that they name. None where that is `Unmarked`.
+struct ReachRow {
+    name: &'static str,
+    steps: &'static [Step],
+    saved: Option<&'static str>,
+    marked: usize,
+}
+
+const REACHED: [ReachRow; 4] = [
+    ReachRow {
+        name: "an unmarked owner is marked and saved",
+        steps: &[Create, Create, Mark(0), Own(0, 1)],
+        saved: Some("[{\"components\":[1],\"marker\":0},{\"components\":[null],\"marker\":1}]"),
+        marked: 2,
+    },
+    ReachRow {
+        name: "wave after wave, and not by index",
+        steps: &[
+            Create,
+            Create,
+            Create,
+            Create,
+            Mark(1),
+            Own(1, 3),
+            Own(3, 0),
+            Own(2, 2),
+        ],
+        saved: Some(
+            "[{\"components\":[1],\"marker\":0},{\"components\":[2],\"marker\":1},{\"components\":[null],\"marker\":2}]",
+        ),
+        marked: 3,
+    },
+    ReachRow {
+        name: "first the marked ones",
+        steps: &[
+            Create,
+            Create,
+            Create,
+            Mark(2),
+            Mark(0),
+            Own(0, 1),
+            Own(2, 1),
+            Own(1, 2),
+        ],
+        saved: Some(
+            "[{\"components\":[2],\"marker\":1},{\"components\":[2],\"marker\":0},{\"components\":[0],\"marker\":2}]",
+        ),
+        marked: 3,
+    },
+    ReachRow {
+        name: "a dead owner, after another was marked",
+        steps: &[
+            Create,
+            Create,
+            Create,
+            Mark(0),
+            Own(0, 1),
+            Own(1, 2),
+            Kill(2),
+        ],
+        saved: None,
+        marked: 2,
     },
 ];
 
@@ -332,6 +398,73 @@ fn worlds_are_saved_by_rows(rt: HostRuntime) {
         }
     }
     assert_eq!(rt; wrong, None);
+}
+
+/// How many entities are marked, each of which is saved alone as the whole list has it.
+fn count_marked(alloc: Global, world: &World) -> Result<usize, Error> {
+    let mut count = 0;
+    for entity in world.born.as_slice() {
+        match one_entity_is_saved_as_in_the_whole(
+            &world.parts.1,
+            alloc,
+            *entity,
+            &world.entities,
+            &world.markers,
+        )? {
+            Some(_) => count += 1,
+            None => {}
+        }
+    }
+    Ok(count)
+}
+
+/// Whether a world is saved with all that its owners name as its row says.
+fn reaches(alloc: Global, row: &ReachRow) -> Result<bool, Error> {
+    let mut world = empty(alloc, 100);
+    for step in row.steps {
+        take(&mut world, step)?;
+    }
+    let saved = world.parts.0.serialize_recursive(
+        alloc,
+        &world.entities,
+        &mut world.markers,
+        &mut world.allocator,
+    );
+    Ok(is_text(alloc, saved, row.saved)? && count_marked(alloc, &world)? == row.marked)
+}
+
+#[test]
+fn worlds_are_saved_with_all_that_is_named(rt: HostRuntime) {
+    let mut wrong = None;
+    for row in &REACHED {
+        if !matches!(reaches(rt.alloc(), row), Ok(true)) {
+            wrong = Some(row.name);
+        }
+    }
+    assert_eq!(rt; wrong, None);
+}
+
+/// Whether an entity in the making is marked, and another gets the next marker.
+fn builds(alloc: Global) -> Result<bool, Error> {
+    let mut world = empty(alloc, 100);
+    let first = match world
+        .entities
+        .build_entity()?
+        .marked(&mut world.markers, &mut world.allocator)
+    {
+        Ok(builder) => builder.build(),
+        Err((error, _)) => return Err(error),
+    };
+    let second = world.entities.create()?;
+    let mark = world
+        .allocator
+        .mark(second, &mut world.markers, &world.entities)?;
+    Ok(first.id() == 0 && world.markers.contains(0) && mark == Some((1, true)))
+}
+
+#[test]
+fn entities_in_the_making_are_marked(rt: HostRuntime) {
+    assert!(rt; matches!(builds(rt.alloc()), Ok(true)));
 }
 
 /// The list of a text.

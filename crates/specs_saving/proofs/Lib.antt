@@ -3,3 +3,4 @@ pub mod KnownLemmas
 pub mod BearerLemmas
 pub mod LoadLemmas
 pub mod ImageLemmas
+pub mod RecursionLemmas

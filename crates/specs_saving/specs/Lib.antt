@@ -6,3 +6,4 @@ pub mod LoadingLemmas
 pub mod Loading
 pub mod Images
 pub mod Builders
+pub mod Reached

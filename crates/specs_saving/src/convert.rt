@@ -1,5 +1,6 @@
 //! What a part is in what is saved.
-ghost use Rattle.std.specs.Prelude.{◌≡◌, ◌⊎◌, ◌↔◌, List, Option, Some, None, IsSome, Ok, IfOk, IfErr, OnOk, IsErrOf};
+ghost use Rattle.std.specs.Prelude.{◌≡◌, ◌++◌, ◌⊎◌, ◌↔◌, List, Option, Some};
+ghost use Rattle.std.specs.Prelude.{None, IsSome, Ok, IfOk, IfErr, OnOk, IsErrOf};
 ghost use Rattle.specs_entity.specs.declared.ids.Entity.{Entity};
 ghost use Rattle.specs_entity.specs.declared.errors.Error.TheVariants as refusal;
 ghost use Rattle.specs_saving.specs.Bearing.{IsAmong};
@@ -11,7 +12,7 @@ use specs_entity::{EntitiesRes, Entity, Error};
 use specs_forms::JsonForm;
 use specs_layouts::{Component, MaskedStorage, UnprotectedStorage};
 use specs_markers::{Marker, MarkerAllocator};
-use std::alloc::Global;
+use std::alloc::{AllocError, Global};
 
 /// A value that is saved as data: where it names an entity, the data has the marker that stands for it.
 ///
@@ -31,6 +32,12 @@ pub trait ConvertSaveload<M: SavedMarker>: Sized {
 
     /// The value of data, under a map from marker to entity; none where a marker has none.
     ghost loaded: { (M → Option Entity) → Self.Data → Option Self };
+
+    /// Puts the entities that the value names behind a list.
+    ///
+    /// Errors: `AllocError`.
+    fn references(&self, list: &mut Vec<Entity>) -> Result<(), AllocError>
+        ensures { OnOk result (list.new.items ≡ list.old.items ++ refers_to self.now) };
 
     /// The data of the value.
     ///
@@ -108,6 +115,11 @@ impl<M: SavedMarker> ConvertSaveload<M> for Entity {
     ghost plain = { λ names entity. names entity };
 
     ghost loaded = { λ bearers marker. bearers marker };
+
+    fn references(&self, list: &mut Vec<Entity>) -> Result<(), AllocError> {
+        list.push(*self)?;
+        Ok(())
+    }
 
     fn convert_into<N: Names<M>>(&self, _alloc: Global, names: &N) -> Result<M, Error> {
         match names.name(*self)? {

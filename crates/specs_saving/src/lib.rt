@@ -7,6 +7,7 @@ pub mod convert;
 pub mod deserialize;
 pub mod laws;
 pub mod names;
+mod recursive;
 pub mod serialize;
 
 pub use bearers::bearer;

@@ -1,19 +1,23 @@
 //! Saving: the marked entities as a list of data.
-ghost use Rattle.std.specs.Prelude.{◌≡◌, ◌⊎◌, ◌↔◌, ℕ, List, Option, Some, None, IsSome, IfOk, IfErr, IfSome, IsErrOf, OnOk};
+ghost use Rattle.std.specs.Prelude.{◌≡◌, ◌++◌, ◌⊎◌, ◌↔◌, ℕ, List, Option};
+ghost use Rattle.std.specs.Prelude.{Some, None, IsSome, IfOk, IfErr, IfSome, IsErrOf, OnOk};
 ghost use Rattle.specs_entity.specs.declared.ids.Entity.{Entity};
 ghost use Rattle.specs_entity.specs.declared.errors.Error.TheVariants as refusal;
 ghost use Rattle.specs_saving.specs.Bearing.{IsAmong};
+ghost use Rattle.specs_saving.specs.Reached.{KeepsMarks, SavesReached};
 ghost use Rattle.specs_saving.specs.Saved.{IsEntryOf, IsSavedNext, NamesNone, entry_of, name_of, saved};
 ghost use Rattle.specs_join.specs.Joins.{living_entity};
 ghost use Rattle.specs_saving.specs.declared.serialize.SaveRefusal.TheVariants as want;
 
 use crate::convert::ConvertSaveload;
 use crate::names::{Marks, Names, SavedMarker};
+use crate::recursive::save_reached;
 use hibitset::{BitSetLike, Index};
 use specs_entity::{EntitiesRes, Entity, Error};
 use specs_forms::{EntityData, PartForms};
 use specs_layouts::{Component, MaskedStorage, UnprotectedStorage};
-use std::alloc::Global;
+use specs_markers::MarkerAllocator;
+use std::alloc::{AllocError, Global};
 
 /// Storages whose parts are saved: one, or a tuple of two to four such, which nest.
 ///
@@ -33,6 +37,12 @@ pub trait SerializeComponents<M: SavedMarker> {
 
     /// The data of parts, under a map from entity to marker; none where they name an entity that has none.
     ghost plain: { (Entity → Option M) → Self.Parts → Option Self.Data };
+
+    /// Puts the entities that the parts at an entity's index name behind a list.
+    ///
+    /// Errors: `AllocError`.
+    fn references(&self, entity: Entity, list: &mut Vec<Entity>) -> Result<(), AllocError>
+        ensures { OnOk result (list.new.items ≡ list.old.items ++ refers_to (parts_at self.now entity.id)) };
 
     /// The data of the parts at an entity's index.
     ///
@@ -100,6 +110,28 @@ pub trait SerializeComponents<M: SavedMarker> {
         }
     }
 
+    /// As `serialize`, but each entity that the parts of a saved one name is marked where it has no marker, and saved
+    /// behind those before it: first the marked ones ascending by index, then, wave after wave, those that were newly
+    /// marked, in the order in which they were asked for.
+    ///
+    /// Errors: `Unmarked` if one that is asked for isn't alive; those of `mark`; `Memory`. The marks that were made
+    /// stay.
+    final fn serialize_recursive<A: MarkerAllocator<M>>(
+        &self,
+        alloc: Global,
+        entities: &EntitiesRes,
+        markers: &mut MaskedStorage<M>,
+        allocator: &mut A,
+    ) -> Result<Vec<EntityData<M, Self::Data>>, Error>
+    where
+        Self: Sized,
+        ensures ok { IfOk result (λ list. SavesReached plain refers_to (parts_at self.now) entities.now
+            (M.Storage.part_at markers.old.inner) (M.Storage.part_at markers.new.inner) list.items) }
+        ensures keeps { KeepsMarks (M.Storage.part_at markers.old.inner) (M.Storage.part_at markers.new.inner) }
+    {
+        save_reached(self, alloc, entities, markers, allocator)
+    }
+
     /// Parts have data just where each entity that they name has a marker.
     ghost named: { (names : Entity → Option M) (parts : Self.Parts)
         → IsSome (plain names parts) ↔ ((entity : Entity) → IsAmong entity (refers_to parts) → IsSome (names entity)) };
@@ -107,7 +139,7 @@ pub trait SerializeComponents<M: SavedMarker> {
 
 /// Why an entity isn't saved.
 #[derive(Clone, Copy)]
-enum SaveRefusal {
+pub(crate) enum SaveRefusal {
     /// A part of it names an entity that has no marker.
     Unmarked,
     /// There was no memory.
@@ -115,7 +147,7 @@ enum SaveRefusal {
 }
 
 /// The entity that lives at an index.
-fn living_at(entities: &EntitiesRes, id: Index) -> Option<Entity>
+pub(crate) fn living_at(entities: &EntitiesRes, id: Index) -> Option<Entity>
     ensures { result ≡ living_entity entities.now id }
 {
     let entity = entities.entity(id);
@@ -151,7 +183,7 @@ fn entry_for<M: SavedMarker, S: SerializeComponents<M>, N: Names<M>>(
 }
 
 /// What is saved of an entity, or none where it isn't alive or has no marker.
-fn entry_at<M: SavedMarker, S: SerializeComponents<M>>(
+pub(crate) fn entry_at<M: SavedMarker, S: SerializeComponents<M>>(
     storages: &S,
     alloc: Global,
     entity: Entity,
@@ -240,6 +272,14 @@ impl<M: SavedMarker, C: Component + ConvertSaveload<M>> SerializeComponents<M>
 
     ghost plain = { λ names. plain_in (C.plain names) };
 
+    fn references(&self, entity: Entity, list: &mut Vec<Entity>) -> Result<(), AllocError> {
+        if self.contains(entity.id()) {
+            self.get(entity.id()).references(list)
+        } else {
+            Ok(())
+        }
+    }
+
     fn serialize_entity<N: Names<M>>(
         &self,
         alloc: Global,
@@ -267,6 +307,10 @@ impl<M: SavedMarker, S: SerializeComponents<M>> SerializeComponents<M> for &S {
     ghost refers_to = { S.refers_to };
 
     ghost plain = { S.plain };
+
+    fn references(&self, entity: Entity, list: &mut Vec<Entity>) -> Result<(), AllocError> {
+        (**self).references(entity, list)
+    }
 
     fn serialize_entity<N: Names<M>>(
         &self,
@@ -296,6 +340,11 @@ impl<M: SavedMarker, A: SerializeComponents<M>, B: SerializeComponents<M>> Seria
     ghost refers_to = { λ parts. A.refers_to parts.0 ++ B.refers_to parts.1 };
 
     ghost plain = { λ names parts. both (A.plain names parts.0) (B.plain names parts.1) };
+
+    fn references(&self, entity: Entity, list: &mut Vec<Entity>) -> Result<(), AllocError> {
+        self.0.references(entity, list)?;
+        self.1.references(entity, list)
+    }
 
     fn serialize_entity<N: Names<M>>(
         &self,
@@ -336,6 +385,12 @@ impl<
     ghost refers_to = { λ parts. A.refers_to parts.0 ++ (B.refers_to parts.1 ++ C.refers_to parts.2) };
 
     ghost plain = { λ names parts. all_three (A.plain names parts.0) (B.plain names parts.1) (C.plain names parts.2) };
+
+    fn references(&self, entity: Entity, list: &mut Vec<Entity>) -> Result<(), AllocError> {
+        self.0.references(entity, list)?;
+        self.1.references(entity, list)?;
+        self.2.references(entity, list)
+    }
 
     fn serialize_entity<N: Names<M>>(
         &self,
@@ -380,6 +435,13 @@ impl<
 
     ghost plain = { λ names parts. both (both (A.plain names parts.0.0) (B.plain names parts.0.1))
         (both (C.plain names parts.1.0) (D.plain names parts.1.1)) };
+
+    fn references(&self, entity: Entity, list: &mut Vec<Entity>) -> Result<(), AllocError> {
+        self.0.references(entity, list)?;
+        self.1.references(entity, list)?;
+        self.2.references(entity, list)?;
+        self.3.references(entity, list)
+    }
 
     fn serialize_entity<N: Names<M>>(
         &self,
