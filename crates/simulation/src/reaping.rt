@@ -20,7 +20,8 @@ pub type Reapable = (WriteExpect<EntitiesRes>, ReadStorage<Position>);
 
 /// Whether an index has a position that is as far as the limit.
 fn has_come_far(positions: &MaskedStorage<Position>, id: Index) -> bool
-    ensures { result ≡ is_far (⟦<<Position as Component>::Storage as UnprotectedStorage<Position>>⟧.part_at positions.now.inner id) }
+    ensures { result ≡ is_far (⟦<<Position as Component>::Storage as UnprotectedStorage<Position>>⟧.part_at
+        positions.now.inner id) }
 {
     positions.contains(id) && positions.get(id).0 >= LIMIT
 }

@@ -40,7 +40,12 @@ impl Resource<Value> for EntitiesRes {
 
     ghost wrapped = { EntitiesValue };
 
-    ghost part = { elim [ EntitiesValue x ↦ Some x | TableValue x ↦ None | PositionValue x ↦ None | VelocityValue x ↦ None ] };
+    ghost part = { elim [
+      | EntitiesValue x ↦ Some x
+      | TableValue x ↦ None
+      | PositionValue x ↦ None
+      | VelocityValue x ↦ None
+    ] };
 
     ghost seen = { λ _. refl };
 
@@ -81,7 +86,12 @@ impl Resource<Value> for MetaTable {
 
     ghost wrapped = { TableValue };
 
-    ghost part = { elim [ EntitiesValue x ↦ None | TableValue x ↦ Some x | PositionValue x ↦ None | VelocityValue x ↦ None ] };
+    ghost part = { elim [
+      | EntitiesValue x ↦ None
+      | TableValue x ↦ Some x
+      | PositionValue x ↦ None
+      | VelocityValue x ↦ None
+    ] };
 
     ghost seen = { λ _. refl };
 
@@ -122,7 +132,12 @@ impl Resource<Value> for MaskedStorage<Position> {
 
     ghost wrapped = { PositionValue };
 
-    ghost part = { elim [ EntitiesValue x ↦ None | TableValue x ↦ None | PositionValue x ↦ Some x | VelocityValue x ↦ None ] };
+    ghost part = { elim [
+      | EntitiesValue x ↦ None
+      | TableValue x ↦ None
+      | PositionValue x ↦ Some x
+      | VelocityValue x ↦ None
+    ] };
 
     ghost seen = { λ _. refl };
 
@@ -163,7 +178,12 @@ impl Resource<Value> for MaskedStorage<Velocity> {
 
     ghost wrapped = { VelocityValue };
 
-    ghost part = { elim [ EntitiesValue x ↦ None | TableValue x ↦ None | PositionValue x ↦ None | VelocityValue x ↦ Some x ] };
+    ghost part = { elim [
+      | EntitiesValue x ↦ None
+      | TableValue x ↦ None
+      | PositionValue x ↦ None
+      | VelocityValue x ↦ Some x
+    ] };
 
     ghost seen = { λ _. refl };
 
@@ -200,11 +220,14 @@ impl Resource<Value> for MaskedStorage<Velocity> {
 }
 
 impl AnyStorage for Value {
-    ghost has_part = { value_has_part ⟦<MaskedStorage<Position> as AnyStorage>⟧.has_part ⟦<MaskedStorage<Velocity> as AnyStorage>⟧.has_part };
+    ghost has_part = { value_has_part ⟦<MaskedStorage<Position> as AnyStorage>⟧.has_part
+        ⟦<MaskedStorage<Velocity> as AnyStorage>⟧.has_part };
 
-    ghost has_room = { value_has_room ⟦<MaskedStorage<Position> as AnyStorage>⟧.has_room ⟦<MaskedStorage<Velocity> as AnyStorage>⟧.has_room };
+    ghost has_room = { value_has_room ⟦<MaskedStorage<Position> as AnyStorage>⟧.has_room
+        ⟦<MaskedStorage<Velocity> as AnyStorage>⟧.has_room };
 
-    ghost drops = { value_drops ⟦<MaskedStorage<Position> as AnyStorage>⟧.drops ⟦<MaskedStorage<Velocity> as AnyStorage>⟧.drops };
+    ghost drops = { value_drops ⟦<MaskedStorage<Position> as AnyStorage>⟧.drops
+        ⟦<MaskedStorage<Velocity> as AnyStorage>⟧.drops };
 
     ghost drops_parts = { value-parts
         ⟦<MaskedStorage<Position> as AnyStorage>⟧.has_part ⟦<MaskedStorage<Velocity> as AnyStorage>⟧.has_part
