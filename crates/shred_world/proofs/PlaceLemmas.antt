@@ -14,12 +14,19 @@ use Rattle.std.proofs.lemmas.Map.Keys.{Less-from_sorted, IsDistinct-from_sorted}
 use Rattle.std.proofs.lemmas.Map.Entries.{length-keys_of, none_past_head}
 use Rattle.shred_world.specs.declared.resource_id.ResourceId.{ResourceId}
 use Rattle.shred_world.specs.ResourceIds.{id_cmp, same_id}
-use Rattle.shred_world.specs.Places.{AreSorted, IsPlaceOf, IsGapFor}
+use Rattle.shred_world.specs.Places.{AreSorted, IsPlaceOf, IsGapFor, IsStartOf}
 use Rattle.shred_world.proofs.IdLemmas.{exact_ids, ids_total, same_id_equiv, same_id-is, same_id-itself}
 
 -- an id is compared the other way round
 flipped : (one other : ResourceId) → id_cmp one other ≡ ordering_reverse (id_cmp other one)
 flipped one other = ids_total.antisymm one other
+
+not_both : Less ≡ Greater → ⊥
+not_both e = cc
+
+-- of two ids one is less at most
+one_is_less : (one other : ResourceId) → id_cmp one other ≡ Less → id_cmp other one ≡ Less → ⊥
+one_is_less one other less more = not_both (sym less ∙ flipped one other ∙ ap ordering_reverse more)
 
 -- an id isn't one that is less
 unlike_lesser : (id other : ResourceId) → id_cmp other id ≡ Less → same_id id other ≡ false
@@ -73,7 +80,27 @@ module _ {X : Type 0} where
   pub lesser_before_gap : (slots : List (ResourceId × X)) (id : ResourceId) (place : ℕ) → IsGapFor slots id place → HasLesserBefore slots id place
   lesser_before_gap slots id place gap j d below = gap.parted.0 j d (omega arith) below
 
-  lesser_later : (slot : ResourceId × X) (slots : List (ResourceId × X)) (id : ResourceId) (place : ℕ) → HasLesserBefore (slot ∷ slots) id (suc place) → HasLesserBefore slots id place
+  -- the place of the id is where its slot and greater ids begin, and so is its gap
+  pub starts_at_place : (slots : List (ResourceId × X)) → AreSorted slots → (id : ResourceId) (place : ℕ) → IsPlaceOf slots id place → IsStartOf slots id place
+  starts_at_place slots sorted id place here = record {
+    in_range = omega (arith, here.in_range);
+    parted = (
+      λ j d low high. lesser_before_place slots sorted id place here j d high,
+      λ j d low high less. elim (cases_lt place j) [
+        | inl below ↦ one_is_less id (get_or slots j d).0 (ap (λ k. id_cmp k (get_or slots j d).0) (sym (here.has d)) ∙ rises slots sorted place j d below high) less
+        | inr above ↦ let same : j ≡ place = omega (arith, low, above) in
+            let itself = subst (λ k. id_cmp k id ≡ Less) (ap (λ i. (get_or slots i d).0) same ∙ here.has d) less in one_is_less id id itself itself
+      ],
+    );
+  }
+
+  pub starts_at_gap : (slots : List (ResourceId × X)) (id : ResourceId) (place : ℕ) → IsGapFor slots id place → IsStartOf slots id place
+  starts_at_gap slots id place gap = record {
+    in_range = gap.in_range;
+    parted = (gap.parted.0, λ j d low high less. not_both (sym less ∙ gap.parted.1 j d low high));
+  }
+
+  pub lesser_later : (slot : ResourceId × X) (slots : List (ResourceId × X)) (id : ResourceId) (place : ℕ) → HasLesserBefore (slot ∷ slots) id (suc place) → HasLesserBefore slots id place
   lesser_later slot slots id place before j d below = before (suc j) d (omega arith)
 
   unlike_head : (slot : ResourceId × X) (slots : List (ResourceId × X)) (id : ResourceId) (place : ℕ) → HasLesserBefore (slot ∷ slots) id (suc place) → same_id id slot.0 ≡ false
@@ -152,7 +179,7 @@ module _ {X : Type 0} where
   all_without P (first ∷ slots) zero all = all.1
   all_without P (first ∷ slots) (suc place) all = (all.0, all_without P slots place all.1)
 
-  all_at : (P : ResourceId → Type 0) (slots : List (ResourceId × X)) → ((j : ℕ) (d : ResourceId × X) → j < length slots → P (get_or slots j d).0) → AllByRecursion P (keys_of slots)
+  pub all_at : (P : ResourceId → Type 0) (slots : List (ResourceId × X)) → ((j : ℕ) (d : ResourceId × X) → j < length slots → P (get_or slots j d).0) → AllByRecursion P (keys_of slots)
   all_at P [] at = tt
   all_at P (slot ∷ slots) at = (at zero slot (omega arith), all_at P slots (λ j d within. at (suc j) d (omega arith)))
 

@@ -1,13 +1,13 @@
 //! A finite map from resource ids to values.
-ghost use Rattle.std.specs.Prelude.{◌≡◌, ◌≢◌, ◌&&◌, OnOk, OnErr, IfOk, IfErr, Some, None, option_copied, is_some, IsSome, IfSome, IfNone, OnSome, unwrap_or, ℕ, MatchOption, min, is_ok};
-ghost use Rattle.std.specs.Option.{option_copied_mut, option_map_or};
+ghost use Rattle.std.specs.Prelude.{◌≡◌, ◌≢◌, ◌&&◌, OnOk, OnErr, IfOk, IfErr, Some, None, option_copied, is_some, IsSome, IfSome, IfNone, OnSome, unwrap_or, ℕ, MatchOption, is_ok};
+ghost use Rattle.std.specs.Option.{option_copied_mut};
 ghost use Rattle.std.specs.Borrow.{sem};
 ghost use Rattle.std.specs.FinMap as map;
 ghost use Rattle.shred_world.specs.Worlds.{value_at, resource_at, resource_or, HasKind, IsThereOr, PutsUnless, IsLeastFrom};
 ghost use Rattle.shred_world.specs.Bundles.{holding_of, DefaultsTo};
 ghost use Rattle.shred_world.specs.Execs.{ChangesTwo, ChangesBy, CallsWithBundle, CallableWithBundle, IsExecError};
 ghost use Rattle.shred_world.specs.ResourceIds.{id_of};
-ghost use Rattle.shred_world.specs.Places.{AreSorted, IsPlaceOf, IsGapFor};
+ghost use Rattle.shred_world.specs.Places.{AreSorted, IsPlaceOf, IsGapFor, IsStartOf, first_valued};
 ghost use Rattle.shred_world.specs.Lending.{LendsSlot, LendsValue, LendsResource, LendsPresent, LendsInserted};
 
 use crate::{Entry, ExecError, Missing, Resource, ResourceId, SystemData};
@@ -405,17 +405,16 @@ impl<V> World<V> {
 
     /// The least dynamic number from `from` on under which the world holds a value of the kind.
     ///
-    /// Walks the whole world.
+    /// One search, and then a step for each slot of that kind from there on whose value is out, up to the first that
+    /// has one.
     pub fn least_id(&self, kind: u32, from: u64) -> Option<u64>
         ensures { IsLeastFrom self.now kind from result }
     {
-        let mut least = None;
-        for (id, slot) in &self.slots {
-            if slot.is_some() && id.kind == kind && from <= id.dynamic {
-                least = Some(less_of(least, id.dynamic));
-            }
-        }
-        least
+        let start = start_of(
+            &self.slots,
+            ResourceId::from_type_id_and_dynamic_id(kind, from),
+        );
+        first_with_value(&self.slots[start..], kind)
     }
 
     /// The place under a resource type's id.
@@ -493,7 +492,12 @@ impl<V> World<V> {
     }
 
     /// Puts the value under `id`, and gives back what stood there.
-    fn insert_raw(&mut self, id: ResourceId, value: V) -> Result<Option<V>, AllocFailed<V>>
+    ///
+    /// A value of any kind may stand there: `insert_by_id` puts a resource under an id of its own kind. Values that hold no resource,
+    /// such as queues whose content can't be lent for writing, are put in so.
+    ///
+    /// Errors: want of memory, where the world has no slot for the id; the value is handed back, and the world is as it was.
+    pub fn insert_raw(&mut self, id: ResourceId, value: V) -> Result<Option<V>, AllocFailed<V>>
         ensures was_there { IfOk result (λ was. was ≡ value_at self.old id) }
         ensures ok { OnOk result (self.new ≡ map.insert self.old id (Some value)) }
         ensures err { OnErr result (self.new ≡ self.old) }
@@ -560,12 +564,28 @@ fn place_of<V>(slots: &[(ResourceId, Option<V>)], id: ResourceId) -> Result<usiz
     slots.binary_search_by_key(&id, |slot| slot.0)
 }
 
-/// The lesser number, where there are two.
-fn less_of(least: Option<u64>, number: u64) -> u64
-    ensures { result ≡ option_map_or (λ x. min x number) least number }
+/// Where the slots of `id` and of greater ids begin.
+fn start_of<V>(slots: &[(ResourceId, Option<V>)], id: ResourceId) -> usize
+    requires sorted { AreSorted slots.now }
+    ensures { IsStartOf slots.now id result }
 {
-    match least {
-        Some(least) => least.min(number),
-        None => number,
+    match place_of(slots, id) {
+        Ok(place) => place,
+        Err(place) => place,
     }
+}
+
+/// The dynamic number of the first slot that has a value, where no slot of another kind stands before it.
+fn first_with_value<V>(slots: &[(ResourceId, Option<V>)], kind: u32) -> Option<u64>
+    ensures { result ≡ first_valued kind slots.now }
+{
+    for (id, slot) in slots {
+        if id.kind != kind {
+            return None;
+        }
+        if slot.is_some() {
+            return Some(id.dynamic);
+        }
+    }
+    None
 }
