@@ -5,9 +5,9 @@ use serde_json::Value;
 use specs_entity::{EntitiesRes, Entity, Error};
 use specs_forms::{EntityData, FormError, JsonForm, PartForms};
 use specs_layouts::{DenseVecStorage, MaskedStorage, TryDefault, VecStorage};
-use specs_markers::{MarkerAllocator, SimpleMarker, SimpleMarkerAllocator};
+use specs_markers::{Marker, MarkerAllocator, SimpleMarker, SimpleMarkerAllocator};
 use specs_saving::laws::{an_unmarked_refusal_names_one, one_entity_is_saved_as_in_the_whole};
-use specs_saving::{DeserializeComponents, MarkedBuilder, SerializeComponents};
+use specs_saving::{DeserializeComponents, MarkedBuilder, Marks, SerializeComponents};
 use std::alloc::{AllocError, Global};
 
 /// The kind of the markers.
@@ -398,6 +398,45 @@ fn worlds_are_saved_by_rows(rt: HostRuntime) {
         }
     }
     assert_eq!(rt; wrong, None);
+}
+
+/// Whether each entry of a list has the data that is saved of its entity's parts alone.
+fn alone_as_in_the_whole(alloc: Global) -> Result<bool, Error> {
+    let mut world = empty(alloc, 100);
+    for step in &[
+        Create,
+        Create,
+        Create,
+        Mark(2),
+        Mark(0),
+        Own(2, 0),
+        Own(0, 2),
+        Heal(0, 7),
+        Heal(1, 8),
+    ] {
+        take(&mut world, step)?;
+    }
+    let list = world
+        .parts
+        .serialize(alloc, &world.entities, &world.markers)?;
+    let names = Marks {
+        entities: &world.entities,
+        markers: &world.markers,
+    };
+    let mut same = list.as_slice().len() == 2;
+    for entry in list.as_slice() {
+        let Some(entity) = world.allocator.retrieve_entity_internal(entry.marker.id()) else {
+            return Ok(false);
+        };
+        let alone = world.parts.serialize_entity(alloc, entity, &names)?;
+        same = same && alone == entry.components;
+    }
+    Ok(same)
+}
+
+#[test]
+fn one_entity_alone_has_the_data_of_its_entry(rt: HostRuntime) {
+    assert!(rt; matches!(alone_as_in_the_whole(rt.alloc()), Ok(true)));
 }
 
 /// How many entities are marked, each of which is saved alone as the whole list has it.

@@ -1,3 +1,4 @@
 pub mod NoteLemmas
 pub mod LastLemmas
 pub mod MarkingLemmas
+pub mod CallerLemmas

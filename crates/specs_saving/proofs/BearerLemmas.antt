@@ -3,7 +3,7 @@ use Rattle.std.proofs.Common.{◌≡◌, ◌≢◌, ◌⊎◌, ◌+◌, ◌<◌,
 use Rattle.std.proofs.lemmas.Bool.{eq-eqb, false≢true}
 use Rattle.std.proofs.lemmas.Bool.Decides.{eqb_tells}
 use Rattle.std.specs.FinSet as set
-use Rattle.specs_entity.specs.Births.{Births, Continues, IsAlive, IsBorn, LivesOn, living, living_of, newborn, number_of, persistent_at}
+use Rattle.specs_entity.specs.Births.{Births, Continues, IsAlive, IsBorn, LivesOn, RefusesBirth, living, living_of, newborn, number_of, persistent_at}
 use Rattle.specs_entity.specs.Life.{Life, LifeAt}
 use Rattle.specs_entity.specs.declared.errors.Error.{Error}
 use Rattle.specs_layouts.specs.Masked.{Masked}
@@ -11,7 +11,7 @@ use Rattle.specs_layouts.specs.MaskedChanges.{PutsIn}
 use Rattle.specs_layouts.specs.MaskedLends.{StorageMembers}
 use Rattle.specs_markers.specs.Marking.{FindsMarked, IsKnown, MakesMarked, RefusesGift, RefusesRetrieval, Retrieves}
 use Rattle.specs_saving.specs.Bearing.{Asks, GoesOn}
-use Rattle.specs_saving.specs.Known.{IsSound, Known, LivesIn, bearer_at}
+use Rattle.specs_saving.specs.Known.{IsSound, Known, LivesIn, RefusesBearers, bearer_at}
 use Rattle.specs_saving.proofs.KnownLemmas.{bearer-known, known-bearer}
 
 -- ---- who was born
@@ -274,3 +274,14 @@ module _ {A S M I : Type 0} (noted : A → I → Option LifeAt) (allocates : A �
           ];
           sound = made-sound made;
         }
+
+-- ---- a marker whose bearer isn't had
+
+module _ {A S M I : Type 0} (noted : A → I → Option LifeAt) (allocates : A → LifeAt → Option I → M → A → Type 0) (id_of : M → I) (s : StorageMembers S M) (refuses : A → Option I → Error → Type 0) where
+  pub unhad : (marker : M) (births births' : Births) (before after : A) (had has : Masked S) (error : Error) → RefusesRetrieval noted allocates id_of s (id_of marker) births births' before after had has refuses error → RefusesBearers refuses id_of births' after (marker ∷ []) error
+  unhad marker births births' before after had has error (inl update) = inr (inr update.why)
+  unhad marker births births' before after had has error (inr (inl creation)) = inl (subst (λ b. RefusesBirth b error) (sym creation.entities) creation.why)
+  unhad marker births births' before after had has error (inr (inr marked)) = elim marked.why [
+    | inl refused ↦ inr (inl (marker, inl refl, subst (λ a. refuses a (Some (id_of marker)) error) (sym refused.1) refused.0))
+    | inr memory ↦ inr (inr memory.0)
+  ]

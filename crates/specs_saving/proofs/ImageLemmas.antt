@@ -266,7 +266,7 @@ walk-rises : (p : ℕ → Bool) → Rises (walk p)
 walk-rises p = rises-of p 16777216 (walk p) (walk-is p)
 
 -- each item of a list is at a lower index than those after it
-abbrev Ascends : {M : Type 0} → List (LifeAt × M) → Type 0
+abbrev pub Ascends : {M : Type 0} → List (LifeAt × M) → Type 0
 Ascends [] = Unit {0}
 Ascends {M} (first ∷ rest) = ((other : LifeAt × M) → IsAmong other rest → first.0.id < other.0.id) × Ascends rest
 
@@ -286,6 +286,10 @@ module _ {M : Type 0} (births : Births) (markers : ℕ → Option M) where
   values-ascend : (indices : List ℕ) → Rises indices → Ascends (values_at (marked_at births markers) indices)
   values-ascend [] rises = tt
   values-ascend (first ∷ rest) rises = ascends-first first rest rises.0 (values-ascend rest rises.1) (marked_at births markers first) refl
+
+  -- those of the list ascend
+  pub list-ascends : Ascends (join_list (marked_at births markers))
+  list-ascends = values-ascend (walk (λ index. is_some (marked_at births markers index))) (walk-rises (λ index. is_some (marked_at births markers index)))
 
   chosen : (life : Option Life) (entity : LifeAt) (marker : M) (mark : Option M) → option_and_then (λ (l : Life). cond (same_birth l entity.generation) mark None) life ≡ Some marker → (life ≡ Some entity.generation) × (mark ≡ Some marker)
   chosen None entity marker mark is = cc

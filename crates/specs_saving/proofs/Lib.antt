@@ -4,3 +4,4 @@ pub mod BearerLemmas
 pub mod LoadLemmas
 pub mod ImageLemmas
 pub mod RecursionLemmas
+pub mod OrderLemmas

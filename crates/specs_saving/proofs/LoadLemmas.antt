@@ -1,9 +1,11 @@
 -- What is known of bearers after one was asked for and then others.
-use Rattle.std.proofs.Common.{◌≡◌, ◌≢◌, ◌+◌, ◌<◌, ℕ, suc, List, [], ◌∷◌, ◌++◌, length, take, Option, Some, inl, inr, refl, sym, subst, ap, ◌∙◌, append-nil, append_assoc, length-append, arith}
+use Rattle.std.proofs.Common.{◌≡◌, ◌≢◌, ◌+◌, ◌<◌, ℕ, suc, List, [], ◌∷◌, ◌++◌, length, take, slice_get, Option, Some, inl, inr, refl, sym, subst, ap, ◌∙◌, append-nil, append_assoc, length-append, arith}
 use Rattle.std.proofs.Math.Seq.{take-append_seam}
 use Rattle.specs_forms.specs.declared.entity_data.EntityData.{EntityData}
-use Rattle.specs_saving.specs.Known.{IsSound, Known, LivesIn, bearer_at}
-use Rattle.specs_saving.specs.Loading.{AreApart, IsLoaded, Loads, LoadsBefore}
+use Rattle.specs_entity.specs.Births.{Births}
+use Rattle.specs_entity.specs.declared.errors.Error.{Error}
+use Rattle.specs_saving.specs.Known.{IsSound, Known, LivesIn, RefusesBearers, bearer_at}
+use Rattle.specs_saving.specs.Loading.{AreApart, IsLoaded, Loads, LoadsBefore, RefusesEntry}
 use Rattle.specs_entity.specs.Life.{LifeAt}
 use Rattle.specs_saving.specs.Bearing.{Asks, GoesOn, IsAmong}
 use Rattle.specs_saving.specs.NamingLemmas.{among-either, among-left, among-right}
@@ -36,7 +38,26 @@ module _ {S M : Type 0} (bearer_of : S → M → Option LifeAt) (lives : S → L
           sound = λ sound. other.sound (one.sound sound);
         }
 
+-- what is refused of some markers is refused of more
+module _ {A M I : Type 0} (refuses : A → Option I → Error → Type 0) (id_of : M → I) (births : Births) (allocator : A) (named others : List M) (error : Error) where
+  pub refused-left : RefusesBearers refuses id_of births allocator named error → RefusesBearers refuses id_of births allocator (named ++ others) error
+  refused-left (inl birth) = inl birth
+  refused-left (inr (inl one)) = inr (inl (one.0, among-left one.0 named others one.1, one.2))
+  refused-left (inr (inr memory)) = inr (inr memory)
+
+  pub refused-right : RefusesBearers refuses id_of births allocator others error → RefusesBearers refuses id_of births allocator (named ++ others) error
+  refused-right (inl birth) = inl birth
+  refused-right (inr (inl one)) = inr (inl (one.0, among-right one.0 named others one.1, one.2))
+  refused-right (inr (inr memory)) = inr (inr memory)
+
 -- ---- a list that is gone through
+
+at-seam : {X : Type 0} (done rest : List X) (next : X) (place : ℕ) → length done ≡ place → slice_get (done ++ next ∷ rest) place ≡ Some next
+at-seam done rest next place is = ap (slice_get (done ++ next ∷ rest)) (sym is) ∙ by done
+  where
+    by : (front : List _) → slice_get (front ++ next ∷ rest) (length front) ≡ Some next
+    by [] = refl
+    by (first ∷ more) = by more
 
 pub one-less : {X : Type 0} (before after : List X) (first : X) (many few : ℕ) → many ≡ length before → before ≡ first ∷ after → few + 1 ≡ many → few ≡ length after
 one-less before after first many few count is less = let sum = ap length is in omega (arith, count, sum, less)
@@ -155,6 +176,10 @@ module _ {A S M I D P : Type 0} (noted : A → I → Option LifeAt) (part_at : S
           whole = all ∙ sym (append_assoc loading.done (next ∷ []) rest);
           loads = next-loads loading.done next mid after between has loading.loads keeps others adds ok elsewhere;
         }
+
+    pub loading-refuses : {E : Type 0} (refuses : List M → E → Type 0) (error : E) → refuses (next.marker ∷ markers_of next.components) error → RefusesEntry markers_of list refuses place error
+    loading-refuses refuses error why =
+        record { entry = next; here = ap (λ (l : List (EntityData M D)). slice_get l place) all ∙ at-seam loading.done rest next place loading.count; why = why }
 
     pub loading-stops : LoadsBefore noted part_at id_of markers_of load list before after had has place
     loading-stops =

@@ -1,9 +1,11 @@
 -- The entities that are known by their markers.
-use Rattle.std.specs.Prelude.{◌≡◌, ◌&&◌, ℕ, List, Bool, false, Option, Some, None, is_some, option_and_then, option_map, unwrap_or, if◌then◌else◌}
-use Rattle.specs_entity.specs.Births.{Births, IsAlive, IsBorn, living}
+use Rattle.std.specs.Prelude.{◌≡◌, ◌⊎◌, ◌&&◌, ℕ, List, Bool, false, Option, Some, None, is_some, option_and_then, option_map, unwrap_or, if◌then◌else◌}
+use Rattle.specs_entity.specs.Births.{Births, IsAlive, IsBorn, RefusesBirth, living}
+use Rattle.specs_entity.specs.declared.errors.Error.{Error}
+use Rattle.specs_entity.specs.declared.errors.Error.TheVariants as variant
 use Rattle.specs_entity.specs.Life.{LifeAt}
 use Rattle.specs_layouts.specs.Masked.{Masked}
-use Rattle.specs_saving.specs.Bearing.{Asks, GoesOn}
+use Rattle.specs_saving.specs.Bearing.{Asks, GoesOn, IsAmong}
 use Rattle.specs_saving.specs.Saved.{same_birth}
 
 -- whether an entity lives
@@ -53,3 +55,8 @@ module _ {A S M I : Type 0} (noted : A → I → Option LifeAt) (part_at : S →
     abbrev pub AddsBearers : List M → Type 0
     AddsBearers named =
         Asks {S = Known A S} {M = M} (bearer_at noted part_at id_of) LivesIn (IsSound noted part_at id_of) named (record { births = births; allocator = before; markers = had }) (record { births = births'; allocator = after; markers = has })
+
+-- why the bearer of one of these markers isn't had: no entity can be born, or none is given a marker of that id, or there was no memory
+abbrev pub RefusesBearers : {A M I : Type 0} → (A → Option I → Error → Type 0) → (id_of : M → I) → Births → A → List M → Error → Type 0
+RefusesBearers {M = M} refuses id_of births allocator named error =
+    RefusesBirth births error ⊎ (((marker : M) × IsAmong marker named × refuses allocator (Some (id_of marker)) error) ⊎ (error ≡ variant.Memory))

@@ -7,3 +7,4 @@ pub mod Loading
 pub mod Images
 pub mod Builders
 pub mod Reached
+pub mod Orders

@@ -1,5 +1,5 @@
 -- What is loaded of a list of data.
-use Rattle.std.specs.Prelude.{◌≡◌, ◌≢◌, ◌⊎◌, [], ◌∷◌, ◌<◌, ℕ, List, length, take, Option, Some}
+use Rattle.std.specs.Prelude.{◌≡◌, ◌≢◌, ◌⊎◌, [], ◌∷◌, ◌<◌, ℕ, List, length, take, slice_get, Option, Some}
 use Rattle.specs_entity.specs.Births.{IsAlive}
 use Rattle.specs_entity.specs.Life.{LifeAt}
 use Rattle.specs_forms.specs.declared.entity_data.EntityData.{EntityData}
@@ -35,3 +35,9 @@ module _ {A S M I D P : Type 0} (noted : A → I → Option LifeAt) (part_at : S
     pub inside : place < length list
     pub keeps : GoesOn (bearer_at noted part_at id_of) LivesIn before after
     pub loaded : IsSound noted part_at id_of before → AreApart list → (entry : EntityData M D) → IsAmong entry (take place list) → IsLoaded load (bearer_at noted part_at id_of after) has entry
+
+-- the entry at a place isn't loaded, since the bearer of a marker that stands in it isn't had
+pub record RefusesEntry {M D E : Type 0} (markers_of : D → List M) (list : List (EntityData M D)) (refuses : List M → E → Type 0) (place : ℕ) (error : E) : Type 0 where
+  pub entry : EntityData M D
+  pub here : slice_get list place ≡ Some entry
+  pub why : refuses (entry.marker ∷ markers_of entry.components) error

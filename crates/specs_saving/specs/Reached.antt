@@ -1,9 +1,12 @@
 -- The entities that are saved where each that is named is marked: the marked ones, and wave after wave those that their parts name.
-use Rattle.std.specs.Prelude.{◌≡◌, ◌+◌, ◌++◌, ◌||◌, ℕ, nat_eq, Bool, List, [], ◌∷◌, length, map, slice_get, Option, Some, is_some, option_and_then, option_map, if◌then◌else◌}
-use Rattle.specs_entity.specs.Births.{Births}
+use Rattle.std.specs.Prelude.{◌≡◌, ◌⊎◌, ◌+◌, ◌++◌, ◌||◌, ℕ, nat_eq, Bool, List, [], ◌∷◌, length, map, slice_get, Option, Some, None, is_some, option_and_then, option_map, if◌then◌else◌}
+use Rattle.specs_entity.specs.Births.{Births, IsAlive}
 use Rattle.specs_entity.specs.Life.{LifeAt}
+use Rattle.specs_entity.specs.declared.errors.Error.{Error}
+use Rattle.specs_entity.specs.declared.errors.Error.TheVariants as variant
 use Rattle.specs_forms.specs.declared.entity_data.EntityData.{EntityData}
 use Rattle.specs_join.specs.Joins.{join_list}
+use Rattle.specs_saving.specs.Bearing.{IsAmong}
 use Rattle.specs_saving.specs.Saved.{all_some, marked_at, name_of}
 
 -- which indices have a marker, and the entities to be saved, in their order
@@ -50,3 +53,23 @@ pub record SavesReached {M D P : Type 0} (plain : (LifeAt → Option M) → P �
   pub reached : IsReached (λ entity. refers_to (parts_at entity.id)) (marked_first births before) order (length order.entities)
   pub marks : (index : ℕ) → is_some (after index) ≡ order.marked index
   pub saved : all_some (map (named_entry plain parts_at births after) order.entities) ≡ Some list
+
+-- those that are reached were asked for in order, up to one that the parts at a place name, of which this is so
+pub record StopsAt (names : LifeAt → List LifeAt) (first : Order) (refused : LifeAt → Type 0) : Type 0 where
+  pub order : Order
+  pub place : ℕ
+  pub entity : LifeAt
+  pub reached : IsReached names first order place
+  pub here : slice_get order.entities place ≡ Some entity
+  pub named : LifeAt
+  pub among : IsAmong named (names entity)
+  pub why : refused named
+
+-- why one that is asked for got no marker: it isn't alive; or it is, and what gives markers refuses one, or there was no memory
+abbrev pub RefusesAsked : {A I : Type 0} → (A → Option I → Error → Type 0) → Births → A → LifeAt → Error → Type 0
+RefusesAsked refuses births allocator entity error =
+    ((error ≡ variant.Unmarked) × ¬ (IsAlive births entity)) ⊎ (IsAlive births entity × (refuses allocator None error ⊎ (error ≡ variant.Memory)))
+
+-- why all that are reached aren't saved: one of them got no marker, or there was no memory
+abbrev pub RefusesReached : {A I : Type 0} → (A → Option I → Error → Type 0) → (names : LifeAt → List LifeAt) → (first : Order) → Births → A → Error → Type 0
+RefusesReached refuses names first births allocator error = StopsAt names first (λ named. RefusesAsked refuses births allocator named error) ⊎ (error ≡ variant.Memory)

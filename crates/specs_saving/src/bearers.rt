@@ -1,7 +1,7 @@
 //! The entities that markers stand for in what is loaded.
 ghost use Rattle.std.specs.Prelude.{◌≡◌, [], ◌∷◌, Some, IfOk, IfErr, OnOk};
 ghost use Rattle.specs_markers.specs.Marking.{RefusesRetrieval};
-ghost use Rattle.specs_saving.specs.Known.{AddsBearers, KeepsBearers, bearer_in};
+ghost use Rattle.specs_saving.specs.Known.{AddsBearers, KeepsBearers, RefusesBearers, bearer_in};
 
 use crate::names::SavedMarker;
 use specs_entity::{EntitiesRes, Entity, Error};
@@ -23,6 +23,7 @@ pub fn bearer<M: SavedMarker, A: MarkerAllocator<M>>(
         entities.old entities.new allocator.old allocator.new markers.old markers.new (marker ∷ [])) }
     ensures keeps { KeepsBearers A.noted M.Storage.part_at M.id_of
         entities.old entities.new allocator.old allocator.new markers.old markers.new }
+    ensures unborn { IfErr result (RefusesBearers A.refuses M.id_of entities.new allocator.new (marker ∷ [])) }
     ensures refused { IfErr result (RefusesRetrieval A.noted A.allocates M.id_of M.Storage.UnprotectedStorage
         (M.id_of marker) entities.old entities.new allocator.old allocator.new markers.old markers.new A.refuses) }
 {

@@ -4,7 +4,7 @@ ghost use Rattle.std.specs.Prelude.{None, IsSome, Ok, IfOk, IfErr, OnOk, IsErrOf
 ghost use Rattle.specs_entity.specs.declared.ids.Entity.{Entity};
 ghost use Rattle.specs_entity.specs.declared.errors.Error.TheVariants as refusal;
 ghost use Rattle.specs_saving.specs.Bearing.{IsAmong};
-ghost use Rattle.specs_saving.specs.Known.{AddsBearers, KeepsBearers, bearer_in};
+ghost use Rattle.specs_saving.specs.Known.{AddsBearers, KeepsBearers, RefusesBearers, bearer_in};
 
 use crate::bearers::bearer;
 use crate::names::{Names, SavedMarker};
@@ -61,6 +61,8 @@ pub trait ConvertSaveload<M: SavedMarker>: Sized {
             entities.new allocator.new markers.new) saved ≡ Some value) }
         ensures adds { OnOk result (AddsBearers A.noted M.Storage.part_at M.id_of
             entities.old entities.new allocator.old allocator.new markers.old markers.new (markers_of saved)) }
+        ensures refused { IfErr result (RefusesBearers A.refuses M.id_of entities.new allocator.new
+            (markers_of saved)) }
         ensures keeps { KeepsBearers A.noted M.Storage.part_at M.id_of
             entities.old entities.new allocator.old allocator.new markers.old markers.new };
 

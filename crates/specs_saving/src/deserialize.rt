@@ -4,8 +4,8 @@ ghost use Rattle.specs_entity.specs.declared.ids.Entity.{Entity};
 ghost use Rattle.specs_layouts.specs.MaskedChanges.{KeepsParts, PutsIn};
 ghost use Rattle.specs_join.specs.Joins.{both};
 ghost use Rattle.specs_saving.specs.Bearing.{IsAmong};
-ghost use Rattle.specs_saving.specs.Known.{AddsBearers, IsSoundIn, KeepsBearers, bearer_in, known_of};
-ghost use Rattle.specs_saving.specs.Loading.{IsLoaded, Loads, LoadsBefore};
+ghost use Rattle.specs_saving.specs.Known.{AddsBearers, IsSoundIn, KeepsBearers, RefusesBearers, bearer_in, known_of};
+ghost use Rattle.specs_saving.specs.Loading.{IsLoaded, Loads, LoadsBefore, RefusesEntry};
 ghost use Rattle.specs_saving.specs.Saved.{named_in, plain_in};
 ghost use Rattle.specs_entity.specs.Births.{IsAlive};
 
@@ -33,7 +33,8 @@ pub trait DeserializeComponents<M: SavedMarker>: SerializeComponents<M> {
 
     /// Gives a living entity the parts of data, and takes from it those that are absent there. A dead one gets none.
     ///
-    /// Errors: those of `convert_from`, and `Memory`. No other index has other parts than before.
+    /// Errors: those of `convert_from` at the first part that is refused, and `Memory`. No other index has other parts
+    /// than before.
     fn deserialize_entity<G: MarkerAllocator<M>>(
         &mut self,
         alloc: Global,
@@ -47,6 +48,8 @@ pub trait DeserializeComponents<M: SavedMarker>: SerializeComponents<M> {
             entities.new allocator.new markers.new) saved ≡ Some (Self.parts_at self.new entity.id)) }
         ensures adds { OnOk result (AddsBearers G.noted M.Storage.part_at M.id_of
             entities.old entities.new allocator.old allocator.new markers.old markers.new (markers_of saved)) }
+        ensures refused { IfErr result (RefusesBearers G.refuses M.id_of entities.new allocator.new
+            (markers_of saved)) }
         ensures keeps { KeepsBearers G.noted M.Storage.part_at M.id_of
             entities.old entities.new allocator.old allocator.new markers.old markers.new }
         ensures others { (index : ℕ) → index ≢ entity.id → Self.parts_at self.new index ≡ Self.parts_at self.old index }
@@ -56,8 +59,9 @@ pub trait DeserializeComponents<M: SavedMarker>: SerializeComponents<M> {
     /// Loads the entries of a list, one after the other: the entity that bears an entry's marker, which is made where
     /// there is none, has then just the parts of its data. It is done in one pass, and costs one look-up a marker.
     ///
-    /// Errors: those of `retrieve_entity` and `convert_from`, and `Memory`, with the place of the entry. Those before
-    /// it are loaded, and what the refused one made and set until then stays.
+    /// Errors: those of `EntitiesRes::create`, and of `allocate` at the id of a marker that stands in the entry, and
+    /// `Memory`, with the place of the entry. Those before it are loaded, and what the refused one made and set until
+    /// then stays.
     final fn deserialize<G: MarkerAllocator<M>>(
         &mut self,
         alloc: Global,
@@ -75,6 +79,8 @@ pub trait DeserializeComponents<M: SavedMarker>: SerializeComponents<M> {
             list.items (known_of entities.old allocator.old markers.old)
             (known_of entities.new allocator.new markers.new) (Self.parts_at self.old) (Self.parts_at self.new)
             refused.place) }
+        ensures refused { IfErr result (λ refused. RefusesEntry markers_of list.items
+            (RefusesBearers G.refuses M.id_of entities.new allocator.new) refused.place refused.error) }
     {
         load_all(self, alloc, list, entities, markers, allocator)
     }
@@ -107,6 +113,8 @@ fn convert_part<M: SavedMarker, C: ConvertSaveload<M>, A: MarkerAllocator<M>>(
         entities.new allocator.new markers.new)) saved ≡ Some part) }
     ensures adds { OnOk result (AddsBearers A.noted M.Storage.part_at M.id_of entities.old entities.new
         allocator.old allocator.new markers.old markers.new (named_in C.markers_of saved)) }
+    ensures refused { IfErr result (RefusesBearers A.refuses M.id_of entities.new allocator.new
+        (named_in C.markers_of saved)) }
     ensures keeps { KeepsBearers A.noted M.Storage.part_at M.id_of
         entities.old entities.new allocator.old allocator.new markers.old markers.new }
 {
@@ -160,6 +168,8 @@ where
         ≡ Some (A.parts_at one.new entity.id, B.parts_at other.new entity.id)) }
     ensures adds { OnOk result (AddsBearers G.noted M.Storage.part_at M.id_of entities.old entities.new
         allocator.old allocator.new markers.old markers.new (A.markers_of saved.0 ++ B.markers_of saved.1)) }
+    ensures refused { IfErr result (RefusesBearers G.refuses M.id_of entities.new allocator.new
+        (A.markers_of saved.0 ++ B.markers_of saved.1)) }
     ensures keeps { KeepsBearers G.noted M.Storage.part_at M.id_of
         entities.old entities.new allocator.old allocator.new markers.old markers.new }
     ensures others { (index : ℕ) → index ≢ entity.id → A.parts_at one.new index ≡ A.parts_at one.old index }
@@ -430,6 +440,8 @@ fn load_one<M: SavedMarker, S: DeserializeComponents<M>, A: MarkerAllocator<M>>(
         entities.new allocator.new markers.new) (S.parts_at storages.new) entry) }
     ensures adds { OnOk result (AddsBearers A.noted M.Storage.part_at M.id_of entities.old entities.new
         allocator.old allocator.new markers.old markers.new (entry.marker ∷ S.markers_of entry.components)) }
+    ensures refused { IfErr result (RefusesBearers A.refuses M.id_of entities.new allocator.new
+        (entry.marker ∷ S.markers_of entry.components)) }
     ensures keeps { KeepsBearers A.noted M.Storage.part_at M.id_of
         entities.old entities.new allocator.old allocator.new markers.old markers.new }
     ensures others { IsSoundIn A.noted M.Storage.part_at M.id_of entities.old allocator.old markers.old
@@ -465,6 +477,8 @@ fn load_all<M: SavedMarker, S: DeserializeComponents<M>, A: MarkerAllocator<M>>(
         list.items (known_of entities.old allocator.old markers.old)
         (known_of entities.new allocator.new markers.new) (S.parts_at storages.old) (S.parts_at storages.new)
         refused.place) }
+    ensures refused { IfErr result (λ refused. RefusesEntry S.markers_of list.items
+        (RefusesBearers A.refuses M.id_of entities.new allocator.new) refused.place refused.error) }
 {
     let _count = list.as_slice().len();
     let mut place = 0;

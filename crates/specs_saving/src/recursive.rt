@@ -1,7 +1,12 @@
 //! Saving with all that is named: who is asked for is marked, and saved behind those before it.
-ghost use Rattle.std.specs.Prelude.{◌≡◌, ◌+◌, ℕ, map, length, slice_get, Some, is_some, IfOk, OnOk};
+ghost use Rattle.std.specs.Prelude.{◌≡◌, ◌⊎◌, ◌+◌, ℕ, map, length, slice_get, Some, None, is_some};
+ghost use Rattle.std.specs.Prelude.{IfOk, IfErr, IsErrOf, OnOk};
+ghost use Rattle.specs_entity.specs.Births.{IsAlive};
 ghost use Rattle.specs_entity.specs.declared.ids.Entity.{Entity};
-ghost use Rattle.specs_saving.specs.Reached.{IsOrder, IsReached, KeepsMarks};
+ghost use Rattle.specs_entity.specs.declared.errors.Error.TheVariants as refusal;
+ghost use Rattle.specs_saving.specs.Bearing.{IsAmong};
+ghost use Rattle.specs_saving.specs.Orders.{AreAsked, IsSafe};
+ghost use Rattle.specs_saving.specs.Reached.{IsOrder, IsReached, KeepsMarks, RefusesAsked, RefusesReached};
 ghost use Rattle.specs_saving.specs.Reached.{Order, SavesReached, marked_first, named_entry};
 ghost use Rattle.specs_saving.specs.Reached.{with_asked, with_all_asked};
 ghost use Rattle.specs_saving.specs.Saved.{all_some};
@@ -9,6 +14,7 @@ ghost use Rattle.specs_saving.specs.Saved.{all_some};
 use crate::names::SavedMarker;
 use crate::serialize::{SaveRefusal, SerializeComponents, entry_at, living_at};
 use hibitset::{BitSetLike, MAX_EID};
+use specs_entity::laws::the_living_are_below_the_limit;
 use specs_entity::{EntitiesRes, Entity, Error};
 use specs_forms::EntityData;
 use specs_layouts::{Component, MaskedStorage, UnprotectedStorage};
@@ -46,6 +52,8 @@ fn ask<M: SavedMarker, A: MarkerAllocator<M>>(
 ) -> Result<(), Error>
     ensures ok { OnOk result ((order : Order) → IsOrder order (M.Storage.part_at markers.old.inner) list.old.items
         → IsOrder (with_asked order entity) (M.Storage.part_at markers.new.inner) list.new.items) }
+    ensures alive { OnOk result (IsAlive entities.now entity) }
+    ensures refused { IfErr result (RefusesAsked A.refuses entities.now allocator.new entity) }
     ensures keeps { KeepsMarks (M.Storage.part_at markers.old.inner) (M.Storage.part_at markers.new.inner) }
 {
     match allocator.mark(entity, markers, entities) {
@@ -69,6 +77,9 @@ fn ask_all<M: SavedMarker, A: MarkerAllocator<M>>(
 ) -> Result<(), Error>
     ensures ok { OnOk result ((order : Order) → IsOrder order (M.Storage.part_at markers.old.inner) list.old.items
         → IsOrder (with_all_asked order asked.items) (M.Storage.part_at markers.new.inner) list.new.items) }
+    ensures alive { OnOk result ((entity : Entity) → IsAmong entity asked.items → IsAlive entities.now entity) }
+    ensures refused { IfErr result (λ error. (entity : Entity) × IsAmong entity asked.items
+        × RefusesAsked A.refuses entities.now allocator.new entity error) }
     ensures keeps { KeepsMarks (M.Storage.part_at markers.old.inner) (M.Storage.part_at markers.new.inner) }
 {
     let _count = asked.as_slice().len();
@@ -94,6 +105,11 @@ fn ask_for_named<M: SavedMarker, S: SerializeComponents<M>, A: MarkerAllocator<M
     ensures ok { OnOk result ((order : Order) → IsOrder order (M.Storage.part_at markers.old.inner) list.old.items
         → IsOrder (with_all_asked order (S.refers_to (S.parts_at storages.now entity.id)))
         (M.Storage.part_at markers.new.inner) list.new.items) }
+    ensures alive { OnOk result ((named : Entity) → IsAmong named (S.refers_to (S.parts_at storages.now entity.id))
+        → IsAlive entities.now named) }
+    ensures refused { IfErr result (λ error. ((named : Entity)
+        × IsAmong named (S.refers_to (S.parts_at storages.now entity.id))
+        × RefusesAsked A.refuses entities.now allocator.new named error) ⊎ (error ≡ refusal.Memory)) }
     ensures keeps { KeepsMarks (M.Storage.part_at markers.old.inner) (M.Storage.part_at markers.new.inner) }
 {
     let mut asked = Vec::new(alloc);
@@ -110,9 +126,10 @@ fn entity_at(list: &[Entity], place: usize) -> Option<Entity>
     list.get(place).copied()
 }
 
-/// Marks all that are reached, and answers them in their order.
+/// Marks all that are reached, and answers them in their order. Each has an index of its own, so they are no more than
+/// there are indices.
 ///
-/// Errors: `Limit` if they are more than there are indices, which never comes.
+/// Errors: `Unmarked` if one that is asked for isn't alive; those of `mark`; `Memory`.
 fn reach<M: SavedMarker, S: SerializeComponents<M>, A: MarkerAllocator<M>>(
     storages: &S,
     alloc: Global,
@@ -123,10 +140,19 @@ fn reach<M: SavedMarker, S: SerializeComponents<M>, A: MarkerAllocator<M>>(
     ensures ok { IfOk result (λ list. (order : Order)
         × IsReached (λ entity. S.refers_to (S.parts_at storages.now entity.id))
         (marked_first entities.now (M.Storage.part_at markers.old.inner)) order (length order.entities)
-        × IsOrder order (M.Storage.part_at markers.new.inner) list.items) }
+        × IsOrder order (M.Storage.part_at markers.new.inner) list.items
+        × IsSafe entities.now order
+        × AreAsked (λ entity. S.refers_to (S.parts_at storages.now entity.id)) entities.now order
+        (length order.entities)) }
+    ensures refused { IfErr result (RefusesReached A.refuses (λ entity. S.refers_to (S.parts_at storages.now entity.id))
+        (marked_first entities.now (M.Storage.part_at markers.old.inner)) entities.now allocator.new) }
     ensures keeps { KeepsMarks (M.Storage.part_at markers.old.inner) (M.Storage.part_at markers.new.inner) }
 {
-    let mut list = marked_entities(alloc, entities, markers)?;
+    the_living_are_below_the_limit(entities);
+    let mut list = match marked_entities(alloc, entities, markers) {
+        Ok(list) => list,
+        Err(_) => return Err(Error::Memory),
+    };
     for place in 0..MAX_EID {
         let Some(entity) = entity_at(list.as_slice(), place) else {
             return Ok(list);
@@ -138,7 +164,7 @@ fn reach<M: SavedMarker, S: SerializeComponents<M>, A: MarkerAllocator<M>>(
             Err(error) => return Err(error),
         }
     }
-    Err(Error::Limit)
+    Ok(list)
 }
 
 /// What is saved of the entities of a list, one after the other.
@@ -149,15 +175,20 @@ fn save_each<M: SavedMarker, S: SerializeComponents<M>>(
     entities: &EntitiesRes,
     markers: &MaskedStorage<M>,
 ) -> Result<Vec<EntityData<M, S::Data>>, Error>
-    ensures { IfOk result (λ saved. all_some (map (named_entry S.plain (S.parts_at storages.now) entities.now
+    ensures ok { IfOk result (λ saved. all_some (map (named_entry S.plain (S.parts_at storages.now) entities.now
         (M.Storage.part_at markers.now.inner)) list.items) ≡ Some saved.items) }
+    ensures unmarked { IsErrOf result refusal.Unmarked → (entity : Entity) × IsAmong entity list.items
+        × (named_entry S.plain (S.parts_at storages.now) entities.now (M.Storage.part_at markers.now.inner) entity
+        ≡ None) }
+    ensures refused { IfErr result (λ error. (error ≡ refusal.Unmarked) ⊎ (error ≡ refusal.Memory)) }
 {
     let mut saved = Vec::new(alloc);
     let _count = list.as_slice().len();
     for entity in list {
         let entry = match entry_at(storages, alloc, entity, entities, markers) {
             Ok(Some(entry)) => entry,
-            Ok(None) | Err(SaveRefusal::Unmarked) => return Err(Error::Unmarked),
+            Ok(None) => return Err(Error::Unmarked),
+            Err(SaveRefusal::Unmarked) => return Err(Error::Unmarked),
             Err(SaveRefusal::Memory) => return Err(Error::Memory),
         };
         match saved.push(entry) {
@@ -178,6 +209,8 @@ pub(crate) fn save_reached<M: SavedMarker, S: SerializeComponents<M>, A: MarkerA
 ) -> Result<Vec<EntityData<M, S::Data>>, Error>
     ensures ok { IfOk result (λ list. SavesReached S.plain S.refers_to (S.parts_at storages.now) entities.now
         (M.Storage.part_at markers.old.inner) (M.Storage.part_at markers.new.inner) list.items) }
+    ensures refused { IfErr result (RefusesReached A.refuses (λ entity. S.refers_to (S.parts_at storages.now entity.id))
+        (marked_first entities.now (M.Storage.part_at markers.old.inner)) entities.now allocator.new) }
     ensures keeps { KeepsMarks (M.Storage.part_at markers.old.inner) (M.Storage.part_at markers.new.inner) }
 {
     match reach(storages, alloc, entities, markers, allocator) {

@@ -4,7 +4,7 @@ ghost use Rattle.std.specs.Prelude.{Some, None, IsSome, IfOk, IfErr, IfSome, IsE
 ghost use Rattle.specs_entity.specs.declared.ids.Entity.{Entity};
 ghost use Rattle.specs_entity.specs.declared.errors.Error.TheVariants as refusal;
 ghost use Rattle.specs_saving.specs.Bearing.{IsAmong};
-ghost use Rattle.specs_saving.specs.Reached.{KeepsMarks, SavesReached};
+ghost use Rattle.specs_saving.specs.Reached.{KeepsMarks, RefusesReached, SavesReached, marked_first};
 ghost use Rattle.specs_saving.specs.Saved.{IsEntryOf, IsSavedNext, NamesNone, entry_of, name_of, saved};
 ghost use Rattle.specs_join.specs.Joins.{living_entity};
 ghost use Rattle.specs_saving.specs.declared.serialize.SaveRefusal.TheVariants as want;
@@ -114,8 +114,8 @@ pub trait SerializeComponents<M: SavedMarker> {
     /// behind those before it: first the marked ones ascending by index, then, wave after wave, those that were newly
     /// marked, in the order in which they were asked for.
     ///
-    /// Errors: `Unmarked` if one that is asked for isn't alive; those of `mark`; `Memory`. The marks that were made
-    /// stay.
+    /// Errors: `Unmarked` if one that is asked for isn't alive; those that `allocate` has for a marker without an id;
+    /// `Memory`. The marks that were made stay.
     final fn serialize_recursive<A: MarkerAllocator<M>>(
         &self,
         alloc: Global,
@@ -127,6 +127,8 @@ pub trait SerializeComponents<M: SavedMarker> {
         Self: Sized,
         ensures ok { IfOk result (λ list. SavesReached plain refers_to (parts_at self.now) entities.now
             (M.Storage.part_at markers.old.inner) (M.Storage.part_at markers.new.inner) list.items) }
+        ensures refused { IfErr result (RefusesReached A.refuses (λ entity. refers_to (parts_at self.now entity.id))
+            (marked_first entities.now (M.Storage.part_at markers.old.inner)) entities.now allocator.new) }
         ensures keeps { KeepsMarks (M.Storage.part_at markers.old.inner) (M.Storage.part_at markers.new.inner) }
     {
         save_reached(self, alloc, entities, markers, allocator)

@@ -1,4 +1,4 @@
-use Rattle.specs_saving.proofs.BearerLemmas.{retrieved-goes, retrieved-asks, refused-goes}
+use Rattle.specs_saving.proofs.BearerLemmas.{retrieved-goes, retrieved-asks, refused-goes, unhad}
 use Rattle.specs_saving.proofs.bearers.bearer.Goals as goal
 
 pub returns-in-Ok-clause-adds : goal.returns-in-Ok-clause-adds
@@ -9,3 +9,6 @@ returns-in-Ok-clause-keeps g c = retrieved-goes _ _ _ _ _ _ _ _ _ _ _ _ c.in-Ok.
 
 pub returns-clause-keeps : goal.returns-clause-keeps
 returns-clause-keeps g c = refused-goes _ _ _ _ _ _ _ _ _ _ _ _ _ c.in-Err.ensures.refused
+
+pub returns-clause-unborn : goal.returns-clause-unborn
+returns-clause-unborn g c = unhad _ _ _ _ _ _ _ _ _ _ _ _ _ c.in-Err.ensures.refused

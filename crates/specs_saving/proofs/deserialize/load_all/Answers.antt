@@ -1,6 +1,6 @@
 use Rattle.std.proofs.Common.{◌≡◌, length, sym, ap, ◌∙◌, arith}
 use Rattle.std.specs.Vec.Iter.{into_iter_len}
-use Rattle.specs_saving.proofs.LoadLemmas.{loading-begins, loading-ends, loading-goes-on, loading-stops, none-left, one-less, place-inside}
+use Rattle.specs_saving.proofs.LoadLemmas.{loading-begins, loading-ends, loading-goes-on, loading-refuses, loading-stops, none-left, one-less, place-inside}
 use Rattle.specs_saving.proofs.deserialize.load_all.Goals as goal
 
 pub loop-entry-init : goal.loop-entry-init
@@ -33,3 +33,7 @@ returns-in-Err-clause-err g c =
 pub returns-clause-ok : goal.returns-clause-ok
 returns-clause-ok g c =
     loading-ends _ _ _ _ _ _ _ _ _ _ _ _ c.loop-entry.invariant.loading (none-left _ _ c.loop-entry.invariant.len c.in-None.ensures.steps.0)
+
+pub returns-in-Err-clause-refused : goal.returns-in-Err-clause-refused
+returns-in-Err-clause-refused g c =
+    loading-refuses _ _ _ _ _ _ _ g.met.S.DeserializeComponents.kept _ _ _ c.in-Some.entry _ _ _ _ _ c.loop-entry.invariant.loading c.in-Some.ensures.steps.0 c.load_one.ensures.keeps c.load_one.ensures.others _ _ c.in-Err.ensures.refused

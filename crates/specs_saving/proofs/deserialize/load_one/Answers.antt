@@ -1,7 +1,7 @@
 use Rattle.std.proofs.Common.{[], ◌∷◌}
-use Rattle.std.proofs.lemmas.Result.{on_ok_weaker}
+use Rattle.std.proofs.lemmas.Result.{IfErr-weaker, on_ok_weaker}
 use Rattle.specs_saving.proofs.KnownLemmas.{bearer-alive, bearers-apart}
-use Rattle.specs_saving.proofs.LoadLemmas.{asks-both, goes-both}
+use Rattle.specs_saving.proofs.LoadLemmas.{asks-both, goes-both, refused-left, refused-right}
 use Rattle.specs_saving.proofs.deserialize.load_one.Goals as goal
 
 pub returns-in-Ok-clause-ok : goal.returns-in-Ok-clause-ok
@@ -32,3 +32,11 @@ returns-in-Ok-clause-others g c sound marker entity bears apart =
 pub returns-in-Ok-clause-elsewhere : goal.returns-in-Ok-clause-elsewhere
 returns-in-Ok-clause-elsewhere g c index apart =
     c.deserialize_entity.ensures.others index (apart c.in-Ok.entity (c.deserialize_entity.ensures.keeps.keeps c.args.entry.marker c.in-Ok.entity c.in-Ok.ensures.ok))
+
+pub returns-in-Ok-clause-refused : goal.returns-in-Ok-clause-refused
+returns-in-Ok-clause-refused g c =
+    IfErr-weaker c.deserialize_entity.result _ _ (refused-right g.A.MarkerAllocator.refuses g.M.Marker.id_of c.deserialize_entity.new.entities c.deserialize_entity.new.allocator (c.args.entry.marker ∷ []) (g.S.DeserializeComponents.markers_of c.args.entry.components)) c.deserialize_entity.ensures.refused
+
+pub returns-in-Err-clause-refused : goal.returns-in-Err-clause-refused
+returns-in-Err-clause-refused g c =
+    refused-left g.A.MarkerAllocator.refuses g.M.Marker.id_of c.bearer.new.entities c.bearer.new.allocator (c.args.entry.marker ∷ []) (g.S.DeserializeComponents.markers_of c.args.entry.components) c.in-Err.error c.in-Err.ensures.unborn

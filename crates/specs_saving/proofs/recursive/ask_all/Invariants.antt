@@ -6,4 +6,4 @@ use Rattle.specs_saving.proofs.recursive.ask_all.Given as goal
 abbrev pub invariant-loop-entity : goal.invariant-loop-entity
 invariant-loop-entity g l =
     let marks = g.M.Storage.UnprotectedStorage.part_at in
-    IsAsking l.fn.asked.items (into_iter_items l.entity-iterator) (into_iter_len l.entity-iterator) (marks l.fn.markers.inner) (marks l.markers.inner) l.fn.list.items l.list.items
+    IsAsking l.entities l.fn.asked.items (into_iter_items l.entity-iterator) (into_iter_len l.entity-iterator) (marks l.fn.markers.inner) (marks l.markers.inner) l.fn.list.items l.list.items

@@ -1,6 +1,7 @@
-use Rattle.std.proofs.lemmas.Result.{on_ok_weaker}
+use Rattle.std.proofs.Common.{◌++◌}
+use Rattle.std.proofs.lemmas.Result.{IfErr-weaker, on_ok_weaker}
 use Rattle.specs_saving.specs.LoadingLemmas.{both-are, both-kept}
-use Rattle.specs_saving.proofs.LoadLemmas.{asks-both, goes-both}
+use Rattle.specs_saving.proofs.LoadLemmas.{asks-both, goes-both, refused-left, refused-right}
 use Rattle.specs_saving.proofs.deserialize.Tuple4DeserializeComponents.deserialize_entity.Goals as goal
 
 pub returns-in-Ok-clause-ok : goal.returns-in-Ok-clause-ok
@@ -28,3 +29,11 @@ returns-in-Ok-clause-dead g c gone index =
     let three = c.load_two-in-Ok.ensures.dead gone index in
     let four = c.load_two-in-Ok.ensures.dead_too gone index in
     λ i. ((one i, two i), (three i, four i))
+
+pub returns-in-Ok-clause-refused : goal.returns-in-Ok-clause-refused
+returns-in-Ok-clause-refused g c =
+    IfErr-weaker c.load_two-in-Ok.result _ _ (refused-right g.G.MarkerAllocator.refuses g.M.Marker.id_of c.load_two-in-Ok.new.entities c.load_two-in-Ok.new.allocator (g.A.DeserializeComponents.markers_of c.args.saved.0.0 ++ g.B.DeserializeComponents.markers_of c.args.saved.0.1) (g.C.DeserializeComponents.markers_of c.args.saved.1.0 ++ g.D.DeserializeComponents.markers_of c.args.saved.1.1)) c.load_two-in-Ok.ensures.refused
+
+pub returns-in-Err-clause-refused : goal.returns-in-Err-clause-refused
+returns-in-Err-clause-refused g c =
+    refused-left g.G.MarkerAllocator.refuses g.M.Marker.id_of c.load_two.new.entities c.load_two.new.allocator (g.A.DeserializeComponents.markers_of c.args.saved.0.0 ++ g.B.DeserializeComponents.markers_of c.args.saved.0.1) (g.C.DeserializeComponents.markers_of c.args.saved.1.0 ++ g.D.DeserializeComponents.markers_of c.args.saved.1.1) c.in-Err.error c.in-Err.ensures.refused
