@@ -60,7 +60,9 @@ pub mod saveload {
         Marker, MarkerAllocator, SimpleMarker, SimpleMarkerAllocator, UuidMarker,
         UuidMarkerAllocator,
     };
+    pub use specs_marking::{Mark, MarkedEntity, MarkedLazily, mark_in};
     pub use specs_saving::{
-        ConvertSaveload, DeserializeComponents, Marks, Names, SavedMarker, SerializeComponents,
+        ConvertSaveload, DeserializeComponents, MarkedBuilder, Marks, Names, SavedMarker,
+        SerializeComponents,
     };
 }
