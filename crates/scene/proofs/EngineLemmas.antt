@@ -21,7 +21,7 @@ use Rattle.scene_rules.specs.Commands.{CommandsAccepted, CommandsRefused}
 use Rattle.scene_rules.specs.Lending.{StepIsRefused, SavesBefore, SameBefore, scene_in, before, before_at, Fits, IsSound}
 use Rattle.scene_rules.proofs.CallerLemmas.{same_scene}
 use Rattle.scene_commands.specs.Together.{all_of}
-use Rattle.scene.specs.Frames.{Queues, SystemsRun, SystemsRefuse, SystemsFill, entered, by_place, all_commands, Accepts, Refuses}
+use Rattle.scene_rules.specs.Frames.{Queues, SystemsRun, SystemsRefuse, SystemsFill, entered, by_place, all_commands, Accepts, Refuses}
 use Rattle.scene.specs.Engine.{plain_queues, AllLawful, HasRun, HaveRun, SystemsAreRefused}
 
 -- two that are one where both are there

@@ -9,7 +9,7 @@ use Rattle.scene_rules.specs.Rulebook.{Book}
 use Rattle.scene_rules.specs.Commands.{skips_of}
 use Rattle.scene_draft.specs.Drafts.{Draft}
 use Rattle.scene_document.specs.Openings.{first_scene, frames_of}
-use Rattle.scene.specs.Frames.{Accepts, Refuses, Reaches, Ended}
+use Rattle.scene_rules.specs.Frames.{Accepts, Refuses, Reaches, Ended}
 use Rattle.scene.specs.Turns.{Shown, opening, nothing_yet, frames_left, next_frame, SameCourse, Advances, IsRefused, Stays, Going, RunsOut}
 
 -- a scene before any of its frames

@@ -8,7 +8,7 @@ use Rattle.scene_rules.specs.Rulebook.{Book, Command}
 use Rattle.scene_rules.specs.Scenes.{PlainScene, PlainSystem, Steps}
 use Rattle.scene_rules.specs.Lawful.{IsLawful}
 use Rattle.scene_rules.specs.Queues.{plain_commands, waiting}
-use Rattle.scene.specs.Frames.{Queues, SystemsRun, SystemsRefuse, SystemsFill, entered, by_place}
+use Rattle.scene_rules.specs.Frames.{Queues, SystemsRun, SystemsRefuse, SystemsFill, entered, by_place}
 
 -- the queues of the code in plain terms
 abbrev pub plain_queues : {D : Type 0} → (D → Part) → List (ℕ × Queue D) → Queues

@@ -3,11 +3,11 @@ pub use Rattle.scene_rules.specs.Parts
 pub use Rattle.scene_rules.specs.Rulebook
 pub use Rattle.scene_rules.specs.Scenes
 pub use Rattle.scene_rules.specs.Commands
+pub use Rattle.scene_rules.specs.Frames
 pub use Rattle.scene_draft.specs.Drafts
 pub use Rattle.scene_document.specs.Documents
 pub use Rattle.scene_document.specs.Openings
 pub use Rattle.scene_draft.specs.Texts
-pub mod Frames
 pub mod Runs
 pub mod Engine
 pub mod Limits

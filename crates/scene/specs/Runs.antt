@@ -6,7 +6,7 @@ use Rattle.scene_rules.specs.Scenes.{PlainScene, IsProper, PartsStand, IsDescrib
 use Rattle.scene_rules.specs.Lawful.{IsLawful}
 use Rattle.scene_draft.specs.Drafts.{Draft}
 use Rattle.scene_document.specs.Openings.{first_scene, frames_of}
-use Rattle.scene.specs.Frames.{Reaches, Ended}
+use Rattle.scene_rules.specs.Frames.{Reaches, Ended}
 
 -- a document can begin: the scene that it gives is proper, its parts stand under the rules' kinds, and in each frame the systems are
 -- as the rules describe them, and the document's commands are ones that they know

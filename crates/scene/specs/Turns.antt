@@ -13,7 +13,7 @@ use Rattle.scene_draft.specs.Texts.{json_of}
 use Rattle.scene_document.specs.Documents.{document_from}
 use Rattle.scene_document.specs.Openings.{first_scene, frames_of}
 use Rattle.scene_document.specs.Loading.{loaded_scene, frames_in, CanRun}
-use Rattle.scene.specs.Frames.{Accepts, Refuses, Reaches, Ended}
+use Rattle.scene_rules.specs.Frames.{Accepts, Refuses, Reaches, Ended}
 
 -- what is shown of a scene: the last accepted scene, its frames by their numbers from 1, how many commands one may have, how
 -- many frames are asked for, and the report so far

@@ -5,7 +5,7 @@ ghost use Rattle.scene_rules.specs.Commands.{skips_of};
 ghost use Rattle.scene_rules.specs.Queues.{plain_commands};
 ghost use Rattle.scene_rules.specs.Lending.{scene_in, system_in, IsOfRules, IsSound, SavesBefore, FitsSaved, StepIsRefused};
 ghost use Rattle.scene_document.specs.Loading.{order_in, commands_at, frames_in, loaded_scene, CanRun};
-ghost use Rattle.scene.specs.Frames.{Accepts, Refuses};
+ghost use Rattle.scene_rules.specs.Frames.{Accepts, Refuses};
 ghost use Rattle.scene.specs.Engine.{HasRun, HaveRun, SystemsAreRefused};
 
 use scene_commands::run_commands;

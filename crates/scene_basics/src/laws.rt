@@ -5,7 +5,7 @@ ghost use Rattle.scene_rules.specs.declared.refusals.Report.{Report};
 ghost use Rattle.scene_rules.specs.declared.refusals.Skip.{Skip};
 ghost use Rattle.scene_draft.specs.Drafts.{Draft};
 ghost use Rattle.scene_document.specs.Documents.{document_of};
-ghost use Rattle.scene.specs.Frames.{Reaches};
+ghost use Rattle.scene_rules.specs.Frames.{Reaches};
 ghost use Rattle.scene.specs.Runs.{CanBegin, Ran};
 ghost use Rattle.scene.specs.Outcomes.{Bounds, IsRunOf};
 ghost use Rattle.scene_laws.specs.OneOutcome.{OneOutcome, HadMemory, SameButPlace};

@@ -6,6 +6,7 @@ use Rattle.std.proofs.lemmas.Bool.Decides.{nat_tests}
 use Rattle.std.proofs.Math.Dec.{eqb-suc-zero, eqb-zero-suc, eqb-suc-suc}
 use Rattle.std.proofs.lemmas.Bool.{eqb-true}
 use Rattle.scene_rules.specs.Slots.{in_column, filled}
+use Rattle.scene_rules.proofs.CallerLemmas.{is_eq-nat_cmp}
 use Rattle.scene_document.specs.Columns.{stored}
 
 -- what a list ended with goes before what was taken from it earlier
@@ -16,10 +17,6 @@ popped all left rest suffix last e f = e ∙ ap (λ l. l ++ suffix) f ∙ append
 pub all_popped : {X : Type 0} (all left suffix : List X) → all ≡ left ++ suffix → length left ≡ 0 → suffix ≡ all
 all_popped all [] suffix e f = sym e
 all_popped all (x ∷ left) suffix e f = absurd (omega arith)
-
--- two numbers compare as equal exactly where they are
-pub is_eq-nat_cmp : (x y : ℕ) → is_eq (nat_cmp x y) ≡ eqb y x
-is_eq-nat_cmp x y = grind (arith, nat_tests)
 
 -- the element at a place after a write
 pub slice_get-set : {X : Type 0} (xs : List X) (place other : ℕ) (x : X) → place < length xs → slice_get (set xs place x) other ≡ cond (eqb other place) (Some x) (slice_get xs other)

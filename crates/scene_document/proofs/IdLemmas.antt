@@ -10,41 +10,13 @@ use Rattle.std.proofs.lemmas.Bool.{eqb-true}
 use Rattle.std.proofs.lemmas.Bool.Decides.{nat_tests}
 use Rattle.scene_rules.specs.Scenes.{lives}
 use Rattle.scene_document.specs.Documents.{has_double}
-use Rattle.scene_document.specs.Openings.{ascending}
-use Rattle.scene_document.proofs.BuildLemmas.{is_eq-nat_cmp}
+use Rattle.scene_rules.specs.Ids.{ascending}
+use Rattle.scene_rules.proofs.CallerLemmas.{is_eq-nat_cmp, lives-ascending}
 
 -- a set has an id exactly where it stands among its keys
 pub contains-lives : (id : ℕ) (keys : List ℕ) → list_any (λ other. is_eq (nat_cmp id other)) keys ≡ lives id keys
 contains-lives id [] = refl
 contains-lives id (other ∷ keys) = ap (λ b. b || list_any (λ one. is_eq (nat_cmp id one)) keys) (is_eq-nat_cmp id other) ∙ ap (λ b. eqb other id || b) (contains-lives id keys)
-
--- two tests in the other order, and one test twice
-or_swap : (a b c : Bool) → (a || (b || c)) ≡ (b || (a || c))
-or_swap true true c = refl
-or_swap true false c = refl
-or_swap false b c = refl
-
-or_twice : (a b : Bool) → (a || b) ≡ (a || (a || b))
-or_twice true b = refl
-or_twice false b = refl
-
--- what a list of keys with one more has
-insert_step : (test : ℕ → Bool) (key other : ℕ) (keys inserted : List ℕ) → list_any test inserted ≡ (test key || list_any test keys) → (order : Ordering) → nat_cmp key other ≡ order
-    → list_any test (match_ordering order (key ∷ other ∷ keys) (other ∷ keys) (other ∷ inserted)) ≡ (test key || (test other || list_any test keys))
-insert_step test key other keys inserted e Less o = refl
-insert_step test key other keys inserted e Equal o =
-    let same : other ≡ key = eqb-true other key (sym (is_eq-nat_cmp key other) ∙ ap is_eq o) in
-    ap (λ one. test one || list_any test keys) same ∙ or_twice (test key) (list_any test keys) ∙ ap (λ one. test key || (test one || list_any test keys)) (sym same)
-insert_step test key other keys inserted e Greater o = ap (λ b. test other || b) e ∙ or_swap (test other) (test key) (list_any test keys)
-
-any-insert_key : (test : ℕ → Bool) (key : ℕ) (keys : List ℕ) → list_any test (insert_key nat_cmp keys key) ≡ (test key || list_any test keys)
-any-insert_key test key [] = refl
-any-insert_key test key (other ∷ keys) = insert_step test key other keys (insert_key nat_cmp keys key) (any-insert_key test key keys) (nat_cmp key other) refl
-
--- an id stands among ids in order exactly where it stands in the list
-pub lives-ascending : (id : ℕ) (ids : List ℕ) → lives id (ascending ids) ≡ lives id ids
-lives-ascending id [] = refl
-lives-ascending id (one ∷ ids) = any-insert_key (λ other. eqb other id) one (ascending ids) ∙ ap (λ b. eqb one id || b) (lives-ascending id ids)
 
 -- the last of the elements up to an index, with those after it
 pub drop_last : {X : Type 0} (xs : List X) (index : ℕ) (d : X) → 0 < index → index ≤ length xs → drop (index - 1) xs ≡ get_or xs (index - 1) d ∷ drop index xs

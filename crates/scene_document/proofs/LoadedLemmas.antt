@@ -15,7 +15,7 @@ use Rattle.std.proofs.lemmas.Option.{slice_get-map}
 use Rattle.std.proofs.lemmas.List.{map-append, length-map}
 use Rattle.std.proofs.lemmas.List.Kept.{AllPairs-cons}
 use Rattle.std.proofs.lemmas.Map.Views.{All-insert_key}
-use Rattle.scene_document.proofs.IdLemmas.{lives-ascending}
+use Rattle.scene_rules.proofs.CallerLemmas.{lives-ascending}
 use Rattle.std.proofs.Math.Path.{fun_ext}
 use Rattle.std.proofs.lemmas.Slice.Eq.{bytes_eq-Decides}
 use Rattle.std.proofs.lemmas.List.Elements.{All-head, All-tail, All-cons, All-nil, All-map, All-weaker, All-same, All-append}
@@ -43,7 +43,8 @@ use Rattle.scene_rules.specs.Lawful.{IsKnownPart, IsLawful}
 use Rattle.scene_draft.specs.Drafts.{Draft, DraftPart, DraftEntity, DraftEntry, DraftCommand, spawn, kill, put, take}
 use Rattle.scene_document.specs.Documents.{listed_ids, systems_of, has_unknown_kind, has_double, has_id_past_next, dangles, part_dangles, has_unknown_system, has_taken_name, has_unknown_dependency, lacks_global, writes_reserved, refusal_of}
 use Rattle.scene_draft.specs.DraftViews.{named, plain_entity, plain_system, plain_draft, plain_asked, plain_list, facts_of, seen, config_seen, IsPlaced, IsAdmitted, IsReadable, IsDraft, IsMadeOf, IsMadeAs, IsOfBook, IsKnownDraft, Differ, AreApart, IsLawfulDraft}
-use Rattle.scene_document.specs.Openings.{part_in, part_among, global_among, ascending, first_scene, Resource, same_resource, staged, with_facts, systems_at, staged_systems, local_systems, command_of, commands_in, commands_for, frames_of}
+use Rattle.scene_rules.specs.Ids.{ascending}
+use Rattle.scene_document.specs.Openings.{part_in, part_among, global_among, first_scene, Resource, same_resource, staged, with_facts, systems_at, staged_systems, local_systems, command_of, commands_in, commands_for, frames_of}
 use Rattle.shred_plan.specs.Plan.{Added, order}
 use Rattle.shred_plan.specs.Laws.{systems_added}
 use Rattle.scene_rules.specs.Slots.{in_column, filled, HoldsOnly}

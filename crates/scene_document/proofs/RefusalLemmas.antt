@@ -28,11 +28,11 @@ use Rattle.scene_rules.specs.Laws.{refs_to}
 use Rattle.scene_draft.specs.Drafts.{Draft, system_of_entry, stores}
 use Rattle.scene_document.specs.Documents.{listed_ids, systems_of, declares_that, names_unknown, has_unknown_kind, has_double, has_id_past_next, dangles, part_dangles, has_unknown_system, has_taken_name, has_unknown_dependency, is_named, lacks_global, writes_reserved, refusal_of}
 use Rattle.scene_draft.specs.DraftViews.{named, plain_entity, plain_draft, systems_in, plain_part, plain_asked, plain_list, facts_of, IsPlaced, IsDraft}
-use Rattle.scene_document.specs.Openings.{ascending}
+use Rattle.scene_rules.specs.Ids.{ascending}
 use Rattle.scene_rules.specs.Lent.{texts, access_of}
 use Rattle.scene_document.specs.Refusals.{datum_dangles, entity_dangles, asks_unknown, stands_for, lacks_one, lacks_declared, is_unmade, made_that, entry_that, has_unknown, number_refusal, draft_refusal}
 use Rattle.scene_document.proofs.PlaceLemmas.{ids-plain}
-use Rattle.scene_document.proofs.IdLemmas.{lives-ascending}
+use Rattle.scene_rules.proofs.CallerLemmas.{lives-ascending}
 
 -- references to ids dangle where one of the ids is not listed
 pub dangle-refs_to : (ids wanted : List ℕ) → list_any (λ ref. not (ref_lives ids ref)) (refs_to wanted) ≡ list_any (λ id. not (lives id ids)) wanted

@@ -1,13 +1,12 @@
 -- The scene and the frames that a document gives.
 use Rattle.std.specs.Prelude.{◌==◌, ℕ, zero, suc, Bool, true, false, List, [], ◌∷◌, ◌++◌, map, slice_get, Option, Some, None, option_map, if◌then◌else◌}
 use Rattle.std.specs.List.{filter_map, find}
-use Rattle.std.specs.Ordering.{nat_cmp}
-use Rattle.std.specs.BTreeSet.{insert_key}
 use Rattle.std.specs.Str.{bytes_eq}
 use Rattle.scene_rules.specs.Parts.{Json, Name, Part}
 use Rattle.scene_rules.specs.Rulebook.{Book, Facts, Access, Command}
 use Rattle.scene_rules.specs.Rulebook as book
 use Rattle.scene_rules.specs.Scenes.{PlainScene, PlainSystem, PlainFrame}
+use Rattle.scene_rules.specs.Ids.{ascending}
 use Rattle.scene_draft.specs.Drafts.{Draft, DraftPart, DraftEntity, DraftSystem, DraftEntry, barrier, system, DraftCommand, spawn, kill, put, take}
 use Rattle.scene_document.specs.Documents.{listed_ids}
 use Rattle.shred_plan.specs.Plan.{Added, fence, placing, order}
@@ -28,11 +27,6 @@ abbrev pub global_among : List (Option (Name × Json)) → Name → Option Json
 global_among [] name = None
 global_among (None ∷ globals) name = global_among globals name
 global_among (Some global ∷ globals) name = if bytes_eq name global.0 then Some global.1 else global_among globals name
-
--- ids, ascending and each once
-abbrev pub ascending : List ℕ → List ℕ
-ascending [] = []
-ascending (id ∷ ids) = insert_key nat_cmp (ascending ids) id
 
 -- the scene that a document gives
 abbrev pub first_scene : Draft → PlainScene

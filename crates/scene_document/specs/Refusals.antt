@@ -19,7 +19,7 @@ use Rattle.scene_rules.specs.Lent.{access_of}
 use Rattle.scene_rules.specs.Commands.{ref_lives}
 use Rattle.scene_document.specs.Documents.{has_double, has_taken_name, has_unknown_dependency}
 use Rattle.scene_draft.specs.DraftViews.{systems_in}
-use Rattle.scene_document.specs.Openings.{ascending}
+use Rattle.scene_rules.specs.Ids.{ascending}
 
 -- a reference of a datum names none of the ids
 abbrev pub datum_dangles : {D : Type 0} → (D → Part) → List ℕ → Option (ℕ × D) → Bool

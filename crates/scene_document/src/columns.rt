@@ -7,7 +7,7 @@ ghost use Rattle.scene_draft.specs.Drafts.{Draft};
 ghost use Rattle.scene_document.specs.Documents.{refusal_of, has_double};
 ghost use Rattle.scene_draft.specs.DraftViews.{IsDraft};
 ghost use Rattle.scene_document.specs.Loading.{IsLoaded};
-ghost use Rattle.scene_document.specs.Openings.{ascending};
+ghost use Rattle.scene_rules.specs.Ids.{ascending};
 ghost use Rattle.scene_document.specs.Columns.{stored, first_at, datum_among};
 
 use crate::commands::commands_of;

@@ -72,7 +72,7 @@ members_more find names k d below =
 
 -- a name, read of the list at a place, puts in what the list of its names says of it
 module _ (names : List (Bor Name)) (listed : List Name) (same : texts names ≡ listed) (ascend : Ascend listed) where
-  entries_more : (entry : Name → Option ℕ → Option (Name × Json)) (k : ℕ) (unset : Bor Name) (before after : Members) → k < length names
+  pub entries_more : (entry : Name → Option ℕ → Option (Name × Json)) (k : ℕ) (unset : Bor Name) (before after : Members) → k < length names
       → before ≡ members_with (filter_map (λ name. entry name (place_of name listed)) (take k (texts names)))
       → after ≡ with_found (entry (get_or names k unset).now (Some k)) before
       → after ≡ members_with (filter_map (λ name. entry name (place_of name listed)) (take (k + 1) (texts names)))

@@ -5,7 +5,7 @@ use Rattle.std.specs.List.{list_any}
 use Rattle.scene_rules.specs.Parts.{is_among}
 use Rattle.scene_rules.specs.Rulebook.{Book, Command}
 use Rattle.scene_rules.specs.Scenes.{PlainScene, PlainSystem, Steps}
-use Rattle.scene.specs.Frames.{Queues, SystemsRun}
+use Rattle.scene_rules.specs.Frames.{Queues, SystemsRun}
 use Rattle.scene_laws.specs.Changes.{ChangesDeclared, ChangesDeclaredBy}
 
 -- what isn't put in stays

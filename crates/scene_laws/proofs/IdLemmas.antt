@@ -12,7 +12,7 @@ use Rattle.scene_rules.specs.Parts.{Name, Part, under}
 use Rattle.scene_rules.specs.Rulebook.{Book, Command, spawn, kill, put, take}
 use Rattle.scene_rules.specs.Scenes.{PlainScene, PlainSystem, PlainFrame, IdsFit, lives}
 use Rattle.scene_rules.specs.Commands.{Applied, changed, skipped, ids_spent, apply, refs_live, last_next, Played, played, spent, behind, go_on, play}
-use Rattle.scene.specs.Frames.{Queues, SystemsRun, all_commands, Accepts, Reaches}
+use Rattle.scene_rules.specs.Frames.{Queues, SystemsRun, all_commands, Accepts, Reaches}
 use Rattle.scene_laws.specs.Ids.{IdsGoOn, Gives, TakesAway}
 
 -- the scene that a command made, or another where it made none

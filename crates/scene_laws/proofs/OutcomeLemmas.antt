@@ -12,7 +12,7 @@ use Rattle.scene_draft.specs.Drafts.{Draft}
 use Rattle.scene_document.specs.Documents.{document_of}
 use Rattle.scene_document.specs.Openings.{first_scene, frames_of}
 use Rattle.scene_draft.specs.Texts.{text_of}
-use Rattle.scene.specs.Frames.{Reaches, Ended}
+use Rattle.scene_rules.specs.Frames.{Reaches, Ended}
 use Rattle.scene.specs.Runs.{CanBegin, Ran}
 use Rattle.scene.specs.Outcomes.{Bounds, IsRunOf}
 use Rattle.scene_laws.specs.OneOutcome.{OneOutcome, HadMemory, SameButPlace}

@@ -13,7 +13,7 @@ use Rattle.scene_rules.specs.Scenes.{PlainScene, PlainFrame}
 use Rattle.scene_rules.specs.Commands.{skips_of}
 use Rattle.scene_draft.specs.Drafts.{Draft}
 use Rattle.scene_document.specs.Openings.{first_scene, frames_of, commands_in}
-use Rattle.scene.specs.Frames.{Accepts, Refuses, Reaches, Ended}
+use Rattle.scene_rules.specs.Frames.{Accepts, Refuses, Reaches, Ended}
 use Rattle.scene.specs.Runs.{CanBegin, Ran}
 use Rattle.scene_laws.specs.OneOutcome.{OneOutcome, HadMemory}
 use Rattle.scene_laws.specs.Parts.{frames_behind, later_skip, later_skips, later_refused, joined, IsInTwoParts}

@@ -21,7 +21,8 @@ use Rattle.scene_rules.specs.Scenes.{PlainScene, lives}
 use Rattle.scene_rules.specs.Laws.{Ascend}
 use Rattle.scene_draft.specs.Drafts.{Draft, DraftEntity, items_list, members_list, each, part_under, global_under, entity_from, draft_from, DraftEntry, DraftCommand, entries_from, whole_32, commands_from}
 use Rattle.scene_document.specs.Documents.{listed_ids}
-use Rattle.scene_document.specs.Openings.{part_in, part_among, global_among, ascending, first_scene}
+use Rattle.scene_rules.specs.Ids.{ascending}
+use Rattle.scene_document.specs.Openings.{part_in, part_among, global_among, first_scene}
 use Rattle.scene_draft.specs.Texts.{members_with, entity_json, scene_json}
 use Rattle.scene_laws.specs.Printed.{CanBeRead, document_json}
 

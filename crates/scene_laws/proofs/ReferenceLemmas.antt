@@ -13,7 +13,7 @@ use Rattle.scene_rules.specs.Parts.{Name, Ref, living, gone, Part, is_among, und
 use Rattle.scene_rules.specs.Rulebook.{Book, Command, spawn, kill, put, take}
 use Rattle.scene_rules.specs.Scenes.{PlainScene, PlainSystem, PlainFrame, RefLives, with_left, lives}
 use Rattle.scene_rules.specs.Commands.{apply, changed, ref_lives, refs_live, without_ref, part_without, is_gone, holds_gone, first_gone}
-use Rattle.scene.specs.Frames.{Queues, SystemsRun, all_commands, Accepts, Reaches}
+use Rattle.scene_rules.specs.Frames.{Queues, SystemsRun, all_commands, Accepts, Reaches}
 use Rattle.scene_laws.specs.References.{RefsLiveUnder}
 use Rattle.scene_laws.proofs.IdLemmas.{spawn-makes, tested-makes, lives-filter, play-keeps, any-command}
 

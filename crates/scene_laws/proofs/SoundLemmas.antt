@@ -15,7 +15,7 @@ use Rattle.scene_rules.specs.Lawful.{IsKnownPart, IsLawful}
 use Rattle.scene_rules.specs.Scenes.{PlainScene, PlainSystem, PlainFrame, Steps, IsProper, IsDescribed, PartsStand, PartsOwned, PartsAdmitted, GlobalsReadable, RefsLive, fragment, with_left, lives}
 use Rattle.scene_rules.specs.Commands.{apply, changed, is_to, without_ref, part_without, is_gone, holds_gone, first_gone, refs_live}
 use Rattle.scene_rules.proofs.CallerLemmas.{admitted-fragment, living-fragment, readable-fragment, admitted-left, living-left, readable-left}
-use Rattle.scene.specs.Frames.{Queues, SystemsRun, entered, by_place, all_commands, Accepts}
+use Rattle.scene_rules.specs.Frames.{Queues, SystemsRun, entered, by_place, all_commands, Accepts}
 use Rattle.scene.specs.Engine.{AllLawful}
 use Rattle.scene.proofs.CallerLemmas.{lawful-entered, lawful-flat, All-both}
 use Rattle.scene_laws.specs.OneOutcome.{IsSoundFragment, OneOutcome, SameOutcome}

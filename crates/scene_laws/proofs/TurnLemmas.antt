@@ -14,7 +14,7 @@ use Rattle.scene_rules.specs.Parts.{Name, is_among}
 use Rattle.scene_rules.specs.Rulebook.{Book, Access, Fragment, Outcome, Command, leaves, refuses, fills}
 use Rattle.scene_rules.specs.Scenes.{PlainScene, PlainSystem, PlainFrame, Steps, fragment, with_left}
 use Rattle.scene_rules.specs.Commands.{Played, played, spent, play, first_gone, CommandsAccepted, CommandsRefused, skips_of}
-use Rattle.scene.specs.Frames.{Queues, SystemsRun, SystemsRefuse, SystemsFill, all_commands, Accepts, Refuses, Reaches, Ended}
+use Rattle.scene_rules.specs.Frames.{Queues, SystemsRun, SystemsRefuse, SystemsFill, all_commands, Accepts, Refuses, Reaches, Ended}
 use Rattle.scene_laws.specs.OneOutcome.{SameLeft, SameOutcome}
 use Rattle.scene_laws.proofs.IdLemmas.{led_to, skipped_in}
 

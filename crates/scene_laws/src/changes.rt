@@ -2,7 +2,7 @@
 ghost use Rattle.std.specs.Prelude.{List};
 ghost use Rattle.scene_rules.specs.Rulebook.{Command};
 ghost use Rattle.scene_rules.specs.Scenes.{PlainScene, PlainSystem, Steps};
-ghost use Rattle.scene.specs.Frames.{Queues, SystemsRun};
+ghost use Rattle.scene_rules.specs.Frames.{Queues, SystemsRun};
 ghost use Rattle.scene_laws.specs.Changes.{ChangesDeclared, ChangesDeclaredBy};
 
 use scene_rules::Rules;

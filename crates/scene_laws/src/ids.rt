@@ -9,7 +9,7 @@ ghost use Rattle.scene_rules.specs.declared.refusals.Report.{Report};
 ghost use Rattle.scene_draft.specs.Drafts.{Draft};
 ghost use Rattle.scene_document.specs.Documents.{document_of};
 ghost use Rattle.scene_document.specs.Openings.{first_scene, frames_of};
-ghost use Rattle.scene.specs.Frames.{Reaches};
+ghost use Rattle.scene_rules.specs.Frames.{Reaches};
 ghost use Rattle.scene.specs.Outcomes.{Bounds, IsRunOf};
 ghost use Rattle.scene_laws.specs.Parts.{frames_behind};
 ghost use Rattle.scene_laws.specs.Ids.{IdsGoOn, Gives, TakesAway};

@@ -6,7 +6,7 @@ ghost use Rattle.scene_rules.specs.declared.refusals.Skip.{Skip};
 ghost use Rattle.scene_draft.specs.Drafts.{Draft};
 ghost use Rattle.scene_document.specs.Openings.{first_scene};
 ghost use Rattle.scene_draft.specs.Texts.{text_of};
-ghost use Rattle.scene.specs.Frames.{Reaches};
+ghost use Rattle.scene_rules.specs.Frames.{Reaches};
 ghost use Rattle.scene.specs.Runs.{CanBegin, Ran};
 ghost use Rattle.scene_laws.specs.OneOutcome.{OneOutcome, HadMemory};
 ghost use Rattle.scene_laws.specs.Parts.{frames_behind, later_skips, joined, IsInTwoParts};

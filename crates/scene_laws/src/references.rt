@@ -2,7 +2,7 @@
 ghost use Rattle.std.specs.Prelude.{ℕ, List};
 ghost use Rattle.scene_rules.specs.Scenes.{PlainScene, PlainFrame, RefsLive};
 ghost use Rattle.scene_rules.specs.declared.refusals.Skip.{Skip};
-ghost use Rattle.scene.specs.Frames.{Accepts, Reaches};
+ghost use Rattle.scene_rules.specs.Frames.{Accepts, Reaches};
 ghost use Rattle.scene_laws.specs.References.{RefsLiveUnder, StandUnder};
 
 use scene_rules::Rules;

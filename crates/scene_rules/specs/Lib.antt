@@ -3,8 +3,10 @@ pub mod Parts
 pub mod Rulebook
 pub mod Lawful
 pub mod Scenes
+pub mod Ids
 pub mod Causes
 pub mod Commands
+pub mod Frames
 pub mod Slots
 pub mod Lent
 pub mod Laws

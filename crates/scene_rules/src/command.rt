@@ -80,6 +80,13 @@ impl<D: Drop> Queue<D> {
         }
     }
 
+    /// Lets all commands go; their room stays.
+    pub fn clear(&mut self)
+        ensures { waiting self.new ≡ [] }
+    {
+        self.commands.clear();
+    }
+
     /// The commands that wait, the first of them first.
     pub fn as_slice(&self) -> &[Command<D>]
         ensures { result.now ≡ waiting self.now }

@@ -2,7 +2,7 @@ use Rattle.std.proofs.Common.{◌≡◌, ◌<◌, refl, ◌∙◌, sym, ap, subs
 use Rattle.std.specs.List.Sorted.{IsStrictlySortedBy}
 use Rattle.std.specs.Ordering.{nat_cmp}
 use Rattle.std.proofs.lemmas.List.{length-map}
-use Rattle.scene_document.specs.Openings.{ascending}
+use Rattle.scene_rules.specs.Ids.{ascending}
 use Rattle.scene_document.proofs.LoadedLemmas.{IsLoaded-from_draft}
 use Rattle.scene_document.proofs.columns.into_loaded.Goals as goal
 

@@ -1,6 +1,6 @@
 use Rattle.std.proofs.Common.{arith, ◌≡◌, ◌∙◌, ◌+◌, refl, sym, subst, suc, Some}
 use Rattle.scene_document.specs.Loading.{frames_in, loaded_scene}
-use Rattle.scene.specs.Frames.{Refuses}
+use Rattle.scene_rules.specs.Frames.{Refuses}
 use Rattle.scene.proofs.TurnLemmas.{none_there, told_first}
 use Rattle.scene.proofs.frame.Scene.run_frame.Goals as goal
 
