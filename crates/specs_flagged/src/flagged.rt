@@ -36,6 +36,32 @@ impl<T, S> Model for FlaggedStorage<T, S> {
 }
 
 impl<T, S> FlaggedStorage<T, S> {
+    ghost use Rattle.std.specs.Prelude.{[], true};
+
+    /// A storage over a layout, with emission on and no reader. Takes no memory.
+    ///
+    /// Where the layout has a default, `try_default` makes one over that.
+    pub fn over(alloc: Global, inner: S) -> Self
+        ensures inner { result.inner ≡ inner }
+        ensures held { result.channel.held ≡ [] }
+        ensures places { result.channel.places ≡ [] }
+        ensures emission { result.emission ≡ true }
+    {
+        FlaggedStorage {
+            channel: EventChannel::new(alloc),
+            inner,
+            emission: true,
+            part: PhantomData,
+        }
+    }
+
+    /// The layout that holds the parts.
+    pub fn inner(&self) -> &S
+        ensures { result.now ≡ self.now.inner }
+    {
+        &self.inner
+    }
+
     /// Whether a change is told.
     fn is_telling(&self) -> bool
         ensures { result ≡ tells self.now }
@@ -54,12 +80,7 @@ impl<T, S: TryDefault> TryDefault for FlaggedStorage<T, S> {
 
     fn try_default(alloc: Global) -> Result<Self, &'static str> {
         match S::try_default(alloc) {
-            Ok(inner) => Ok(FlaggedStorage {
-                channel: EventChannel::new(alloc),
-                inner,
-                emission: true,
-                part: PhantomData,
-            }),
+            Ok(inner) => Ok(FlaggedStorage::over(alloc, inner)),
             Err(text) => Err(text),
         }
     }

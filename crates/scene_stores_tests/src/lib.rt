@@ -1,0 +1,8 @@
+//! Callers of a scene's storages and markers, the same in each layout, and rows of what they answer.
+#![tactic(auto)]
+
+pub mod course;
+#[cfg(test)]
+mod markers;
+#[cfg(test)]
+mod rows;
