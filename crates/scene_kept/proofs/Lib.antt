@@ -1,0 +1,4 @@
+pub mod IdLemmas
+pub mod PlaceLemmas
+pub mod KeptLemmas
+pub mod CallerLemmas

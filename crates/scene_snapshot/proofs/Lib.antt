@@ -1,0 +1,2 @@
+pub mod KeptTextLemmas
+pub mod CallerLemmas

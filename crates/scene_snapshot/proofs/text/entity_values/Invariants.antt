@@ -1,0 +1,11 @@
+use Rattle.std.proofs.Common.{◌≡◌, map, take}
+use Rattle.serde_json.specs.View.{view}
+use Rattle.scene_draft.specs.Texts.{entity_json}
+use Rattle.scene_snapshot.specs.KeptScenes.{kept_scene}
+use Rattle.scene_snapshot.proofs.KeptTextLemmas.{ids-in}
+use Rattle.scene_snapshot.proofs.text.entity_values.Given as goal
+
+-- the entities of the slots so far
+abbrev pub invariant-loop-id : goal.invariant-loop-id
+invariant-loop-id g l =
+    map view l.values.items ≡ map (entity_json (g.R.Rules.book l.rules) (kept_scene g.R.Rules.part_of g.R.Rules.global_of g.P.ByPlace.at_place g.V.ByPlace.at_place (g.R.Rules.book l.rules) l.kept)) (ids-in (take l.id-index l.slots))

@@ -1,0 +1,8 @@
+//! The scene that is kept, as a plain scene, and its text.
+#![tactic(auto)]
+
+pub mod by_place;
+pub mod text;
+
+pub use by_place::ByPlace;
+pub use text::kept_text;
