@@ -1,0 +1,85 @@
+//! Laws of a scene that stands in a world. The functions have no code; each contract is the law.
+ghost use Rattle.std.specs.Prelude.{◌≡◌, ◌==◌, ◌<◌, ℕ, true, false, List, map, Option, Some, None, option_map, All};
+ghost use Rattle.std.specs.Prelude.{if◌then◌else◌};
+ghost use Rattle.std.specs.List.{list_all};
+ghost use Rattle.shred_world.specs.declared.resource_id.ResourceId.{ResourceId};
+ghost use Rattle.shred_world.specs.Bundles.{Holding};
+ghost use Rattle.shred_stages.specs.Views.{cut, Leaves, merged};
+ghost use Rattle.specs_entity.specs.Births.{IsAlive};
+ghost use Rattle.specs_entity.specs.Life.{LifeAt};
+ghost use Rattle.scene_rules.specs.Parts.{Name, Part, gone, is_among, living, under};
+ghost use Rattle.scene_rules.specs.Rulebook.{Access, spawn, kill};
+ghost use Rattle.scene_rules.specs.Scenes.{fragment, with_left};
+ghost use Rattle.scene_rules.specs.Commands.{apply, changed, with_part, refs_live, last_next};
+ghost use Rattle.scene_world.specs.Stored.{Stored, part_under};
+ghost use Rattle.scene_world.specs.Rolls.{Roll, id_at, ids_in, ref_to, IsRoll};
+ghost use Rattle.scene_world.specs.Standing.{Kinds, Sight, IsWhole, seen_in, roll_of, plain_of, fragment_of};
+ghost use Rattle.scene_world.specs.Lent.{StandApart, AreKnown, IsLent, id_of_place, read_places, written_places};
+ghost use Rattle.scene_world.specs.Changes.{SetsPart, Buries, Bears};
+
+/// A stored entity that is alive, by its index and its generation, is a reference to the id that is marked at its index;
+/// any other is a reference to none any more, also where another entity lives at its index.
+pub fn an_entity_is_the_reference_to_its_id()
+    ensures alive { (roll : Roll) (entity : LifeAt) (id : ℕ) → IsAlive roll.births entity
+        → roll.marker entity.id ≡ Some id → ref_to roll entity ≡ living id }
+    ensures stale { (roll : Roll) (entity : LifeAt) → ¬ (IsAlive roll.births entity) → ref_to roll entity ≡ gone }
+{}
+
+/// Where no two values of a scene stand under one id, a system that declares the ids of what it reads and writes is
+/// lent just those; and the fragment that it sees there is the one of the scene that stands in the world.
+pub fn a_system_is_lent_its_fragment<V>()
+    ensures lent { (kinds : Kinds V) (access : Access) (position : ℕ) → StandApart kinds → AreKnown kinds access
+        → IsLent kinds access position (map (id_of_place kinds) (read_places access))
+        (map (id_of_place kinds) (written_places access position)) }
+    ensures fragment { (kinds : Kinds V) (access : Access) (position : ℕ) (reads writes : List ResourceId)
+        (w : Holding V) → IsLent kinds access position reads writes → IsWhole w
+        → fragment_of kinds access (cut reads writes w) ≡ fragment access (plain_of kinds (seen_in w)) }
+{}
+
+/// The scene that stands in a world once a system gave back what it was lent is the one before with what it left put
+/// in.
+pub fn what_comes_back_is_put_in<V>()
+    ensures { (kinds : Kinds V) (access : Access) (position : ℕ) (reads writes : List ResourceId)
+        (w after later : Holding V) → IsLent kinds access position reads writes → IsWhole w
+        → Leaves (cut reads writes w) after → ((id : ResourceId) → later id ≡ merged (after id) (w id))
+        → plain_of kinds (seen_in later) ≡ with_left access (fragment_of kinds access after)
+        (plain_of kinds (seen_in w)) }
+{}
+
+/// A part that is another at one index, or none any more, is so at the id of that index, and the scene is else as it
+/// was.
+pub fn a_part_at_an_index_is_one_at_its_id<V>()
+    ensures { (kinds : Kinds V) (w later : Sight V) (kind : Name) (id index : ℕ) (part : Option Stored)
+        → IsRoll (roll_of kinds w) → is_among kind kinds.part_names ≡ true → id_at (roll_of kinds w) index ≡ Some id
+        → SetsPart kinds kind index part w later
+        → plain_of kinds later ≡ record (plain_of kinds w) {
+          part = with_part id kind
+              (option_map (part_under (ref_to (roll_of kinds w))) part) (plain_of kinds w).part;
+        } }
+{}
+
+/// The death of an entity with its parts is the kill of its id: references to it are gone, and so they stay.
+pub fn a_death_is_a_kill<V>()
+    ensures roll { (kinds : Kinds V) (w later : Sight V) (id index : ℕ) → IsRoll (roll_of kinds w)
+        → id_at (roll_of kinds w) index ≡ Some id → Buries kinds index w later → IsRoll (roll_of kinds later) }
+    ensures scene { (kinds : Kinds V) (w later : Sight V) (id index : ℕ) → IsRoll (roll_of kinds w)
+        → id_at (roll_of kinds w) index ≡ Some id → Buries kinds index w later
+        → apply (kill id) (plain_of kinds w) ≡ changed (plain_of kinds later) }
+{}
+
+/// A birth under the id that comes next is a spawn of the parts that the entity is given, where no part named it
+/// before.
+pub fn a_birth_is_a_spawn<V>()
+    ensures roll { (kinds : Kinds V) (w later : Sight V) (entity : LifeAt) (parts : Name → Option Stored)
+        → IsRoll (roll_of kinds w) → All (λ id. id < (roll_of kinds w).noting.next) (ids_in (roll_of kinds w))
+        → Bears kinds entity parts w later → IsRoll (roll_of kinds later) }
+    ensures scene { (kinds : Kinds V) (w later : Sight V) (entity : LifeAt) (parts : Name → Option Stored)
+        (given : List (Name × Part)) → IsRoll (roll_of kinds w)
+        → All (λ id. id < (roll_of kinds w).noting.next) (ids_in (roll_of kinds w))
+        → Bears kinds entity parts w later
+        → list_all (λ entry. refs_live (plain_of kinds w).ids entry.1) given ≡ true
+        → ((roll_of kinds w).noting.next == last_next) ≡ false
+        → ((kind : Name) → under kind given ≡ (if is_among kind kinds.part_names
+        then option_map (part_under (ref_to (roll_of kinds w))) (parts kind) else None))
+        → apply (spawn given) (plain_of kinds w) ≡ changed (plain_of kinds later) }
+{}
