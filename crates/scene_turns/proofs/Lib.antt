@@ -1,0 +1,5 @@
+pub mod StepLemmas
+pub mod ChainLemmas
+pub mod PlacedLemmas
+pub mod WriteLemmas
+pub mod CallerLemmas

@@ -1,0 +1,2 @@
+pub mod DriftLemmas
+pub mod TurnLemmas
