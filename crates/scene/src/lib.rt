@@ -15,6 +15,6 @@ pub use runner::{RunError, run, run_to_end, run_with};
 pub use scene_devices::{Counted, CountedRead, CountedWrite, Faults};
 pub use scene_document::{Limits, LoadError};
 pub use scene_rules::{
-    Accessor, Command, DocRefusal, FrameRefusal, NotQueued, PlainView, Queue, ReadError, Report,
-    Rules, RunningTime, Skip, Skips, Stop, Text,
+    Accessor, Command, DocRefusal, DocumentRules, FrameRefusal, NotQueued, PlainView, Queue,
+    ReadError, Report, Rules, RunningTime, Skip, Skips, Stop, Text,
 };

@@ -6,11 +6,11 @@ ghost use Rattle.scene_rules.specs.Parts.{is_among};
 ghost use Rattle.scene_basics.specs.Names.{number_kinds};
 ghost use Rattle.serde_json.specs.Data.{null};
 ghost use Rattle.scene_basics.specs.Numbers.{part_of, json_of, signed_in};
-ghost use Rattle.scene_basics.specs.Systems.{basics, kind_of, system_named};
+ghost use Rattle.scene_basics.specs.Systems.{basics, facts_of, kind_of, system_named};
 
 use crate::data::{BasicSystem, Datum, G, HP, OWNER, POS, VEL};
 use crate::systems::turn;
-use scene::{Accessor, PlainView, Queue, ReadError, Rules, RunningTime, Stop};
+use scene::{Accessor, DocumentRules, PlainView, Queue, ReadError, Rules, RunningTime, Stop};
 use serde_json::Value;
 use std::alloc::{AllocError, Global};
 
@@ -55,7 +55,7 @@ fn is_number_kind(kind: &str) -> bool
     kind == HP || kind == POS || kind == VEL
 }
 
-impl Rules for Basics {
+impl DocumentRules for Basics {
     ghost use Rattle.scene_basics.specs.RuleLaws.{law-reads_admitted, law-reads_back, law-global_reads_back, law-no_float, law-no_global_float, law-kinds_ascend, law-globals_ascend, law-declares_known};
 
     type Data = Datum;
@@ -73,6 +73,12 @@ impl Rules for Basics {
     ghost kind_of = { kind_of };
 
     ghost config_of = { λ _. null };
+
+    ghost declared = { λ system. (facts_of system).access };
+
+    ghost said_time = { λ _. 3 };
+
+    ghost made_by = { λ _ _. Unit {0} };
 
     fn part_names(&self) -> &[&'static str] {
         &[HP, OWNER, POS, VEL]
@@ -134,7 +140,7 @@ impl Rules for Basics {
         }
     }
 
-    fn accessor(&self, alloc: Global, system: &BasicSystem) -> Result<Accessor, AllocError> {
+    fn accessor(system: &BasicSystem, alloc: Global) -> Result<Accessor, AllocError> {
         match *system {
             BasicSystem::Drift => Ok(Accessor {
                 reads: vec![in alloc; VEL]?,
@@ -174,20 +180,10 @@ impl Rules for Basics {
         }
     }
 
-    fn running_time(&self, _system: &BasicSystem) -> RunningTime
+    fn running_time(_system: &BasicSystem) -> RunningTime
         ensures { result ≡ RunningTime.Average }
     {
         RunningTime::Average
-    }
-
-    fn run<H: AllocGlobal>(
-        &self,
-        rt: &H,
-        system: &mut BasicSystem,
-        view: &mut PlainView<'_, Datum, i64>,
-        queue: &mut Queue<Datum>,
-    ) -> Result<(), Stop> {
-        turn(rt, *system, view, queue)
     }
 
     ghost kinds_ascend = { λ _. law-kinds_ascend };
@@ -209,4 +205,16 @@ impl Rules for Basics {
     ghost no_global_float = { law-no_global_float };
 
     ghost declares_known = { λ _. law-declares_known };
+}
+
+impl Rules for Basics {
+    fn run<H: AllocGlobal>(
+        &self,
+        rt: &H,
+        system: &mut BasicSystem,
+        view: &mut PlainView<'_, Datum, i64>,
+        queue: &mut Queue<Datum>,
+    ) -> Result<(), Stop> {
+        turn(rt, *system, view, queue)
+    }
 }

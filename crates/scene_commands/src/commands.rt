@@ -11,11 +11,11 @@ ghost use Rattle.scene_commands.specs.Over.{given, left, scene_over, IsOver, IsG
 
 use crate::changes::{Base, Changes, Done};
 use crate::living::{is_alive, refers_to_living};
-use scene_rules::{Command, Rules, place_in};
+use scene_rules::{Command, DocumentRules, place_in};
 use std::alloc::{AllocError, Global};
 
 /// Sets the slot of a living id under a kind.
-fn write<R: Rules>(
+fn write<R: DocumentRules>(
     rules: &R,
     base: &Base<'_, R::Data, R::Global>,
     changes: &mut Changes<R::Data>,
@@ -41,7 +41,7 @@ fn write<R: Rules>(
 }
 
 /// Takes the part of an id under a kind out.
-fn run_take<R: Rules>(
+fn run_take<R: DocumentRules>(
     rules: &R,
     base: &Base<'_, R::Data, R::Global>,
     changes: &mut Changes<R::Data>,
@@ -64,7 +64,7 @@ fn run_take<R: Rules>(
 }
 
 /// Puts a part at an id under a kind.
-fn run_put<R: Rules>(
+fn run_put<R: DocumentRules>(
     alloc: Global,
     rules: &R,
     base: &Base<'_, R::Data, R::Global>,
@@ -93,7 +93,7 @@ fn run_put<R: Rules>(
 }
 
 /// Takes an id out, with its parts.
-fn run_kill<R: Rules>(
+fn run_kill<R: DocumentRules>(
     _rules: &R,
     base: &Base<'_, R::Data, R::Global>,
     changes: &mut Changes<R::Data>,
@@ -114,7 +114,7 @@ fn run_kill<R: Rules>(
 }
 
 /// Whether all ids to which the parts refer live.
-fn all_refer_to_living<R: Rules>(
+fn all_refer_to_living<R: DocumentRules>(
     alloc: Global,
     rules: &R,
     ids: &[u64],
@@ -134,7 +134,7 @@ fn all_refer_to_living<R: Rules>(
 }
 
 /// Gives the next id, to an entity without parts.
-fn give_id<R: Rules>(
+fn give_id<R: DocumentRules>(
     _rules: &R,
     base: &Base<'_, R::Data, R::Global>,
     changes: &mut Changes<R::Data>,
@@ -151,7 +151,7 @@ fn give_id<R: Rules>(
 }
 
 /// Puts parts at an id that has none, the first of them last, so that it is the one of two under a kind that stays.
-fn put_parts<R: Rules>(
+fn put_parts<R: DocumentRules>(
     rules: &R,
     base: &Base<'_, R::Data, R::Global>,
     changes: &mut Changes<R::Data>,
@@ -179,7 +179,7 @@ fn put_parts<R: Rules>(
 }
 
 /// Spawns an entity with some parts, which gets the next id.
-fn run_spawn<R: Rules>(
+fn run_spawn<R: DocumentRules>(
     alloc: Global,
     rules: &R,
     base: &Base<'_, R::Data, R::Global>,
@@ -207,7 +207,7 @@ fn run_spawn<R: Rules>(
 }
 
 /// Runs a command.
-pub(crate) fn run_command<R: Rules>(
+pub(crate) fn run_command<R: DocumentRules>(
     alloc: Global,
     rules: &R,
     base: &Base<'_, R::Data, R::Global>,

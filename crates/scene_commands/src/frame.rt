@@ -14,12 +14,12 @@ use crate::changes::{Base, Changes, Done, Tally};
 use crate::commands::run_command;
 use crate::gone::find_gone;
 use crate::start::no_changes;
-use scene_rules::{Command, FrameRefusal, Queue, Rules, Skip};
+use scene_rules::{Command, DocumentRules, FrameRefusal, Queue, Skip};
 use std::alloc::Global;
 use std::collections::BTreeMap;
 
 /// Runs a command in its turn, and notes it where it is skipped.
-fn run_next<R: Rules>(
+fn run_next<R: DocumentRules>(
     alloc: Global,
     rules: &R,
     base: &Base<'_, R::Data, R::Global>,
@@ -61,7 +61,7 @@ fn run_next<R: Rules>(
 }
 
 /// Runs commands.
-fn run_list<R: Rules>(
+fn run_list<R: DocumentRules>(
     alloc: Global,
     rules: &R,
     base: &Base<'_, R::Data, R::Global>,
@@ -92,7 +92,7 @@ fn run_list<R: Rules>(
 }
 
 /// Runs the commands of queues, by position.
-fn run_queues<R: Rules>(
+fn run_queues<R: DocumentRules>(
     alloc: Global,
     rules: &R,
     base: &Base<'_, R::Data, R::Global>,
@@ -140,7 +140,7 @@ fn is_within<D: Drop>(limit: u32, commands: &[Command<D>], queues: &BTreeMap<u32
 }
 
 /// Runs the commands of a frame, and tells what they make of a scene and which of them were skipped.
-pub(crate) fn play_all<R: Rules>(
+pub(crate) fn play_all<R: DocumentRules>(
     alloc: Global,
     rules: &R,
     limit: u32,

@@ -5,7 +5,7 @@ ghost use Rattle.scene_rules.specs.Commands.{is_gone, holds_gone, first_gone};
 ghost use Rattle.scene_commands.specs.Over.{dead, cut, datum_over, scene_over, IsOver};
 
 use crate::changes::{Base, Changes};
-use scene_rules::{Rules, place_in};
+use scene_rules::{DocumentRules, place_in};
 use std::alloc::{AllocError, Global};
 
 /// Whether one of some ids was killed.
@@ -16,7 +16,7 @@ fn any_is_killed<D>(changes: &Changes<D>, refs: &[u64]) -> bool
 }
 
 /// Whether a slot holds a reference to an id that was killed.
-fn slot_holds_gone<R: Rules>(
+fn slot_holds_gone<R: DocumentRules>(
     alloc: Global,
     rules: &R,
     changes: &Changes<R::Data>,
@@ -33,7 +33,7 @@ fn slot_holds_gone<R: Rules>(
 }
 
 /// Whether what stands at an id under a kind holds a reference to an id that was killed.
-fn kind_holds_gone<R: Rules>(
+fn kind_holds_gone<R: DocumentRules>(
     alloc: Global,
     rules: &R,
     base: &Base<'_, R::Data, R::Global>,
@@ -58,7 +58,7 @@ fn kind_holds_gone<R: Rules>(
 }
 
 /// Whether an id lives and holds a reference to an id that was killed.
-fn entity_holds_gone<R: Rules>(
+fn entity_holds_gone<R: DocumentRules>(
     alloc: Global,
     rules: &R,
     base: &Base<'_, R::Data, R::Global>,
@@ -83,7 +83,7 @@ fn entity_holds_gone<R: Rules>(
 }
 
 /// The first of some ids that lives and holds a reference to an id that was killed.
-fn first_of<R: Rules>(
+fn first_of<R: DocumentRules>(
     alloc: Global,
     rules: &R,
     base: &Base<'_, R::Data, R::Global>,
@@ -104,7 +104,7 @@ fn first_of<R: Rules>(
 }
 
 /// The least id that holds a reference that is gone. Looks at no part where nothing was killed.
-pub(crate) fn find_gone<R: Rules>(
+pub(crate) fn find_gone<R: DocumentRules>(
     alloc: Global,
     rules: &R,
     base: &Base<'_, R::Data, R::Global>,

@@ -6,7 +6,7 @@ ghost use Rattle.scene_rules.specs.Commands.{refs_live};
 ghost use Rattle.scene_commands.specs.Over.{given, left, dead};
 
 use crate::changes::Changes;
-use scene_rules::Rules;
+use scene_rules::DocumentRules;
 use std::alloc::{AllocError, Global};
 
 /// Whether an id stands in an ascending list of ids.
@@ -40,7 +40,7 @@ fn are_alive<D>(ids: &[u64], changes: &Changes<D>, refs: &[u64]) -> bool
 }
 
 /// Whether all ids to which a datum refers live.
-pub(crate) fn refers_to_living<R: Rules>(
+pub(crate) fn refers_to_living<R: DocumentRules>(
     alloc: Global,
     rules: &R,
     ids: &[u64],

@@ -9,7 +9,7 @@ ghost use Rattle.scene_commands.specs.Over.{left, SameColumns, PutIn};
 use crate::changes::{Base, Changes};
 use crate::commit::{drop_ids, drop_killed, make_room, put_columns};
 use crate::frame::play_all;
-use scene_rules::{Columns, Command, FrameRefusal, Queue, Rules, Skip};
+use scene_rules::{Columns, Command, DocumentRules, FrameRefusal, Queue, Skip};
 use std::alloc::{AllocError, Global};
 use std::collections::BTreeMap;
 
@@ -61,7 +61,7 @@ fn write_in<D: Drop, G: Drop>(
 /// Errors: `TooManyCommands`, told before the first command runs, where there are more than `limit`; `IdsSpent`, where a
 /// spawn that is not skipped finds no id left; `GoneReference`, where a reference is gone when all are done, with the least id that
 /// holds one; `Memory`. Refused, the scene and the skips are as they were.
-pub fn run_commands<R: Rules>(
+pub fn run_commands<R: DocumentRules>(
     alloc: Global,
     rules: &R,
     limit: u32,

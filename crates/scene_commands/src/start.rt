@@ -5,12 +5,12 @@ ghost use Rattle.scene_rules.specs.Lending.{IsSound, scene_in};
 ghost use Rattle.scene_commands.specs.Over.{scene_over, IsOver};
 
 use crate::changes::{Base, Changes};
-use scene_rules::{Rules, empty_columns};
+use scene_rules::{DocumentRules, empty_columns};
 use std::alloc::{AllocError, Global};
 use std::collections::{BTreeMap, BTreeSet};
 
 /// Changes that leave a scene as it is.
-pub(crate) fn no_changes<R: Rules>(
+pub(crate) fn no_changes<R: DocumentRules>(
     alloc: Global,
     _rules: &R,
     base: &Base<'_, R::Data, R::Global>,

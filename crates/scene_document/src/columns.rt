@@ -14,7 +14,7 @@ use crate::commands::commands_of;
 use crate::loaded::Loaded;
 use crate::order::order_systems;
 use scene_draft::{DocumentDraft, EntityDraft};
-use scene_rules::{Columns, Rules, empty_columns, empty_places};
+use scene_rules::{Columns, DocumentRules, empty_columns, empty_places};
 use std::alloc::{AllocError, Global};
 use std::collections::{BTreeMap, BTreeSet};
 
@@ -127,7 +127,7 @@ fn put_global<G: Drop>(places: &mut Vec<Option<G>>, global: Option<(usize, G)>)
 /// What is loaded of a draft that no refusal stands against.
 ///
 /// Errors: for want of memory.
-pub fn into_loaded<R: Rules>(
+pub fn into_loaded<R: DocumentRules>(
     alloc: Global,
     rules: &R,
     draft: DocumentDraft<'_, R::Data, R::Global, R::System>,

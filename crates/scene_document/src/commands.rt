@@ -6,7 +6,7 @@ ghost use Rattle.scene_draft.specs.DraftViews.{plain_part, plain_asked, plain_li
 ghost use Rattle.scene_document.specs.Openings.{command_of};
 
 use scene_draft::CommandDraft;
-use scene_rules::{Command, Rules};
+use scene_rules::{Command, DocumentRules};
 use std::alloc::{AllocError, Global};
 
 /// Puts what there is to the others.
@@ -20,7 +20,7 @@ fn push_some<T: Drop>(list: &mut Vec<T>, found: Option<T>) -> Result<(), AllocEr
 }
 
 /// The parts whose kinds are known.
-fn known_parts<R: Rules>(
+fn known_parts<R: DocumentRules>(
     alloc: Global,
     parts: Vec<Option<(&'static str, R::Data)>>,
 ) -> Result<Vec<(&'static str, R::Data)>, AllocError>
@@ -35,7 +35,7 @@ fn known_parts<R: Rules>(
 }
 
 /// The command of a draft, where its kinds are known.
-fn command_of<R: Rules>(
+fn command_of<R: DocumentRules>(
     alloc: Global,
     draft: CommandDraft<R::Data>,
 ) -> Result<Option<Command<R::Data>>, AllocError>
@@ -52,7 +52,7 @@ fn command_of<R: Rules>(
 }
 
 /// The commands of a list, where their kinds are known.
-fn commands_of_list<R: Rules>(
+fn commands_of_list<R: DocumentRules>(
     alloc: Global,
     list: Vec<CommandDraft<R::Data>>,
 ) -> Result<Vec<Command<R::Data>>, AllocError>
@@ -69,7 +69,7 @@ fn commands_of_list<R: Rules>(
 /// The lists of commands, where their kinds are known.
 ///
 /// Errors: for want of memory.
-pub(crate) fn commands_of<R: Rules>(
+pub(crate) fn commands_of<R: DocumentRules>(
     alloc: Global,
     lists: Vec<Vec<CommandDraft<R::Data>>>,
 ) -> Result<Vec<Vec<Command<R::Data>>>, AllocError>

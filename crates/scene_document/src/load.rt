@@ -9,14 +9,14 @@ use crate::columns::into_loaded;
 use crate::loaded::{Limits, LoadError, Loaded};
 use crate::refusal::refusal;
 use scene_draft::{has_float, read_draft};
-use scene_rules::{DocRefusal, ReadError, Rules};
+use scene_rules::{DocRefusal, DocumentRules, ReadError};
 use serde_json::Value;
 use std::alloc::Global;
 
 /// Loads the document that a JSON is, where no refusal stands.
 ///
 /// Errors: `Document` with the least refusal that stands; `Memory`.
-pub fn load_document<R: Rules>(
+pub fn load_document<R: DocumentRules>(
     alloc: Global,
     rules: &R,
     limits: Limits,

@@ -14,7 +14,7 @@ use crate::columns::ids_of;
 use crate::loaded::Limits;
 use crate::names::{has_taken_name, has_unknown_dependency};
 use scene_draft::{CommandDraft, DocumentDraft, EntityDraft, EntryDraft};
-use scene_rules::{Accessor, DocRefusal, Rules};
+use scene_rules::{Accessor, DocRefusal, DocumentRules};
 use std::alloc::{AllocError, Global};
 use std::collections::BTreeSet;
 
@@ -87,7 +87,7 @@ fn lacks_id(ids: &BTreeSet<u64>, wanted: &[u64]) -> bool
 }
 
 /// Whether a datum refers to an id that is not listed.
-fn datum_dangles<R: Rules>(
+fn datum_dangles<R: DocumentRules>(
     alloc: Global,
     rules: &R,
     ids: &BTreeSet<u64>,
@@ -102,7 +102,7 @@ fn datum_dangles<R: Rules>(
     Ok(lacks_id(ids, &refs))
 }
 
-fn entity_dangles<R: Rules>(
+fn entity_dangles<R: DocumentRules>(
     alloc: Global,
     rules: &R,
     ids: &BTreeSet<u64>,
@@ -119,7 +119,7 @@ fn entity_dangles<R: Rules>(
 }
 
 /// Whether an entity refers to an id that is not listed.
-fn dangles<R: Rules>(
+fn dangles<R: DocumentRules>(
     alloc: Global,
     rules: &R,
     ids: &BTreeSet<u64>,
@@ -300,7 +300,7 @@ fn number_refusal<D: Drop, G: Drop, S: Drop>(
 }
 
 /// The least refusal for the entities of a draft, or none.
-fn entity_refusal<R: Rules>(
+fn entity_refusal<R: DocumentRules>(
     alloc: Global,
     rules: &R,
     draft: &DocumentDraft<'_, R::Data, R::Global, R::System>,
@@ -338,7 +338,7 @@ fn later_refusal<D: Drop, G: Drop, S: Drop>(
     }
 }
 
-fn draft_refusal<R: Rules>(
+fn draft_refusal<R: DocumentRules>(
     alloc: Global,
     rules: &R,
     limits: Limits,
@@ -356,7 +356,7 @@ fn draft_refusal<R: Rules>(
 /// The least refusal of a draft, or none.
 ///
 /// Errors: for want of memory.
-pub fn refusal<R: Rules>(
+pub fn refusal<R: DocumentRules>(
     alloc: Global,
     rules: &R,
     limits: Limits,

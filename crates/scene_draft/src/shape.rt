@@ -7,7 +7,7 @@ ghost use Rattle.scene_draft.specs.ShapeWords.{members_seen};
 ghost use Rattle.scene_rules.specs.declared.rules.ReadError.TheVariants.{Shape};
 
 use crate::draft::DocumentDraft;
-use scene_rules::{ReadError, Rules};
+use scene_rules::{DocumentRules, ReadError};
 use serde_json::{Map, Value};
 use std::alloc::Global;
 
@@ -24,7 +24,7 @@ use crate::shape::fields::{has_only_keys, read_frames, read_store, read_whole, r
 /// The draft that a JSON is, where its shape is right.
 ///
 /// Errors: `Shape` where it is none; `Memory`.
-pub fn read_draft<'a, R: Rules>(
+pub fn read_draft<'a, R: DocumentRules>(
     alloc: Global,
     rules: &R,
     value: &'a Value,

@@ -9,7 +9,7 @@ ghost use Rattle.scene_rules.specs.Slots.{in_column, filled};
 ghost use Rattle.scene_draft.specs.Texts.{parts_json, entity_json, globals_json, scene_json, text_of, ReadsBack};
 ghost use Rattle.scene_draft.specs.TextSteps.{with_found};
 
-use scene_rules::{Columns, Rules};
+use scene_rules::{Columns, DocumentRules};
 use serde_json::{Category, Map, Value, put};
 use std::alloc::{AllocError, Global};
 
@@ -86,7 +86,7 @@ fn members_have_float(members: &Map<String, Value>) -> bool
 /// text reads as that JSON, and as no other.
 ///
 /// Errors: memory was wanting.
-pub fn scene_text<R: Rules>(
+pub fn scene_text<R: DocumentRules>(
     alloc: Global,
     rules: &R,
     next: u64,
@@ -102,7 +102,7 @@ pub fn scene_text<R: Rules>(
 }
 
 // The JSON of a scene.
-fn scene_value<R: Rules>(
+fn scene_value<R: DocumentRules>(
     alloc: Global,
     rules: &R,
     next: u64,
@@ -122,7 +122,7 @@ fn scene_value<R: Rules>(
 }
 
 // The JSON of each entity, in the order of the ids.
-fn entity_values<R: Rules>(
+fn entity_values<R: DocumentRules>(
     alloc: Global,
     rules: &R,
     ids: &[u64],
@@ -139,7 +139,7 @@ fn entity_values<R: Rules>(
 }
 
 // The JSON of an entity.
-fn entity_value<R: Rules>(
+fn entity_value<R: DocumentRules>(
     alloc: Global,
     rules: &R,
     id: u64,
@@ -156,7 +156,7 @@ fn entity_value<R: Rules>(
 }
 
 // The parts of an entity that are there, under their kinds.
-fn parts_map<R: Rules>(
+fn parts_map<R: DocumentRules>(
     alloc: Global,
     rules: &R,
     id: u64,
@@ -174,7 +174,7 @@ fn parts_map<R: Rules>(
 }
 
 // Puts a datum under its kind, if there is one.
-fn put_part<R: Rules>(
+fn put_part<R: DocumentRules>(
     alloc: Global,
     rules: &R,
     map: &mut Map<String, Value>,
@@ -199,7 +199,7 @@ fn datum_at<D, G>(columns: &Columns<D, G>, place: usize, id: u64) -> Option<&D>
 }
 
 // The globals that have a value, under their names.
-fn globals_map<R: Rules>(
+fn globals_map<R: DocumentRules>(
     alloc: Global,
     rules: &R,
     columns: &Columns<R::Data, R::Global>,
@@ -216,7 +216,7 @@ fn globals_map<R: Rules>(
 }
 
 // Puts a global's value under its name, if there is one.
-fn put_global<R: Rules>(
+fn put_global<R: DocumentRules>(
     alloc: Global,
     rules: &R,
     map: &mut Map<String, Value>,

@@ -1,4 +1,4 @@
--- What the trait `Rules` asks of an implementation, beside the contracts of its calls.
+-- What the traits `DocumentRules` and `Rules` ask of an implementation, beside the contracts of its calls.
 use Rattle.std.specs.Prelude.{◌≡◌, ℕ, true, List, length, All, map, Option, Some, None, Result, MatchResult, AllPairs}
 use Rattle.std.specs.Cmp.Lexicographic.{slice_cmp}
 use Rattle.std.specs.Ordering.{nat_cmp}
@@ -23,10 +23,18 @@ IsReadingOf meaning expected result = MatchResult result (λ value. expected ≡
 abbrev pub refs_to : List ℕ → List Ref
 refs_to ids = map (λ id. living id) ids
 
--- a system of a kind with a configuration was made, or its kind is unknown
-abbrev pub IsMaking : {S : Type 0} → (S → Name) → (S → Json) → Name → Json → Described → Option S → Type 0
-IsMaking kind_of config_of kind config said None = said ≡ unknown
-IsMaking kind_of config_of kind config said (Some system) = (facts : Facts) × (said ≡ known facts) × (kind_of system ≡ kind) × (config_of system ≡ config)
+-- a system of a kind with a configuration was made, which says of itself what the rules know of it
+pub record IsMade {S : Type 0} (kind_of : S → Name) (config_of : S → Json) (declared : S → Access) (said_time : S → ℕ) (made : S → Type 0) (kind : Name) (config : Json) (facts : Facts) (system : S) : Type 0 where
+  pub made_so : made system
+  pub of_kind : kind_of system ≡ kind
+  pub with_config : config_of system ≡ config
+  pub access : declared system ≡ facts.access
+  pub time : said_time system ≡ facts.time
+
+-- so one was, or its kind is unknown
+abbrev pub IsMaking : {S : Type 0} → (S → Name) → (S → Json) → (S → Access) → (S → ℕ) → (S → Type 0) → Name → Json → Described → Option S → Type 0
+IsMaking kind_of config_of declared said_time made kind config said None = said ≡ unknown
+IsMaking kind_of config_of declared said_time made kind config said (Some system) = (facts : Facts) × (said ≡ known facts) × IsMade kind_of config_of declared said_time made kind config facts system
 
 -- what a stop says of a system's turn, which had put these commands in its queue: a refusal is one that the rules allow, a full
 -- queue is full of what they allow, and want of memory says nothing

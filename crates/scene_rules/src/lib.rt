@@ -1,11 +1,12 @@
 //! What a caller of the scene engine provides, its rules, and the turn of one system under them.
 //!
-//! `Rules` is the trait of the caller's parts, globals and systems, with what they mean to a document; `PlainView` is what a
-//! system is lent. `run_system` lends a system what it declares, runs it, and puts what it left of its written names back.
+//! `DocumentRules` is the trait of the caller's parts, globals and systems, with what they mean to a document; `Rules` adds
+//! systems that run over plain maps, and `PlainView` is what such a system is lent. `run_system` lends a system what it declares, runs it, and puts what it left of its written names back.
 #![tactic(auto)]
 
 mod access;
 mod command;
+mod documents;
 mod empty;
 mod placed;
 mod plain;
@@ -16,6 +17,7 @@ mod view;
 
 pub use access::Accessor;
 pub use command::{Command, NotQueued, Queue};
+pub use documents::DocumentRules;
 pub use empty::{empty_columns, empty_places};
 pub use placed::Placed;
 pub use plain::{Skips, Text};

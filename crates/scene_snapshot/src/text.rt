@@ -10,7 +10,7 @@ ghost use Rattle.scene_snapshot.specs.KeptScenes.{kept_scene, shown_parts, entit
 
 use crate::by_place::ByPlace;
 use scene_kept::Kept;
-use scene_rules::Rules;
+use scene_rules::DocumentRules;
 use serde_json::{Map, Value, put};
 use std::alloc::{AllocError, Global};
 
@@ -20,7 +20,7 @@ use std::alloc::{AllocError, Global};
 /// The text reads as that JSON, and as no other.
 ///
 /// Errors: memory was wanting.
-pub fn kept_text<R: Rules, P: ByPlace<R::Data>, V: ByPlace<R::Global>>(
+pub fn kept_text<R: DocumentRules, P: ByPlace<R::Data>, V: ByPlace<R::Global>>(
     alloc: Global,
     rules: &R,
     kept: &Kept<P, V>,
@@ -34,7 +34,7 @@ pub fn kept_text<R: Rules, P: ByPlace<R::Data>, V: ByPlace<R::Global>>(
 }
 
 // The JSON of the scene that is kept.
-fn kept_value<R: Rules, P: ByPlace<R::Data>, V: ByPlace<R::Global>>(
+fn kept_value<R: DocumentRules, P: ByPlace<R::Data>, V: ByPlace<R::Global>>(
     alloc: Global,
     rules: &R,
     kept: &Kept<P, V>,
@@ -52,7 +52,7 @@ fn kept_value<R: Rules, P: ByPlace<R::Data>, V: ByPlace<R::Global>>(
 }
 
 // The JSON of each entity, in the order of the ids.
-fn entity_values<R: Rules, P: ByPlace<R::Data>, V: ByPlace<R::Global>>(
+fn entity_values<R: DocumentRules, P: ByPlace<R::Data>, V: ByPlace<R::Global>>(
     alloc: Global,
     rules: &R,
     kept: &Kept<P, V>,
@@ -73,7 +73,7 @@ fn entity_values<R: Rules, P: ByPlace<R::Data>, V: ByPlace<R::Global>>(
 }
 
 // The JSON of an entity with these parts.
-fn entity_value<R: Rules, P: ByPlace<R::Data>>(
+fn entity_value<R: DocumentRules, P: ByPlace<R::Data>>(
     alloc: Global,
     rules: &R,
     id: u64,
@@ -90,7 +90,7 @@ fn entity_value<R: Rules, P: ByPlace<R::Data>>(
 }
 
 // The parts of an entity that are there, under their kinds.
-fn parts_map<R: Rules, P: ByPlace<R::Data>>(
+fn parts_map<R: DocumentRules, P: ByPlace<R::Data>>(
     alloc: Global,
     rules: &R,
     parts: &P,
@@ -107,7 +107,7 @@ fn parts_map<R: Rules, P: ByPlace<R::Data>>(
 }
 
 // Puts a datum under its kind, if there is one.
-fn put_part<R: Rules>(
+fn put_part<R: DocumentRules>(
     alloc: Global,
     rules: &R,
     map: &mut Map<String, Value>,
@@ -125,7 +125,7 @@ fn put_part<R: Rules>(
 }
 
 // The globals that have a value, under their names.
-fn globals_map<R: Rules, P: ByPlace<R::Data>, V: ByPlace<R::Global>>(
+fn globals_map<R: DocumentRules, P: ByPlace<R::Data>, V: ByPlace<R::Global>>(
     alloc: Global,
     rules: &R,
     kept: &Kept<P, V>,
@@ -142,7 +142,7 @@ fn globals_map<R: Rules, P: ByPlace<R::Data>, V: ByPlace<R::Global>>(
 }
 
 // Puts a global's value under its name, if there is one.
-fn put_global<R: Rules>(
+fn put_global<R: DocumentRules>(
     alloc: Global,
     rules: &R,
     map: &mut Map<String, Value>,

@@ -6,12 +6,12 @@ ghost use Rattle.serde_json.specs.Data.{null};
 ghost use Rattle.serde_json.specs.View.{view};
 ghost use Rattle.scene_rules.specs.Laws.{IsMaking};
 ghost use Rattle.scene_rules.specs.Rulebook.{misshapen};
-ghost use Rattle.scene_tests.specs.Founders.{founders, found_kind, seat_kind, era_name, blank, configured};
+ghost use Rattle.scene_tests.specs.Founders.{founders, found_kind, founding, seat_kind, era_name, blank, configured};
 ghost use Rattle.scene_tests.specs.FounderLaws.{law-one_ascends, law-blank_has_no_float, law-no_part_is_read, law-none_is_admitted, law-founding_is_known};
 
 use scene::{
-    Accessor, Counted, DocRefusal, PlainView, Queue, ReadError, Rules, RunError, RunningTime, Stop,
-    run,
+    Accessor, Counted, DocRefusal, DocumentRules, PlainView, Queue, ReadError, Rules, RunError,
+    RunningTime, Stop, run,
 };
 use serde_json::Value;
 use std::alloc::{AllocError, Global};
@@ -32,7 +32,8 @@ pub(crate) struct Found;
 
 /// The system `found` with a configuration, which has to be null.
 fn with_config(config: &Value) -> Result<Option<Found>, ReadError>
-    ensures { MatchResult result (IsMaking (λ _. found_kind) (λ _. null) found_kind (view config.now) (configured (view config.now)))
+    ensures { MatchResult result (IsMaking (λ _. found_kind) (λ _. null) (λ _. founding.access) (λ _. 3) (λ _. Unit {0})
+        found_kind (view config.now) (configured (view config.now)))
         (λ error. error ≡ ReadError.Shape → configured (view config.now) ≡ misshapen) }
 {
     if config.is_null() {
@@ -42,7 +43,7 @@ fn with_config(config: &Value) -> Result<Option<Found>, ReadError>
     }
 }
 
-impl Rules for Founders {
+impl DocumentRules for Founders {
     type Data = u64;
 
     type Global = u64;
@@ -58,6 +59,12 @@ impl Rules for Founders {
     ghost kind_of = { λ _. found_kind };
 
     ghost config_of = { λ _. null };
+
+    ghost declared = { λ _. founding.access };
+
+    ghost said_time = { λ _. 3 };
+
+    ghost made_by = { λ _ _. Unit {0} };
 
     fn part_names(&self) -> &[&'static str] {
         &[SEAT]
@@ -103,7 +110,7 @@ impl Rules for Founders {
         Ok(None)
     }
 
-    fn accessor(&self, alloc: Global, _system: &Found) -> Result<Accessor, AllocError> {
+    fn accessor(_system: &Found, alloc: Global) -> Result<Accessor, AllocError> {
         Ok(Accessor {
             reads: Vec::new(alloc),
             writes: Vec::new(alloc),
@@ -113,18 +120,8 @@ impl Rules for Founders {
         })
     }
 
-    fn running_time(&self, _system: &Found) -> RunningTime {
+    fn running_time(_system: &Found) -> RunningTime {
         RunningTime::Average
-    }
-
-    fn run<H: AllocGlobal>(
-        &self,
-        _rt: &H,
-        _system: &mut Found,
-        _view: &mut PlainView<'_, u64, u64>,
-        _queue: &mut Queue<u64>,
-    ) -> Result<(), Stop> {
-        Ok(())
     }
 
     ghost kinds_ascend = { λ _. law-one_ascends seat_kind };
@@ -146,6 +143,18 @@ impl Rules for Founders {
     ghost no_global_float = { Prim.search rules };
 
     ghost declares_known = { λ _. law-founding_is_known };
+}
+
+impl Rules for Founders {
+    fn run<H: AllocGlobal>(
+        &self,
+        _rt: &H,
+        _system: &mut Found,
+        _view: &mut PlainView<'_, u64, u64>,
+        _queue: &mut Queue<u64>,
+    ) -> Result<(), Stop> {
+        Ok(())
+    }
 }
 
 /// A system of the rules in a document, and the refusal of it.

@@ -12,12 +12,12 @@ ghost use Rattle.scene_basics.specs.Names.{hp_kind, g_name};
 ghost use Rattle.scene_basics.specs.Numbers.{part_of, json_of};
 ghost use Rattle.scene_basics.specs.Gains.{fragment_of};
 ghost use Rattle.scene_basics.specs.RuleLaws.{law-reads_admitted, law-reads_back, law-global_reads_back, law-no_float, law-no_global_float, law-kinds_ascend, law-globals_ascend};
-ghost use Rattle.scene_tests.specs.Leavers.{leavers, leave_kind, configured, HpGone, HpGoneIf, Left};
+ghost use Rattle.scene_tests.specs.Leavers.{leavers, leave_kind, leaving, configured, HpGone, HpGoneIf, Left};
 ghost use Rattle.scene_tests.specs.LeaverLaws.{law-leaving_is_known};
 
 use scene::{
-    Accessor, Counted, DocRefusal, FrameRefusal, PlainView, Queue, ReadError, Report, Rules,
-    RunError, RunningTime, Stop, run,
+    Accessor, Counted, DocRefusal, DocumentRules, FrameRefusal, PlainView, Queue, ReadError,
+    Report, Rules, RunError, RunningTime, Stop, run,
 };
 use scene_basics::Basics;
 use scene_basics::data::{Datum, G, HP};
@@ -40,8 +40,8 @@ const VALUE: i64 = 7;
 /// The system `leave` with a configuration, which says whether hp is to go.
 fn with_config(config: &Value) -> Result<Option<Leave>, ReadError>
     ensures { MatchResult result
-        (IsMaking (λ _. leave_kind) (λ leave. boolean leave.hp_goes) leave_kind (view config.now)
-        (configured (as_bool (view config.now))))
+        (IsMaking (λ _. leave_kind) (λ leave. boolean leave.hp_goes) (λ leave. (leaving leave.hp_goes).access) (λ _. 3)
+        (λ _. Unit {0}) leave_kind (view config.now) (configured (as_bool (view config.now))))
         (λ error. error ≡ ReadError.Shape → configured (as_bool (view config.now)) ≡ misshapen) }
 {
     match config.as_bool() {
@@ -91,7 +91,7 @@ fn turn(view: &mut PlainView<'_, Datum, i64>, hp_goes: bool) -> Result<(), Alloc
     view.set_global(G, VALUE)
 }
 
-impl Rules for Leavers {
+impl DocumentRules for Leavers {
     type Data = Datum;
 
     type Global = i64;
@@ -107,6 +107,12 @@ impl Rules for Leavers {
     ghost kind_of = { λ _. leave_kind };
 
     ghost config_of = { λ leave. boolean leave.hp_goes };
+
+    ghost declared = { λ leave. (leaving leave.hp_goes).access };
+
+    ghost said_time = { λ _. 3 };
+
+    ghost made_by = { λ _ _. Unit {0} };
 
     fn part_names(&self) -> &[&'static str] {
         Basics.part_names()
@@ -152,7 +158,7 @@ impl Rules for Leavers {
         Ok(None)
     }
 
-    fn accessor(&self, alloc: Global, system: &Leave) -> Result<Accessor, AllocError> {
+    fn accessor(system: &Leave, alloc: Global) -> Result<Accessor, AllocError> {
         if system.hp_goes {
             Ok(Accessor {
                 reads: Vec::new(alloc),
@@ -172,19 +178,8 @@ impl Rules for Leavers {
         }
     }
 
-    fn running_time(&self, _system: &Leave) -> RunningTime {
+    fn running_time(_system: &Leave) -> RunningTime {
         RunningTime::Average
-    }
-
-    fn run<H: AllocGlobal>(
-        &self,
-        _rt: &H,
-        system: &mut Leave,
-        view: &mut PlainView<'_, Datum, i64>,
-        _queue: &mut Queue<Datum>,
-    ) -> Result<(), Stop> {
-        turn(view, system.hp_goes)?;
-        Ok(())
     }
 
     ghost kinds_ascend = { λ _. law-kinds_ascend };
@@ -206,6 +201,19 @@ impl Rules for Leavers {
     ghost no_global_float = { law-no_global_float };
 
     ghost declares_known = { λ _. law-leaving_is_known };
+}
+
+impl Rules for Leavers {
+    fn run<H: AllocGlobal>(
+        &self,
+        _rt: &H,
+        system: &mut Leave,
+        view: &mut PlainView<'_, Datum, i64>,
+        _queue: &mut Queue<Datum>,
+    ) -> Result<(), Stop> {
+        turn(view, system.hp_goes)?;
+        Ok(())
+    }
 }
 
 /// What a run comes to.

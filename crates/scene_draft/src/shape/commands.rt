@@ -7,14 +7,14 @@ ghost use Rattle.scene_draft.specs.ShapeWords.{items_seen, members_seen, Reads, 
 
 use crate::draft::CommandDraft;
 use crate::shape::fields::{has_only_keys, known_name, read_text, read_whole};
-use scene_rules::{ReadError, Rules};
+use scene_rules::{DocumentRules, ReadError};
 use serde_json::{Map, Value};
 use std::alloc::Global;
 
 /// The lists of commands, the first for the first frame; there are none where nothing was found.
 ///
 /// Errors: `Shape` where it is no list, or one of it is no list of commands; `Memory`.
-pub(crate) fn read_commands<R: Rules>(
+pub(crate) fn read_commands<R: DocumentRules>(
     alloc: Global,
     rules: &R,
     found: Option<&Value>,
@@ -33,7 +33,7 @@ pub(crate) fn read_commands<R: Rules>(
     }
 }
 
-fn read_each_list<R: Rules>(
+fn read_each_list<R: DocumentRules>(
     alloc: Global,
     rules: &R,
     values: &[Value],
@@ -54,7 +54,7 @@ fn read_each_list<R: Rules>(
 /// The commands of a frame.
 ///
 /// Errors: `Shape` where it is no list, or one of it is no command; `Memory`.
-fn read_list<R: Rules>(
+fn read_list<R: DocumentRules>(
     alloc: Global,
     rules: &R,
     value: &Value,
@@ -70,7 +70,7 @@ fn read_list<R: Rules>(
     }
 }
 
-fn read_each_command<R: Rules>(
+fn read_each_command<R: DocumentRules>(
     alloc: Global,
     rules: &R,
     values: &[Value],
@@ -91,7 +91,7 @@ fn read_each_command<R: Rules>(
 /// A command: an object of one key.
 ///
 /// Errors: `Shape` where it is none; `Memory`.
-fn read_command<R: Rules>(
+fn read_command<R: DocumentRules>(
     alloc: Global,
     rules: &R,
     value: &Value,
@@ -107,7 +107,7 @@ fn read_command<R: Rules>(
     }
 }
 
-fn read_only<R: Rules>(
+fn read_only<R: DocumentRules>(
     alloc: Global,
     rules: &R,
     members: &Map<String, Value>,
@@ -129,7 +129,7 @@ fn read_only<R: Rules>(
 /// A command by its key.
 ///
 /// Errors: `Shape` where it is none; `Memory`.
-fn read_under<R: Rules>(
+fn read_under<R: DocumentRules>(
     alloc: Global,
     rules: &R,
     key: &str,
@@ -162,7 +162,7 @@ fn read_under<R: Rules>(
 /// The parts of a spawn, each under its kind.
 ///
 /// Errors: `Shape` where it is no object, or the rules do not read one of it; `Memory`.
-fn read_spawned<R: Rules>(
+fn read_spawned<R: DocumentRules>(
     alloc: Global,
     rules: &R,
     value: &Value,
@@ -179,7 +179,7 @@ fn read_spawned<R: Rules>(
     }
 }
 
-fn read_each_spawned<R: Rules>(
+fn read_each_spawned<R: DocumentRules>(
     alloc: Global,
     rules: &R,
     members: &Map<String, Value>,
@@ -201,7 +201,7 @@ fn read_each_spawned<R: Rules>(
 /// A part under the rules' own name of its kind, or none where the kind is unknown.
 ///
 /// Errors: `Shape` where the rules do not read it; `Memory`.
-fn read_known<R: Rules>(
+fn read_known<R: DocumentRules>(
     alloc: Global,
     rules: &R,
     kind: &str,
@@ -222,7 +222,7 @@ fn read_known<R: Rules>(
 /// A put: an id, a kind, and a part of that kind.
 ///
 /// Errors: `Shape` where it is none; `Memory`.
-fn read_put<R: Rules>(
+fn read_put<R: DocumentRules>(
     alloc: Global,
     rules: &R,
     value: &Value,
@@ -254,7 +254,7 @@ fn read_put<R: Rules>(
 /// A take: an id and a kind.
 ///
 /// Errors: `Shape` where it is none; `Memory`.
-fn read_take<R: Rules>(rules: &R, value: &Value) -> Result<CommandDraft<R::Data>, ReadError>
+fn read_take<R: DocumentRules>(rules: &R, value: &Value) -> Result<CommandDraft<R::Data>, ReadError>
     ensures { Reads
         (plain_asked R.part_of)
         (IsAsked R.part_of (R.book rules.now))

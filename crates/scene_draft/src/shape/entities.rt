@@ -7,14 +7,14 @@ ghost use Rattle.scene_draft.specs.ShapeWords.{items_seen, members_seen, Reads, 
 
 use crate::draft::EntityDraft;
 use crate::shape::fields::{has_only_keys, known_place, read_whole};
-use scene_rules::{ReadError, Rules};
+use scene_rules::{DocumentRules, ReadError};
 use serde_json::{Map, Value};
 use std::alloc::Global;
 
 /// The entities of a document.
 ///
 /// Errors: `Shape` where it is no list, or one of it is no entity; `Memory`.
-pub(crate) fn read_entities<R: Rules>(
+pub(crate) fn read_entities<R: DocumentRules>(
     alloc: Global,
     rules: &R,
     found: Option<&Value>,
@@ -33,7 +33,7 @@ pub(crate) fn read_entities<R: Rules>(
     }
 }
 
-fn read_each_entity<R: Rules>(
+fn read_each_entity<R: DocumentRules>(
     alloc: Global,
     rules: &R,
     values: &[Value],
@@ -54,7 +54,7 @@ fn read_each_entity<R: Rules>(
 /// An entity, of its id and its parts.
 ///
 /// Errors: `Shape` where it is none; `Memory`.
-fn read_entity<R: Rules>(
+fn read_entity<R: DocumentRules>(
     alloc: Global,
     rules: &R,
     value: &Value,
@@ -80,7 +80,7 @@ fn read_entity<R: Rules>(
 /// The parts of an entity, each at the place of its kind among the rules' kinds.
 ///
 /// Errors: `Shape` where there is no object, or the rules do not read one of it; `Memory`.
-fn read_parts<R: Rules>(
+fn read_parts<R: DocumentRules>(
     alloc: Global,
     rules: &R,
     found: Option<&Value>,
@@ -99,7 +99,7 @@ fn read_parts<R: Rules>(
     }
 }
 
-fn read_each_part<R: Rules>(
+fn read_each_part<R: DocumentRules>(
     alloc: Global,
     rules: &R,
     members: &Map<String, Value>,
@@ -120,7 +120,7 @@ fn read_each_part<R: Rules>(
 /// A part at the place of its kind, or none where the kind is unknown.
 ///
 /// Errors: `Shape` where the rules do not read it; `Memory`.
-fn read_part<R: Rules>(
+fn read_part<R: DocumentRules>(
     alloc: Global,
     rules: &R,
     kind: &str,
@@ -142,7 +142,7 @@ fn read_part<R: Rules>(
 /// was found.
 ///
 /// Errors: `Shape` where it is no object, or the rules do not read one of it; `Memory`.
-pub(crate) fn read_globals<R: Rules>(
+pub(crate) fn read_globals<R: DocumentRules>(
     alloc: Global,
     rules: &R,
     found: Option<&Value>,
@@ -161,7 +161,7 @@ pub(crate) fn read_globals<R: Rules>(
     }
 }
 
-fn read_each_global<R: Rules>(
+fn read_each_global<R: DocumentRules>(
     alloc: Global,
     rules: &R,
     members: &Map<String, Value>,
@@ -182,7 +182,7 @@ fn read_each_global<R: Rules>(
 /// A global at the place of its name, or none where the name is unknown.
 ///
 /// Errors: `Shape` where the rules do not read it; `Memory`.
-fn read_one_global<R: Rules>(
+fn read_one_global<R: DocumentRules>(
     alloc: Global,
     rules: &R,
     name: &str,

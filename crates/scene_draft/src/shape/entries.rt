@@ -8,14 +8,14 @@ ghost use Rattle.scene_draft.specs.ShapeWords.{items_seen, members_seen, entry_i
 
 use crate::draft::{EntryDraft, MadeDraft, SystemDraft};
 use crate::shape::fields::{has_only_keys, read_flag, read_name, read_names, read_text, says_true};
-use scene_rules::{ReadError, Rules};
+use scene_rules::{DocumentRules, ReadError};
 use serde_json::{Map, Value};
 use std::alloc::Global;
 
 /// The entries of the list of systems; there are none where nothing was found.
 ///
 /// Errors: `Shape` where it is no list, or one of it is no entry; `Memory`.
-pub(crate) fn read_entries<'a, R: Rules>(
+pub(crate) fn read_entries<'a, R: DocumentRules>(
     alloc: Global,
     rules: &R,
     found: Option<&'a Value>,
@@ -34,7 +34,7 @@ pub(crate) fn read_entries<'a, R: Rules>(
     }
 }
 
-fn read_each_entry<'a, R: Rules>(
+fn read_each_entry<'a, R: DocumentRules>(
     alloc: Global,
     rules: &R,
     values: &'a [Value],
@@ -55,7 +55,7 @@ fn read_each_entry<'a, R: Rules>(
 /// An entry: a barrier or a system.
 ///
 /// Errors: `Shape` where it is none; `Memory`.
-fn read_entry<'a, R: Rules>(
+fn read_entry<'a, R: DocumentRules>(
     alloc: Global,
     rules: &R,
     value: &'a Value,
@@ -95,7 +95,7 @@ fn has_entry_keys(members: &Map<String, Value>, local: bool) -> bool
 /// A system of an entry whose keys are known, made where its kind is known.
 ///
 /// Errors: `Shape` where it is none; `Memory`.
-fn read_system<'a, R: Rules>(
+fn read_system<'a, R: DocumentRules>(
     alloc: Global,
     rules: &R,
     value: &'a Value,
@@ -131,7 +131,7 @@ fn read_system<'a, R: Rules>(
 /// nothing was found.
 ///
 /// Errors: `Shape` where the configuration is none of that kind; `Memory`.
-fn make_system<R: Rules>(
+fn make_system<R: DocumentRules>(
     alloc: Global,
     rules: &R,
     kind: &str,
@@ -148,7 +148,7 @@ fn make_system<R: Rules>(
     }
 }
 
-fn make_configured<R: Rules>(
+fn make_configured<R: DocumentRules>(
     alloc: Global,
     rules: &R,
     kind: &str,
@@ -162,8 +162,8 @@ fn make_configured<R: Rules>(
     let Some(system) = rules.make_system(alloc, kind, config)? else {
         return Ok(None);
     };
-    let accessor = rules.accessor(alloc, &system)?;
-    let time = rules.running_time(&system);
+    let accessor = R::accessor(&system, alloc)?;
+    let time = R::running_time(&system);
     Ok(Some(MadeDraft {
         system,
         accessor,

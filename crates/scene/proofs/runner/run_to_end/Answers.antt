@@ -7,34 +7,34 @@ pub loop-scene-init : goal.loop-scene-init
 loop-scene-init g c = record {
   rules = refl;
   ready = c.requires.ready;
-  going = going_start (g.R.Rules.book (rules_of c.args.scene.now)) (shown_of g.R.Rules.part_of g.R.Rules.global_of g.R.Rules.kind_of g.R.Rules.config_of g.R.Rules.book c.args.scene.now) c.requires.start;
+  going = going_start (g.R.DocumentRules.book (rules_of c.args.scene.now)) (shown_of g.R.DocumentRules.part_of g.R.DocumentRules.global_of g.R.DocumentRules.kind_of g.R.DocumentRules.config_of g.R.DocumentRules.book c.args.scene.now) c.requires.start;
 }
 
 pub loop-scene-preserved : goal.loop-scene-preserved
 loop-scene-preserved g c =
-    let left : 0 < frames_left (shown_of g.R.Rules.part_of g.R.Rules.global_of g.R.Rules.kind_of g.R.Rules.config_of g.R.Rules.book c.loop-scene.scene) = omega (arith, c.left.ensures, c.loop-scene-test.true) in
+    let left : 0 < frames_left (shown_of g.R.DocumentRules.part_of g.R.DocumentRules.global_of g.R.DocumentRules.kind_of g.R.DocumentRules.config_of g.R.DocumentRules.book c.loop-scene.scene) = omega (arith, c.left.ensures, c.loop-scene-test.true) in
     record {
       rules = c.in-Ok.ensures.rules ∙ c.loop-scene.invariant.rules;
       ready = c.in-Ok.ensures.ready;
-      going = going_on (g.R.Rules.book (rules_of c.args.scene.now)) (shown_of g.R.Rules.part_of g.R.Rules.global_of g.R.Rules.kind_of g.R.Rules.config_of g.R.Rules.book c.args.scene.now) (shown_of g.R.Rules.part_of g.R.Rules.global_of g.R.Rules.kind_of g.R.Rules.config_of g.R.Rules.book c.loop-scene.scene) (shown_of g.R.Rules.part_of g.R.Rules.global_of g.R.Rules.kind_of g.R.Rules.config_of g.R.Rules.book c.run_frame.new.self) c.loop-scene.invariant.going left
-          (subst (λ one. Advances (g.R.Rules.book one) (shown_of g.R.Rules.part_of g.R.Rules.global_of g.R.Rules.kind_of g.R.Rules.config_of g.R.Rules.book c.loop-scene.scene) (shown_of g.R.Rules.part_of g.R.Rules.global_of g.R.Rules.kind_of g.R.Rules.config_of g.R.Rules.book c.run_frame.new.self)) c.loop-scene.invariant.rules c.in-Ok.ensures.ok);
+      going = going_on (g.R.DocumentRules.book (rules_of c.args.scene.now)) (shown_of g.R.DocumentRules.part_of g.R.DocumentRules.global_of g.R.DocumentRules.kind_of g.R.DocumentRules.config_of g.R.DocumentRules.book c.args.scene.now) (shown_of g.R.DocumentRules.part_of g.R.DocumentRules.global_of g.R.DocumentRules.kind_of g.R.DocumentRules.config_of g.R.DocumentRules.book c.loop-scene.scene) (shown_of g.R.DocumentRules.part_of g.R.DocumentRules.global_of g.R.DocumentRules.kind_of g.R.DocumentRules.config_of g.R.DocumentRules.book c.run_frame.new.self) c.loop-scene.invariant.going left
+          (subst (λ one. Advances (g.R.DocumentRules.book one) (shown_of g.R.DocumentRules.part_of g.R.DocumentRules.global_of g.R.DocumentRules.kind_of g.R.DocumentRules.config_of g.R.DocumentRules.book c.loop-scene.scene) (shown_of g.R.DocumentRules.part_of g.R.DocumentRules.global_of g.R.DocumentRules.kind_of g.R.DocumentRules.config_of g.R.DocumentRules.book c.run_frame.new.self)) c.loop-scene.invariant.rules c.in-Ok.ensures.ok);
     }
 
 pub returns-in-Err : goal.returns-in-Err
 returns-in-Err g c =
-    let left : 0 < frames_left (shown_of g.R.Rules.part_of g.R.Rules.global_of g.R.Rules.kind_of g.R.Rules.config_of g.R.Rules.book c.loop-scene.scene) = omega (arith, c.left.ensures, c.loop-scene-test.true) in
+    let left : 0 < frames_left (shown_of g.R.DocumentRules.part_of g.R.DocumentRules.global_of g.R.DocumentRules.kind_of g.R.DocumentRules.config_of g.R.DocumentRules.book c.loop-scene.scene) = omega (arith, c.left.ensures, c.loop-scene-test.true) in
     record {
       rules = c.in-Err.ensures.rules ∙ c.loop-scene.invariant.rules;
       ready = c.in-Err.ensures.ready;
-      end = ended_refused (g.R.Rules.book (rules_of c.args.scene.now)) (shown_of g.R.Rules.part_of g.R.Rules.global_of g.R.Rules.kind_of g.R.Rules.config_of g.R.Rules.book c.args.scene.now) (shown_of g.R.Rules.part_of g.R.Rules.global_of g.R.Rules.kind_of g.R.Rules.config_of g.R.Rules.book c.loop-scene.scene) (shown_of g.R.Rules.part_of g.R.Rules.global_of g.R.Rules.kind_of g.R.Rules.config_of g.R.Rules.book c.run_frame.new.self) c.loop-scene.invariant.going left
-          (subst (λ one. Stays (g.R.Rules.book one) (shown_of g.R.Rules.part_of g.R.Rules.global_of g.R.Rules.kind_of g.R.Rules.config_of g.R.Rules.book c.loop-scene.scene) (shown_of g.R.Rules.part_of g.R.Rules.global_of g.R.Rules.kind_of g.R.Rules.config_of g.R.Rules.book c.run_frame.new.self)) c.loop-scene.invariant.rules c.in-Err.ensures.err);
+      end = ended_refused (g.R.DocumentRules.book (rules_of c.args.scene.now)) (shown_of g.R.DocumentRules.part_of g.R.DocumentRules.global_of g.R.DocumentRules.kind_of g.R.DocumentRules.config_of g.R.DocumentRules.book c.args.scene.now) (shown_of g.R.DocumentRules.part_of g.R.DocumentRules.global_of g.R.DocumentRules.kind_of g.R.DocumentRules.config_of g.R.DocumentRules.book c.loop-scene.scene) (shown_of g.R.DocumentRules.part_of g.R.DocumentRules.global_of g.R.DocumentRules.kind_of g.R.DocumentRules.config_of g.R.DocumentRules.book c.run_frame.new.self) c.loop-scene.invariant.going left
+          (subst (λ one. Stays (g.R.DocumentRules.book one) (shown_of g.R.DocumentRules.part_of g.R.DocumentRules.global_of g.R.DocumentRules.kind_of g.R.DocumentRules.config_of g.R.DocumentRules.book c.loop-scene.scene) (shown_of g.R.DocumentRules.part_of g.R.DocumentRules.global_of g.R.DocumentRules.kind_of g.R.DocumentRules.config_of g.R.DocumentRules.book c.run_frame.new.self)) c.loop-scene.invariant.rules c.in-Err.ensures.err);
     }
 
 pub returns : goal.returns
 returns g c =
-    let none : frames_left (shown_of g.R.Rules.part_of g.R.Rules.global_of g.R.Rules.kind_of g.R.Rules.config_of g.R.Rules.book c.loop-scene.scene) ≡ 0 = omega (arith, c.left.ensures, c.loop-scene-test.false) in
+    let none : frames_left (shown_of g.R.DocumentRules.part_of g.R.DocumentRules.global_of g.R.DocumentRules.kind_of g.R.DocumentRules.config_of g.R.DocumentRules.book c.loop-scene.scene) ≡ 0 = omega (arith, c.left.ensures, c.loop-scene-test.false) in
     record {
       rules = c.loop-scene.invariant.rules;
       ready = c.loop-scene.invariant.ready;
-      end = ended_all (g.R.Rules.book (rules_of c.args.scene.now)) (shown_of g.R.Rules.part_of g.R.Rules.global_of g.R.Rules.kind_of g.R.Rules.config_of g.R.Rules.book c.args.scene.now) (shown_of g.R.Rules.part_of g.R.Rules.global_of g.R.Rules.kind_of g.R.Rules.config_of g.R.Rules.book c.loop-scene.scene) c.loop-scene.invariant.going none;
+      end = ended_all (g.R.DocumentRules.book (rules_of c.args.scene.now)) (shown_of g.R.DocumentRules.part_of g.R.DocumentRules.global_of g.R.DocumentRules.kind_of g.R.DocumentRules.config_of g.R.DocumentRules.book c.args.scene.now) (shown_of g.R.DocumentRules.part_of g.R.DocumentRules.global_of g.R.DocumentRules.kind_of g.R.DocumentRules.config_of g.R.DocumentRules.book c.loop-scene.scene) c.loop-scene.invariant.going none;
     }

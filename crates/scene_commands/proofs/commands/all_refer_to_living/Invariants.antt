@@ -6,4 +6,4 @@ use Rattle.scene_commands.specs.Over.{left}
 use Rattle.scene_commands.proofs.commands.all_refer_to_living.Given as goal
 
 abbrev pub invariant-loop-entry : goal.invariant-loop-entry
-invariant-loop-entry g l = list_all (λ entry. refs_live (left l.ids l.changes) entry.1) (map (plain_entry g.R.Rules.part_of) l.parts) ≡ list_all (λ entry. refs_live (left l.ids l.changes) entry.1) (map (plain_entry g.R.Rules.part_of) (drop l.entry-index l.parts))
+invariant-loop-entry g l = list_all (λ entry. refs_live (left l.ids l.changes) entry.1) (map (plain_entry g.R.DocumentRules.part_of) l.parts) ≡ list_all (λ entry. refs_live (left l.ids l.changes) entry.1) (map (plain_entry g.R.DocumentRules.part_of) (drop l.entry-index l.parts))

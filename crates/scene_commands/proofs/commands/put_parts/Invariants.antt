@@ -10,7 +10,7 @@ decreases-loop-rest g l = l.rest
 abbrev pub invariant-loop-rest : goal.invariant-loop-rest
 invariant-loop-rest g l = record {
   within : l.rest ≤ length l.parts;
-  over : IsOver g.R.Rules.part_of g.R.Rules.global_of (g.R.Rules.book l.rules) l.base.next l.base.ids.now l.base.columns.now l.changes;
+  over : IsOver g.R.DocumentRules.part_of g.R.DocumentRules.global_of (g.R.DocumentRules.book l.rules) l.base.next l.base.ids.now l.base.columns.now l.changes;
   same : left l.base.ids.now l.changes ≡ left l.base.ids.now l.initial.changes;
-  scene : (scene : PlainScene) → scene.next ≡ l.id → scene_over g.R.Rules.part_of g.R.Rules.global_of (g.R.Rules.book l.rules) l.base.ids.now l.base.columns.now l.initial.changes ≡ with_spawned [] scene → scene_over g.R.Rules.part_of g.R.Rules.global_of (g.R.Rules.book l.rules) l.base.ids.now l.base.columns.now l.changes ≡ with_spawned (map (plain_entry g.R.Rules.part_of) (drop l.rest l.parts)) scene;
+  scene : (scene : PlainScene) → scene.next ≡ l.id → scene_over g.R.DocumentRules.part_of g.R.DocumentRules.global_of (g.R.DocumentRules.book l.rules) l.base.ids.now l.base.columns.now l.initial.changes ≡ with_spawned [] scene → scene_over g.R.DocumentRules.part_of g.R.DocumentRules.global_of (g.R.DocumentRules.book l.rules) l.base.ids.now l.base.columns.now l.changes ≡ with_spawned (map (plain_entry g.R.DocumentRules.part_of) (drop l.rest l.parts)) scene;
 }

@@ -17,4 +17,4 @@ returns-clause-over g c = record {
 pub returns-clause-done : goal.returns-clause-done
 returns-clause-done g c =
     let alive : lives c.args.id (left c.args.base.now.ids.now c.args.changes.now) ≡ true = sym c.is_alive.ensures ∙ c.if-not-is_alive.false in
-    rw alive (ap (λ s. changed s) (sym (scene-kill g.R.Rules.part_of g.R.Rules.global_of (g.R.Rules.book c.args._rules.now) c.args.changes.now.next (given c.args.base.now.ids.now c.args.changes.now) (dead c.args.changes.now) (dead (record { next = c.args.changes.now.next; born = c.args.changes.now.born; killed = c.insert.new.self; parts = c.args.changes.now.parts })) c.args.changes.now.parts.items c.args.base.now.columns.now c.args.id (dead-insert c.args.id c.args.changes.now.killed c.insert.new.self c.in_ok-insert.ensures.updates.0))))
+    rw alive (ap (λ s. changed s) (sym (scene-kill g.R.DocumentRules.part_of g.R.DocumentRules.global_of (g.R.DocumentRules.book c.args._rules.now) c.args.changes.now.next (given c.args.base.now.ids.now c.args.changes.now) (dead c.args.changes.now) (dead (record { next = c.args.changes.now.next; born = c.args.changes.now.born; killed = c.insert.new.self; parts = c.args.changes.now.parts })) c.args.changes.now.parts.items c.args.base.now.columns.now c.args.id (dead-insert c.args.id c.args.changes.now.killed c.insert.new.self c.in_ok-insert.ensures.updates.0))))

@@ -8,6 +8,6 @@ use Rattle.scene_commands.proofs.frame.run_queues.Given as goal
 
 abbrev pub invariant-loop-queue : goal.invariant-loop-queue
 invariant-loop-queue g l = record {
-  over : IsOver g.R.Rules.part_of g.R.Rules.global_of (g.R.Rules.book l.rules) l.base.next l.base.ids.now l.base.columns.now l.changes;
-  ran : (before : List (Queue _)) × (l.initial.queue-iterator ≡ before ++ l.queue-iterator) × (l.tally.done ≡ l.initial.tally.done + length (flat_map (λ queue. plain_commands g.R.Rules.part_of (waiting queue)) before)) × RunsTo l.frame (l.initial.tally.done + 1) (flat_map (λ queue. plain_commands g.R.Rules.part_of (waiting queue)) before) (scene_over g.R.Rules.part_of g.R.Rules.global_of (g.R.Rules.book l.rules) l.base.ids.now l.base.columns.now l.initial.changes) (scene_over g.R.Rules.part_of g.R.Rules.global_of (g.R.Rules.book l.rules) l.base.ids.now l.base.columns.now l.changes) l.initial.tally.skips.items l.tally.skips.items;
+  over : IsOver g.R.DocumentRules.part_of g.R.DocumentRules.global_of (g.R.DocumentRules.book l.rules) l.base.next l.base.ids.now l.base.columns.now l.changes;
+  ran : (before : List (Queue _)) × (l.initial.queue-iterator ≡ before ++ l.queue-iterator) × (l.tally.done ≡ l.initial.tally.done + length (flat_map (λ queue. plain_commands g.R.DocumentRules.part_of (waiting queue)) before)) × RunsTo l.frame (l.initial.tally.done + 1) (flat_map (λ queue. plain_commands g.R.DocumentRules.part_of (waiting queue)) before) (scene_over g.R.DocumentRules.part_of g.R.DocumentRules.global_of (g.R.DocumentRules.book l.rules) l.base.ids.now l.base.columns.now l.initial.changes) (scene_over g.R.DocumentRules.part_of g.R.DocumentRules.global_of (g.R.DocumentRules.book l.rules) l.base.ids.now l.base.columns.now l.changes) l.initial.tally.skips.items l.tally.skips.items;
 }

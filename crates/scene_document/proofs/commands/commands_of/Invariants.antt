@@ -6,4 +6,4 @@ use Rattle.scene_document.specs.Openings.{command_of}
 use Rattle.scene_document.proofs.commands.commands_of.Given as goal
 
 abbrev pub invariant-loop-list : goal.invariant-loop-list
-invariant-loop-list g l = map (λ list. plain_commands g.R.Rules.part_of list.items) l.commands.items ≡ map (λ list. filter_map command_of (plain_list g.R.Rules.part_of list)) l.yielded
+invariant-loop-list g l = map (λ list. plain_commands g.R.DocumentRules.part_of list.items) l.commands.items ≡ map (λ list. filter_map command_of (plain_list g.R.DocumentRules.part_of list)) l.yielded

@@ -5,4 +5,4 @@ use Rattle.scene_draft.specs.DraftViews.{plain_part}
 use Rattle.scene_document.proofs.commands.known_parts.Given as goal
 
 abbrev pub invariant-loop-part : goal.invariant-loop-part
-invariant-loop-part g l = map (plain_entry g.R.Rules.part_of) l.known.items ≡ filter_map (λ part. part) (map (plain_part g.R.Rules.part_of) l.yielded)
+invariant-loop-part g l = map (plain_entry g.R.DocumentRules.part_of) l.known.items ≡ filter_map (λ part. part) (map (plain_part g.R.DocumentRules.part_of) l.yielded)

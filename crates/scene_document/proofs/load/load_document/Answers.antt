@@ -10,7 +10,7 @@ use Rattle.scene_document.proofs.load.load_document.Goals as goal
 -- the value reads as a draft that no refusal stands against
 pub returns-in_ok-into_loaded-in-None : goal.returns-in_ok-into_loaded-in-None
 returns-in_ok-into_loaded-in-None g c =
-    let book = g.R.Rules.book c.args.rules.now in
+    let book = g.R.DocumentRules.book c.args.rules.now in
     let json = view c.args.value.now in
     let indices = c.args.limits.indices in
     let plain = c.in-Ok.ensures.0 in
@@ -24,5 +24,5 @@ returns-in_ok-into_loaded-in-None g c =
 pub into_loaded-requires : goal.into_loaded-requires
 into_loaded-requires g c =
     let plain = c.in-Ok.ensures.0 in
-    few-entries g.R.Rules.part_of g.R.Rules.global_of g.R.Rules.kind_of g.R.Rules.config_of (g.R.Rules.book c.args.rules.now) c.args.limits.indices plain c.in-Ok.draft c.in-Ok.ensures.2
+    few-entries g.R.DocumentRules.part_of g.R.DocumentRules.global_of g.R.DocumentRules.kind_of g.R.DocumentRules.config_of (g.R.DocumentRules.book c.args.rules.now) c.args.limits.indices plain c.in-Ok.draft c.in-Ok.ensures.2
     (sym (c.in_ok-found.ensures plain c.in-Ok.ensures.2) ∙ c.in-None.is)

@@ -12,4 +12,4 @@ returns g c =
     c.lacks_id.ensures ∙ ap (λ wanted. list_any (λ id. not (lives id ids)) wanted) c.deref.ensures.value
     ∙ sym (dangle-refs_to ids c.in_ok-refs.refs.items)
     ∙ ap (λ refs. list_any (λ ref. not (ref_lives ids ref)) refs) c.in_ok-refs.ensures
-    ∙ sym (ap (datum_dangles g.R.Rules.part_of ids) c.in-Some.is)
+    ∙ sym (ap (datum_dangles g.R.DocumentRules.part_of ids) c.in-Some.is)

@@ -9,7 +9,7 @@ use Rattle.scene_document.proofs.refusal.refusal.Goals as goal
 
 pub returns : goal.returns
 returns g c =
-    let rules = g.R.Rules in
+    let rules = g.R.DocumentRules in
     let book = rules.book c.args.rules.now in
     let indices = c.args.limits.indices in
     let draft = c.args.draft.now in

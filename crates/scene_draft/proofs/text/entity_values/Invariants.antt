@@ -7,4 +7,4 @@ use Rattle.scene_draft.proofs.text.entity_values.Given as goal
 -- the entities of the ids so far
 abbrev pub invariant-loop-id : goal.invariant-loop-id
 invariant-loop-id g l =
-    map view l.values.items ≡ map (entity_json (g.R.Rules.book l.rules) (scene_in g.R.Rules.part_of g.R.Rules.global_of (g.R.Rules.book l.rules) 0 [] l.columns)) (take l.id-index l.ids)
+    map view l.values.items ≡ map (entity_json (g.R.DocumentRules.book l.rules) (scene_in g.R.DocumentRules.part_of g.R.DocumentRules.global_of (g.R.DocumentRules.book l.rules) 0 [] l.columns)) (take l.id-index l.ids)

@@ -10,4 +10,4 @@ use Rattle.scene_draft.proofs.text.globals_map.Given as goal
 -- the globals under the names so far
 abbrev pub invariant-loop-place : goal.invariant-loop-place
 invariant-loop-place g l =
-    members_view l.map.entries ≡ members_with (filter_map (global_entry (scene_in g.R.Rules.part_of g.R.Rules.global_of (g.R.Rules.book l.rules) 0 [] l.columns)) (take l.place (texts l.names)))
+    members_view l.map.entries ≡ members_with (filter_map (global_entry (scene_in g.R.DocumentRules.part_of g.R.DocumentRules.global_of (g.R.DocumentRules.book l.rules) 0 [] l.columns)) (take l.place (texts l.names)))

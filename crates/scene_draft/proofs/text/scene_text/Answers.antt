@@ -11,7 +11,7 @@ pub returns-clause-text : goal.returns-clause-text
 returns-clause-text g c =
     let json = view c.in_ok-scene_value.field-0 in
     IfOk-weaker c.to_vec.result _ _
-    (λ text written. scene_in-text g.R.Rules.part_of g.R.Rules.global_of g.met.R.Rules.no_float g.met.R.Rules.no_global_float (g.R.Rules.book c.args.rules.now) c.args.next c.args.ids.now c.args.columns.now
+    (λ text written. scene_in-text g.R.DocumentRules.part_of g.R.DocumentRules.global_of g.met.R.DocumentRules.no_float g.met.R.DocumentRules.no_global_float (g.R.DocumentRules.book c.args.rules.now) c.args.next c.args.ids.now c.args.columns.now
     json text.items c.in_ok-scene_value.ensures written)
     c.to_vec.ensures.text
 

@@ -5,4 +5,4 @@ pub returns : goal.returns
 returns g c =
     let rules = c.args.scene.now.rules in
     let loaded = c.args.scene.now.loaded in
-    can-be-read g.R.Rules.part_of g.R.Rules.global_of (g.R.Rules.book rules) loaded.next loaded.ids.items loaded.columns c.requires.sound (g.met.R.Rules.reads_back rules)
+    can-be-read g.R.DocumentRules.part_of g.R.DocumentRules.global_of (g.R.DocumentRules.book rules) loaded.next loaded.ids.items loaded.columns c.requires.sound (g.met.R.DocumentRules.reads_back rules)

@@ -9,11 +9,11 @@ use Rattle.scene_laws.proofs.resumed.finish.Goals as goal
 
 pub returns-clause-done : goal.returns-clause-done
 returns-clause-done g c =
-    let book = g.R.Rules.book in
+    let book = g.R.DocumentRules.book in
     let opened = c.in-Ok.ensures in
     let last = c.run_to_end.new.scene in
-    let started : Shown = shown_of g.R.Rules.part_of g.R.Rules.global_of g.R.Rules.kind_of g.R.Rules.config_of book c.in-Ok.scene in
-    let ended : Shown = shown_of g.R.Rules.part_of g.R.Rules.global_of g.R.Rules.kind_of g.R.Rules.config_of book last in
+    let started : Shown = shown_of g.R.DocumentRules.part_of g.R.DocumentRules.global_of g.R.DocumentRules.kind_of g.R.DocumentRules.config_of book c.in-Ok.scene in
+    let ended : Shown = shown_of g.R.DocumentRules.part_of g.R.DocumentRules.global_of g.R.DocumentRules.kind_of g.R.DocumentRules.config_of book last in
     let same : rules_of last ≡ c.args.rules = c.run_to_end.ensures.rules ∙ opened.same_rules in
     let ends : RunsOut (book c.args.rules) (opening c.args.limits.commands opened.document.0) ended =
     subst (λ start. RunsOut (book c.args.rules) start ended) opened.document.2 (subst (λ rules. RunsOut (book rules) started ended) opened.same_rules c.run_to_end.ensures.end) in
@@ -21,10 +21,10 @@ returns-clause-done g c =
       draft = opened.document.0;
       scene = ended.scene;
       document = opened.document.1;
-      begins = subst (λ rules. CanBegin (book rules) opened.document.0) opened.same_rules (can_begin g.R.Rules.part_of g.R.Rules.global_of g.R.Rules.kind_of g.R.Rules.config_of (book (rules_of c.in-Ok.scene)) c.in-Ok.scene.loaded opened.document.0 opened.ready (ap (λ shown. shown.scene) opened.document.2) (ap (λ shown. shown.frames) opened.document.2));
+      begins = subst (λ rules. CanBegin (book rules) opened.document.0) opened.same_rules (can_begin g.R.DocumentRules.part_of g.R.DocumentRules.global_of g.R.DocumentRules.kind_of g.R.DocumentRules.config_of (book (rules_of c.in-Ok.scene)) c.in-Ok.scene.loaded opened.document.0 opened.ready (ap (λ shown. shown.scene) opened.document.2) (ap (λ shown. shown.frames) opened.document.2));
       ran = subst (λ report. Ran (book c.args.rules) c.args.limits.commands opened.document.0 report ended.scene) (sym c.into_parts-rules.ensures.report) (ends.reached, ends.ended);
       memory = c.had_memory.ensures c.if-not-had_memory.false;
-      readable = subst (λ rules. CanBeRead (book rules) ended.scene) same (can-be-read g.R.Rules.part_of g.R.Rules.global_of (book (rules_of last)) last.loaded.next last.loaded.ids.items last.loaded.columns c.run_to_end.ensures.ready.sound (g.met.R.Rules.reads_back (rules_of last)));
+      readable = subst (λ rules. CanBeRead (book rules) ended.scene) same (can-be-read g.R.DocumentRules.part_of g.R.DocumentRules.global_of (book (rules_of last)) last.loaded.next last.loaded.ids.items last.loaded.columns c.run_to_end.ensures.ready.sound (g.met.R.DocumentRules.reads_back (rules_of last)));
       written = subst (λ rules. c.in_ok-text.text.items ≡ text_of (book rules) ended.scene) same c.in_ok-text.ensures.text;
       reads = subst (λ rules. ReadsBack c.in_ok-text.text.items (scene_json (book rules) ended.scene)) same c.in_ok-text.ensures.reads;
     }

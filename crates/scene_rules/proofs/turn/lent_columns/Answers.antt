@@ -18,5 +18,5 @@ loop-place-preserved g c =
     let declared : c.declares_kind-declared.result ≡ declares (access_of c.args.accessor.now) (name_at (texts c.args.names.now) c.loop-place.place) = grind (arith, common_steps) in
     record {
       len = search rules;
-      lent = λ k below. rw items (each_place-push (λ k one. IsLentColumn g.R.Rules.part_of (declares (access_of c.args.accessor.now) (name_at (texts c.args.names.now) k)) (slice_get c.args.columns.now k) one) c.loop-place.copies.items c.in_ok-copy.copy c.loop-place.invariant.lent (λ id. rw (place, kept, ← declared) (c.in_ok-copy.ensures id)) k (rw items at below));
+      lent = λ k below. rw items (each_place-push (λ k one. IsLentColumn g.R.DocumentRules.part_of (declares (access_of c.args.accessor.now) (name_at (texts c.args.names.now) k)) (slice_get c.args.columns.now k) one) c.loop-place.copies.items c.in_ok-copy.copy c.loop-place.invariant.lent (λ id. rw (place, kept, ← declared) (c.in_ok-copy.ensures id)) k (rw items at below));
     }

@@ -6,5 +6,5 @@ use Rattle.scene_rules.proofs.turn.lent_columns.Given as goal
 abbrev pub invariant-loop-place : goal.invariant-loop-place
 invariant-loop-place g l = record {
   len : vec_len l.copies ≡ l.place;
-  lent : LendsColumns g.R.Rules.part_of (access_of l.accessor) (texts l.names) l.columns l.copies.items;
+  lent : LendsColumns g.R.DocumentRules.part_of (access_of l.accessor) (texts l.names) l.columns l.copies.items;
 }

@@ -6,5 +6,5 @@ use Rattle.scene_rules.proofs.turn.lent_globals.Given as goal
 abbrev pub invariant-loop-place : goal.invariant-loop-place
 invariant-loop-place g l = record {
   len : vec_len l.copies ≡ l.place;
-  lent : LendsGlobals g.R.Rules.global_of (access_of l.accessor) (texts l.names) l.values l.copies.items;
+  lent : LendsGlobals g.R.DocumentRules.global_of (access_of l.accessor) (texts l.names) l.values l.copies.items;
 }

@@ -9,4 +9,4 @@ use Rattle.scene_snapshot.proofs.text.parts_map.Given as goal
 -- the parts under the names so far
 abbrev pub invariant-loop-place : goal.invariant-loop-place
 invariant-loop-place g l =
-    members_view l.map.entries ≡ members_with (filter_map (λ kind. option_map (λ one. (kind, one.json)) (shown_parts g.R.Rules.part_of g.P.ByPlace.at_place (g.R.Rules.book l.rules) l.parts kind)) (take l.place (texts l.names)))
+    members_view l.map.entries ≡ members_with (filter_map (λ kind. option_map (λ one. (kind, one.json)) (shown_parts g.R.DocumentRules.part_of g.P.ByPlace.at_place (g.R.DocumentRules.book l.rules) l.parts kind)) (take l.place (texts l.names)))

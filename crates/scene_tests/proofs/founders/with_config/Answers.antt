@@ -9,4 +9,4 @@ use Rattle.scene_tests.proofs.founders.with_config.Goals as goal
 pub returns-then-is_null : goal.returns-then-is_null
 returns-then-is_null c =
     let null : is_some (as_null (view c.args.config.now)) ≡ true = sym c.is_null.ensures ∙ c.if-is_null.true in
-    (founding, ap (λ b. cond b (known founding) misshapen) null, refl, plain-null (view c.args.config.now) null)
+    (founding, ap (λ b. cond b (known founding) misshapen) null, record { made_so = tt; of_kind = refl; with_config = plain-null (view c.args.config.now) null; access = refl; time = refl })

@@ -8,4 +8,4 @@ use Rattle.scene_tests.proofs.leavers.with_config.Goals as goal
 pub returns-in-Some : goal.returns-in-Some
 returns-in-Some c =
     let is : as_bool (view c.args.config.now) ≡ Some c.in-Some.hp_goes = sym c.as_bool.ensures ∙ c.in-Some.is in
-    (leaving c.in-Some.hp_goes, ap configured is, refl, plain-boolean (view c.args.config.now) c.in-Some.hp_goes is)
+    (leaving c.in-Some.hp_goes, ap configured is, record { made_so = tt; of_kind = refl; with_config = plain-boolean (view c.args.config.now) c.in-Some.hp_goes is; access = refl; time = refl })

@@ -14,7 +14,7 @@ returns-in-Err-clause-err g c =
       told = told_first _ c.args.self.now.report.refused (none_there c.args.self.now.report.refused (sym c.is_some.ensures ∙ c.if-is_some.false)) (
         c.in-Err.cause,
         record {
-          refused = subst (λ n. Refuses (g.R.Rules.book c.args.self.now.rules) c.args.self.now.limit (frames_in g.R.Rules.part_of g.R.Rules.kind_of g.R.Rules.config_of c.args.self.now.loaded n) (loaded_scene g.R.Rules.part_of g.R.Rules.global_of (g.R.Rules.book c.args.self.now.rules) c.args.self.now.loaded) c.in-Err.cause) more c.in-Err.ensures.frame;
+          refused = subst (λ n. Refuses (g.R.DocumentRules.book c.args.self.now.rules) c.args.self.now.limit (frames_in g.R.DocumentRules.part_of g.R.DocumentRules.kind_of g.R.DocumentRules.config_of c.args.self.now.loaded n) (loaded_scene g.R.DocumentRules.part_of g.R.DocumentRules.global_of (g.R.DocumentRules.book c.args.self.now.rules) c.args.self.now.loaded) c.in-Err.cause) more c.in-Err.ensures.frame;
           report = λ i. record { frames = c.args.self.now.report.frames; skips = skips i; refused = Some (more i, c.in-Err.cause) };
         },
       );

@@ -6,4 +6,4 @@ use Rattle.scene_draft.specs.ShapeWords.{items_seen, IsReadUpTo}
 use Rattle.scene_draft.proofs.shape.commands.read_each_command.Given as goal
 
 abbrev pub invariant-loop-value : goal.invariant-loop-value
-invariant-loop-value g l = IsReadUpTo (command_from (g.R.Rules.book l.rules)) (plain_asked g.R.Rules.part_of) (IsAsked g.R.Rules.part_of (g.R.Rules.book l.rules)) (items_seen l.values) (items_seen (drop l.value-index l.values)) l.list.items
+invariant-loop-value g l = IsReadUpTo (command_from (g.R.DocumentRules.book l.rules)) (plain_asked g.R.DocumentRules.part_of) (IsAsked g.R.DocumentRules.part_of (g.R.DocumentRules.book l.rules)) (items_seen l.values) (items_seen (drop l.value-index l.values)) l.list.items

@@ -7,4 +7,4 @@ use Rattle.scene_draft.specs.ShapeWords.{items_seen, IsReadUpTo}
 use Rattle.scene_draft.proofs.shape.commands.read_each_list.Given as goal
 
 abbrev pub invariant-loop-value : goal.invariant-loop-value
-invariant-loop-value g l = IsReadUpTo (command_list_from (g.R.Rules.book l.rules)) (plain_list g.R.Rules.part_of) (λ list. All (IsAsked g.R.Rules.part_of (g.R.Rules.book l.rules)) list.items) (items_seen l.values) (items_seen (drop l.value-index l.values)) l.lists.items
+invariant-loop-value g l = IsReadUpTo (command_list_from (g.R.DocumentRules.book l.rules)) (plain_list g.R.DocumentRules.part_of) (λ list. All (IsAsked g.R.DocumentRules.part_of (g.R.DocumentRules.book l.rules)) list.items) (items_seen l.values) (items_seen (drop l.value-index l.values)) l.lists.items

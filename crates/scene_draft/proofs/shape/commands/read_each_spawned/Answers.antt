@@ -9,16 +9,16 @@ use Rattle.scene_draft.proofs.shape.commands.read_each_spawned.Goals as goal
 
 pub loop-kind-preserved : goal.loop-kind-preserved
 loop-kind-preserved g c =
-    let book = g.R.Rules.book c.args.rules.now in
-    let part_of = g.R.Rules.part_of in
+    let book = g.R.DocumentRules.book c.args.rules.now in
+    let part_of = g.R.DocumentRules.part_of in
     let part = c.in_ok-part.part in
     let found = subst (λ text. (part_under book (text, view c.in-Some.value.now) ≡ Some (plain_part part_of part)) × IsKnownDraft book (plain_part part_of part)) c.as_str.ensures.value c.in_ok-part.ensures in
     rw c.in_ok-push.ensures.items (read_turn _ _ _ _ _ _ _ _ _ c.loop-kind.invariant (ap members_seen c.in-Some.ensures.steps) found)
 
 pub returns : goal.returns
 returns g c =
-    let book = g.R.Rules.book c.args.rules.now in
-    let meaning = plain_part g.R.Rules.part_of in
+    let book = g.R.DocumentRules.book c.args.rules.now in
+    let meaning = plain_part g.R.DocumentRules.part_of in
     let parts = c.loop-kind.parts.items in
     let entries = c.args.members.now.entries in
     let read : each (part_under book) (members_seen entries) ≡ Some (map meaning parts) =

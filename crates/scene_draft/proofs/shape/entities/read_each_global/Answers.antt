@@ -8,7 +8,7 @@ use Rattle.scene_draft.proofs.shape.entities.read_each_global.Goals as goal
 
 pub loop-name-preserved : goal.loop-name-preserved
 loop-name-preserved g c =
-    let book = g.R.Rules.book c.args.rules.now in
+    let book = g.R.DocumentRules.book c.args.rules.now in
     let global = c.in_ok-global.global in
-    let found = subst (λ text. (global_under book (text, view c.in-Some.value.now) ≡ Some ((named g.R.Rules.global_of (g.R.Rules.book c.args.rules.now).global_names) global)) × (IsPlaced (length (g.R.Rules.book c.args.rules.now).global_names)) global) c.as_str.ensures.value c.in_ok-global.ensures in
+    let found = subst (λ text. (global_under book (text, view c.in-Some.value.now) ≡ Some ((named g.R.DocumentRules.global_of (g.R.DocumentRules.book c.args.rules.now).global_names) global)) × (IsPlaced (length (g.R.DocumentRules.book c.args.rules.now).global_names)) global) c.as_str.ensures.value c.in_ok-global.ensures in
     rw c.in_ok-push.ensures.items (read_turn _ _ _ _ _ _ _ _ _ c.loop-name.invariant (ap members_seen c.in-Some.ensures.steps) found)

@@ -5,4 +5,4 @@ use Rattle.scene_draft.specs.ShapeWords.{members_seen, IsReadUpTo}
 use Rattle.scene_draft.proofs.shape.entities.read_each_global.Given as goal
 
 abbrev pub invariant-loop-name : goal.invariant-loop-name
-invariant-loop-name g l = IsReadUpTo (global_under (g.R.Rules.book l.rules)) (named g.R.Rules.global_of (g.R.Rules.book l.rules).global_names) (IsPlaced (length (g.R.Rules.book l.rules).global_names)) (members_seen l.fn.members.entries) (members_seen l.name-iterator) l.globals.items
+invariant-loop-name g l = IsReadUpTo (global_under (g.R.DocumentRules.book l.rules)) (named g.R.DocumentRules.global_of (g.R.DocumentRules.book l.rules).global_names) (IsPlaced (length (g.R.DocumentRules.book l.rules).global_names)) (members_seen l.fn.members.entries) (members_seen l.name-iterator) l.globals.items

@@ -8,7 +8,7 @@ use Rattle.scene_draft.proofs.shape.entities.read_each_part.Goals as goal
 
 pub loop-kind-preserved : goal.loop-kind-preserved
 loop-kind-preserved g c =
-    let book = g.R.Rules.book c.args.rules.now in
+    let book = g.R.DocumentRules.book c.args.rules.now in
     let part = c.in_ok-part.part in
-    let found = subst (λ text. (part_under book (text, view c.in-Some.value.now) ≡ Some ((named g.R.Rules.part_of (g.R.Rules.book c.args.rules.now).part_names) part)) × (IsPart g.R.Rules.part_of (g.R.Rules.book c.args.rules.now)) part) c.as_str.ensures.value c.in_ok-part.ensures in
+    let found = subst (λ text. (part_under book (text, view c.in-Some.value.now) ≡ Some ((named g.R.DocumentRules.part_of (g.R.DocumentRules.book c.args.rules.now).part_names) part)) × (IsPart g.R.DocumentRules.part_of (g.R.DocumentRules.book c.args.rules.now)) part) c.as_str.ensures.value c.in_ok-part.ensures in
     rw c.in_ok-push.ensures.items (read_turn _ _ _ _ _ _ _ _ _ c.loop-kind.invariant (ap members_seen c.in-Some.ensures.steps) found)

@@ -5,4 +5,4 @@ use Rattle.scene_draft.specs.ShapeWords.{items_seen, IsReadUpTo}
 use Rattle.scene_draft.proofs.shape.entries.read_each_entry.Given as goal
 
 abbrev pub invariant-loop-value : goal.invariant-loop-value
-invariant-loop-value g l = IsReadUpTo (entry_from (g.R.Rules.book l.rules)) (plain_draft) (IsOfBook g.R.Rules.kind_of g.R.Rules.config_of (g.R.Rules.book l.rules)) (items_seen l.values) (items_seen (drop l.value-index l.values)) l.entries.items
+invariant-loop-value g l = IsReadUpTo (entry_from (g.R.DocumentRules.book l.rules)) (plain_draft) (IsOfBook g.R.DocumentRules.kind_of g.R.DocumentRules.config_of (g.R.DocumentRules.book l.rules)) (items_seen l.values) (items_seen (drop l.value-index l.values)) l.entries.items

@@ -3,7 +3,7 @@ use Rattle.std.specs.Int.{w64}
 use Rattle.scene_basics.specs.declared.data.Datum.{Datum}
 use Rattle.scene_basics.specs.Numbers.{part_of, admits}
 use Rattle.scene_basics.specs.RuleLaws.{admits-counting}
-use Rattle.scene_basics.proofs.rules.BasicsRules.admits.Goals as goal
+use Rattle.scene_basics.proofs.rules.BasicsDocumentRules.admits.Goals as goal
 
 pub returns-in-Whole : goal.returns-in-Whole
 returns-in-Whole c =
