@@ -2,6 +2,7 @@
 pub use Rattle.scene_world.specs.Standing
 pub use Rattle.scene_world.specs.Lent
 pub mod Places
+pub mod Putting
 pub mod Turns
 pub mod Chains
 pub mod Writes

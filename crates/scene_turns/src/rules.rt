@@ -1,65 +1,42 @@
 //! The rules of a scene, whose systems run over a world of entities.
-ghost use Rattle.std.specs.Prelude.{◌≡◌, [], IfOk};
-ghost use Rattle.shred_plan.specs.Plan.{units_of};
+ghost use Rattle.std.specs.Prelude.{◌≡◌, ◌<◌, ◌++◌, [], length, map, Some, None, IfOk, OnOk, OnErr, IfSome, IsTrue, option_copied, option_map};
 ghost use Rattle.shred_stages.specs.Views.{Leaves, error_of};
+ghost use Rattle.scene_rules.specs.Parts.{living, is_among};
 
 use crate::SceneValue;
-use scene_rules::{Accessor, Queue};
-use shred_plan::RunningTime;
+use scene_rules::{DocumentRules, Queue};
+use scene_stores::Store;
 use shred_stages::Stop;
-use shred_world::{Holder, ResourceId};
+use shred_world::{Holder, ResourceId, World};
+use specs_entity::Entity;
 use std::alloc::{AllocError, Global};
 
-/// The caller's parts, globals and systems, and what they mean, over a world.
+/// Rules over a world: where the parts and globals of documents stand there, how they are put in and read, and systems
+/// that run over what they are lent of it.
 ///
-/// The ghost member `book` says what the rules mean to a document. A system carries its own meaning, for a dispatcher
-/// owns it apart from the rules that made it: `kind_of`, `config_of` and `declared` are what a document says of it,
-/// `sense` what it knows of its rules, and `does` what it may make of what it is lent. `columns` says where the parts
-/// and globals stand in a world, and what is read there.
-pub trait Rules: Sized {
+/// `columns` says where the parts and globals stand, and what is read there. A system carries its own meaning, for a
+/// dispatcher owns it apart from the rules that made it: `sense` is what it knows of its rules, and `does` what it may
+/// make of what it is lent.
+pub trait Rules: DocumentRules {
     ghost use Rattle.std.specs.Prelude.{ℕ};
-    ghost use Rattle.scene_rules.specs.Parts.{Json, Name, Part};
-    ghost use Rattle.scene_rules.specs.Rulebook.{Access, Book, Fragment, Outcome};
-    ghost use Rattle.scene_rules.specs.Lent.{access_of};
+    ghost use Rattle.scene_rules.specs.Parts.{Name};
+    ghost use Rattle.scene_rules.specs.Rulebook.{Fragment, Outcome};
     ghost use Rattle.scene_rules.specs.Queues.{waiting, plain_commands};
     ghost use Rattle.scene_world.specs.Lent.{StandApart};
     ghost use Rattle.scene_turns.specs.Places.{Columns, kinds_of};
-    ghost use Rattle.scene_turns.specs.Turns.{Sense, Runs, meaning_of};
+    ghost use Rattle.scene_turns.specs.Putting.{named_in, PutsIn, TakesOut, SameColumn, part_read, Registers, AreNamedIn};
+    ghost use Rattle.scene_turns.specs.Turns.{Sense, Runs, IsOfBook, meaning_of};
 
     /// What a world holds.
     type Value: SceneValue<Self::Data>;
 
-    /// Plain data of a part; a reference in it is an id.
-    type Data: Drop;
-
-    /// A system with its configuration.
-    type System: Drop;
-
-    /// What the rules mean.
-    ghost book: { Self → Book };
-
-    /// The part that a datum is.
-    ghost part_of: { Self.Data → Part };
-
     /// Where parts and globals stand, and what is read there.
     ghost columns: { Columns Self.Value };
 
-    /// The kind of a system.
-    ghost kind_of: { Self.System → Name };
-
-    /// Its configuration.
-    ghost config_of: { Self.System → Json };
-
-    /// What it declares.
-    ghost declared: { Self.System → Access };
-
-    /// How many units of time it is said to run.
-    ghost said_time: { Self.System → ℕ };
-
-    /// What it knows of its rules.
+    /// What a system knows of its rules.
     ghost sense: { Self.System → Sense };
 
-    /// What it may make of what it is lent.
+    /// What a system may make of what it is lent.
     ghost does: { Self.System → Fragment → Outcome → Type 0 };
 
     /// Where the parts of a kind of the rules stand: under a kind number of their own and the dynamic number 0.
@@ -70,15 +47,74 @@ pub trait Rules: Sized {
     fn global_id(name: &str) -> ResourceId
         ensures { result ≡ columns.global_id name.now };
 
-    /// What a system declares.
+    /// Puts an empty storage of each kind of the rules into a world, in the layout of this store, in place of what
+    /// stands there.
+    ///
+    /// Errors: want of memory; some of them may stand in the world then.
+    fn register(
+        world: &mut World<Self::Value>,
+        store: Store,
+        alloc: Global,
+    ) -> Result<(), AllocError>
+        ensures { OnOk result (Registers columns world.old world.new) };
+
+    /// Puts a part in at an index, in place of the one that is there, with these entities as those that it refers to.
+    ///
+    /// Errors: want of memory, and where the value or the datum isn't of that kind; the parts are as they were.
+    fn put(
+        value: &mut Self::Value,
+        kind: &str,
+        index: u32,
+        datum: &Self::Data,
+        named: &[Entity],
+    ) -> Result<(), AllocError>
+        requires within { index < 16777216 }
+        requires as_many { length named.now ≡ length (Self.part_of datum.now).refs }
+        ensures ok { OnOk result (PutsIn (columns.stored kind.now) index (Self.part_of datum.now) named.now
+            value.old value.new) }
+        ensures err { OnErr result (SameColumn (columns.stored kind.now) value.old value.new) };
+
+    /// Takes the part at an index out, if there is one.
+    ///
+    /// Errors: want of memory; the parts are as they were.
+    fn take(value: &mut Self::Value, kind: &str, index: u32) -> Result<(), AllocError>
+        ensures ok { OnOk result (TakesOut (columns.stored kind.now) index value.old value.new) }
+        ensures err { OnErr result (SameColumn (columns.stored kind.now) value.old value.new) };
+
+    /// Puts the entities that the part at an index refers to behind others, in their order; none if there is no part.
     ///
     /// Errors: want of memory.
-    fn accessor(system: &Self::System, alloc: Global) -> Result<Accessor, AllocError>
-        ensures { IfOk result (λ accessor. access_of accessor ≡ declared system.now) };
+    fn named_at(
+        value: &Self::Value,
+        kind: &str,
+        index: u32,
+        named: &mut Vec<Entity>,
+    ) -> Result<(), AllocError>
+        ensures { OnOk result (named.new.items ≡ named.old.items
+            ++ named_in (columns.stored kind.now value.now index)) };
 
-    /// How long a system is said to run.
-    fn running_time(system: &Self::System) -> RunningTime
-        ensures { units_of result ≡ said_time system.now };
+    /// The part at an index, if there is one, where the entities that it refers to have these ids.
+    ///
+    /// Errors: want of memory.
+    fn get(
+        value: &Self::Value,
+        kind: &str,
+        index: u32,
+        ids: &[u64],
+        alloc: Global,
+    ) -> Result<Option<Self::Data>, AllocError>
+        requires as_many { length ids.now ≡ length (named_in (columns.stored kind.now value.now index)) }
+        ensures { IfOk result (λ datum. option_map Self.part_of datum
+            ≡ option_map (part_read ids.now) (columns.stored kind.now value.now index)) };
+
+    /// The value that a global stands in a world as.
+    fn to_value(name: &str, global: Self::Global) -> Self::Value
+        requires known { IsTrue (is_among name.now columns.global_names) }
+        ensures { columns.value name.now result ≡ Some (Self.global_of global) };
+
+    /// The global that a value is, if it is one under that name.
+    fn as_global<'a>(name: &str, value: &'a Self::Value) -> Option<&'a Self::Global>
+        ensures { option_map Self.global_of (option_copied result) ≡ columns.value name.now value.now };
 
     /// Runs a system on what it is lent of a world, with an empty queue for its commands.
     ///
@@ -95,11 +131,18 @@ pub trait Rules: Sized {
         queue: &mut Queue<Self::Data>,
     ) -> Result<(), Stop>
         requires empty { waiting queue.old ≡ [] }
-        ensures runs { Runs (kinds_of ⟦<Self::Value as SceneValue<Self::Data>>⟧.places part_of columns)
-            (meaning_of 0 kind_of config_of declared sense does) system.old (W.slots view.old)
-            (error_of result) system.new (W.slots view.new) (plain_commands part_of (waiting queue.new)) }
+        ensures runs { Runs (kinds_of ⟦<Self::Value as SceneValue<Self::Data>>⟧.places Self.part_of columns)
+            (meaning_of 0 Self.kind_of Self.config_of Self.declared sense does) system.old (W.slots view.old)
+            (error_of result) system.new (W.slots view.new) (plain_commands Self.part_of (waiting queue.new)) }
         ensures leaves { Leaves (W.slots view.old) (W.slots view.new) };
 
+    /// The parts and globals are those of the rules.
+    ghost named_so: { (rules : Self) → AreNamedIn columns (Self.book rules) };
+
     /// No two of the values of a scene stand under one id.
-    ghost apart: { StandApart (kinds_of ⟦<Self::Value as SceneValue<Self::Data>>⟧.places part_of columns) };
+    ghost apart: { StandApart (kinds_of ⟦<Self::Value as SceneValue<Self::Data>>⟧.places Self.part_of columns) };
+
+    /// A system that rules made knows what they are, and does what they say of its kind and configuration.
+    ghost of_book: { (rules : Self) (system : Self.System) → Self.made_by rules system
+        → IsOfBook (meaning_of 0 Self.kind_of Self.config_of Self.declared sense does) (Self.book rules) system };
 }

@@ -1,5 +1,5 @@
 //! What a world of a scene holds beside the parts and globals of its rules.
-ghost use Rattle.std.specs.Prelude.{◌≡◌, Some, IfOk, IfErr};
+ghost use Rattle.std.specs.Prelude.{◌≡◌, ℕ, Some, None, IfOk, IfErr, IfSome, IfNone, option_copied};
 ghost use Rattle.std.specs.Option.{option_and_then};
 ghost use Rattle.shred_world.specs.ResourceIds.{id_of};
 ghost use Rattle.scene_stores.specs.Markers.{marker_at};
@@ -79,6 +79,48 @@ pub trait SceneValue<D: Drop>: Sized {
     fn unwrap_queue(value: Self) -> Result<Queue<D>, Self>
         ensures queue { IfOk result (λ queue. places.queue value ≡ Some queue) }
         ensures handed_back { IfErr result (λ other. other ≡ value) };
+
+    /// The entities that a value holds, if it holds them.
+    fn entities(value: &Self) -> Option<&EntitiesRes>
+        ensures { option_copied result ≡ places.births value.now };
+
+    /// The value that holds entities.
+    fn wrap_entities(entities: EntitiesRes) -> Self
+        ensures { places.births result ≡ Some entities };
+
+    /// Takes the entities out of a value, or hands back a value that holds none.
+    fn unwrap_entities(value: Self) -> Result<EntitiesRes, Self>
+        ensures entities { IfOk result (λ entities. places.births value ≡ Some entities) }
+        ensures handed_back { IfErr result (λ other. other ≡ value) };
+
+    /// The markers that a value holds, if it holds them.
+    fn markers(value: &Self) -> Option<&MaskedStorage<SceneMarker>>
+        ensures some { IfSome result (λ markers. (index : ℕ)
+            → places.marker value.now index ≡ marker_at markers.now index) }
+        ensures none { IfNone result ((index : ℕ) → places.marker value.now index ≡ None) };
+
+    /// The value that holds markers.
+    fn wrap_markers(markers: MaskedStorage<SceneMarker>) -> Self
+        ensures { (index : ℕ) → places.marker result index ≡ marker_at markers index };
+
+    /// Takes the markers out of a value, or hands back a value that holds none.
+    fn unwrap_markers(value: Self) -> Result<MaskedStorage<SceneMarker>, Self>
+        ensures markers { IfOk result (λ markers. (index : ℕ)
+            → places.marker value index ≡ marker_at markers index) }
+        ensures handed_back { IfErr result (λ other. other ≡ value) };
+
+    /// The allocator of ids that a value holds, if it holds it.
+    fn allocator(value: &Self) -> Option<&SceneMarkerAllocator>
+        ensures { option_copied result ≡ places.noting value.now };
+
+    /// The value that holds an allocator of ids.
+    fn wrap_allocator(allocator: SceneMarkerAllocator) -> Self
+        ensures { places.noting result ≡ Some allocator };
+
+    /// Takes the allocator of ids out of a value, or hands back a value that holds none.
+    fn unwrap_allocator(value: Self) -> Result<SceneMarkerAllocator, Self>
+        ensures allocator { IfOk result (λ allocator. places.noting value ≡ Some allocator) }
+        ensures handed_back { IfErr result (λ other. other ≡ value) };
 }
 
 impl<V: QueueValue<D> + Drop, D: Drop> SceneValue<D> for V
@@ -125,5 +167,41 @@ where
 
     fn unwrap_queue(value: V) -> Result<Queue<D>, V> {
         <V as QueueValue<D>>::unwrap_queue(value)
+    }
+
+    fn entities(value: &V) -> Option<&EntitiesRes> {
+        <EntitiesRes as Resource<V>>::view(value)
+    }
+
+    fn wrap_entities(entities: EntitiesRes) -> V {
+        entities.wrap()
+    }
+
+    fn unwrap_entities(value: V) -> Result<EntitiesRes, V> {
+        <EntitiesRes as Resource<V>>::unwrap(value)
+    }
+
+    fn markers(value: &V) -> Option<&MaskedStorage<SceneMarker>> {
+        <MaskedStorage<SceneMarker> as Resource<V>>::view(value)
+    }
+
+    fn wrap_markers(markers: MaskedStorage<SceneMarker>) -> V {
+        markers.wrap()
+    }
+
+    fn unwrap_markers(value: V) -> Result<MaskedStorage<SceneMarker>, V> {
+        <MaskedStorage<SceneMarker> as Resource<V>>::unwrap(value)
+    }
+
+    fn allocator(value: &V) -> Option<&SceneMarkerAllocator> {
+        <SceneMarkerAllocator as Resource<V>>::view(value)
+    }
+
+    fn wrap_allocator(allocator: SceneMarkerAllocator) -> V {
+        allocator.wrap()
+    }
+
+    fn unwrap_allocator(value: V) -> Result<SceneMarkerAllocator, V> {
+        <SceneMarkerAllocator as Resource<V>>::unwrap(value)
     }
 }

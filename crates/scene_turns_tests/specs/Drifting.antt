@@ -1,5 +1,5 @@
 -- The rules of the test: positions and velocities, and what drift may make of them.
-use Rattle.std.specs.Prelude.{◌≡◌, ℕ, ◌+◌, ◌%◌, ◌^◌, ◌||◌, Bool, true, false, List, [], ◌∷◌, codes, Option, Some, None, option_map, option_and_then, if◌then◌else◌, refl}
+use Rattle.std.specs.Prelude.{◌≡◌, ℕ, ◌+◌, ◌%◌, ◌^◌, ◌||◌, Bool, true, false, List, [], ◌∷◌, codes, Option, Some, None, option_map, option_and_then, is_some, if◌then◌else◌, refl}
 use Rattle.std.proofs.Common.{ap, sym, ◌∙◌}
 use Rattle.std.specs.Cmp.{unsigned_tied}
 use Rattle.std.proofs.lemmas.Bool.{true≢false}
@@ -7,6 +7,7 @@ use Rattle.std.proofs.lemmas.Slice.Eq.{bytes_eq-Decides}
 use Rattle.std.specs.Option.{option_map_or}
 use Rattle.std.specs.Str.{bytes_eq}
 use Rattle.serde_json.specs.Data.{null, number, unsigned, negative, float, boolean, string, array, object}
+use Rattle.serde_json.specs.Find.{as_null}
 use Rattle.shred_world.specs.declared.resource_id.ResourceId.{ResourceId}
 use Rattle.shred_world.specs.ResourceIds.{id_of, same_id}
 use Rattle.specs_entity.specs.Births.{Births}
@@ -18,7 +19,7 @@ use Rattle.specs_markers.specs.Simple.{Noting}
 use Rattle.scene_rules.specs.declared.command.Queue.{Queue}
 use Rattle.scene_stores.specs.Markers.{marker_at}
 use Rattle.scene_rules.specs.Parts.{Json, Name, Ref, Part, is_among}
-use Rattle.scene_rules.specs.Rulebook.{Access, Book, Fragment, Outcome, leaves, refuses, fills, Described, known, unknown}
+use Rattle.scene_rules.specs.Rulebook.{Access, Book, Fragment, Outcome, leaves, refuses, fills, Facts, Described, known, unknown, misshapen}
 use Rattle.scene_world.specs.Stored.{Stored}
 use Rattle.scene_world.specs.Lent.{Place, entities, markers, allocator, parts, value, queue, id_of_place, is_known, same_place, StandApart}
 use Rattle.scene_turns.specs.Places.{Places, Columns, kinds_of}
@@ -90,10 +91,12 @@ Drifts seen (fills commands) = ⊥
 abbrev pub drift_access : Access
 drift_access = record { reads = vel_name ∷ []; writes = pos_name ∷ []; read_globals = []; written_globals = []; reserved = false }
 
--- what the rules know of a kind of system
-abbrev pub described : Bool → Described
-described true = known (record { access = drift_access; time = 3 })
-described false = unknown
+-- what the rules know of drift, whose configuration is null
+abbrev pub drift_facts : Facts
+drift_facts = record { access = drift_access; time = 3 }
+
+abbrev pub configured : Json → Described
+configured config = if is_some (as_null config) then known drift_facts else misshapen
 
 abbrev pub drifting_book : Book
 drifting_book = record {
@@ -102,9 +105,22 @@ drifting_book = record {
   read_part = λ kind json. option_map counting (number_in json);
   read_global = λ name json. None;
   admits = λ kind part. is_counting (number_in part.json) part.refs;
-  system = λ kind config. described (bytes_eq kind drift_name);
+  system = λ kind config. if bytes_eq kind drift_name then configured config else unknown;
   meets = λ kind config. Drifts;
 }
+
+-- the numbers in a value, as they are and as they are stored
+abbrev pub position_number : Value → ℕ → Option ℕ
+position_number v index = option_map (λ (p : Position). p.0) (option_and_then (λ s. position_at s index) (positions_in v))
+
+abbrev pub velocity_number : Value → ℕ → Option ℕ
+velocity_number v index = option_map (λ (s : Velocity). s.0) (option_and_then (λ s. velocity_at s index) (velocities_in v))
+
+abbrev pub position_column : Value → ℕ → Option Stored
+position_column v index = option_map (λ (p : Position). storing p.0) (option_and_then (λ s. position_at s index) (positions_in v))
+
+abbrev pub velocity_column : Value → ℕ → Option Stored
+velocity_column v index = option_map (λ (s : Velocity). storing s.0) (option_and_then (λ s. velocity_at s index) (velocities_in v))
 
 -- where the two kinds stand, and what is read there
 abbrev pub drifting_columns : Columns Value
@@ -113,8 +129,7 @@ drifting_columns = record {
   global_names = [];
   part_id = λ kind. if bytes_eq kind pos_name then position_id else velocity_id;
   global_id = λ name. id_of 6 0;
-  stored = λ kind v index. if bytes_eq kind pos_name then option_map (λ (p : Position). storing p.0) (option_and_then (λ s. position_at s index) (positions_in v))
-      else option_map (λ (s : Velocity). storing s.0) (option_and_then (λ s. velocity_at s index) (velocities_in v));
+  stored = λ kind v index. if bytes_eq kind pos_name then position_column v index else velocity_column v index;
   events = λ kind v. if bytes_eq kind pos_name then option_map_or (λ s. log_of s.inner.channel) (positions_in v) no_log else option_map_or (λ s. log_of s.inner.channel) (velocities_in v) no_log;
   emits = λ kind v. if bytes_eq kind pos_name then option_map_or (λ s. tells s.inner) (positions_in v) false else option_map_or (λ s. tells s.inner) (velocities_in v) false;
   value = λ name v. None;

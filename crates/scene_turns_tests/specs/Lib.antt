@@ -1,2 +1,3 @@
 pub mod Drifts
 pub mod Drifting
+pub mod DriftingLaws

@@ -1,6 +1,8 @@
 //! Rules with one system over a world: entities drift, each position by the velocity beside it.
 #![tactic(auto)]
 
+mod columns;
+mod documents;
 mod drift;
 mod rules;
 #[cfg(test)]

@@ -1,16 +1,20 @@
 //! Rules with two kinds of parts and one system, which moves positions by velocities.
-ghost use Rattle.std.specs.Prelude.{◌≡◌};
-ghost use Rattle.serde_json.specs.Data.{null};
+ghost use Rattle.std.specs.Prelude.{◌≡◌, refl};
 ghost use Rattle.scene_turns.specs.Turns.{sense_of};
-ghost use Rattle.scene_turns_tests.specs.Drifting.{counting, drift_access, drift_name, drifting_book, drifting_columns, Drifts, drifting-apart};
+ghost use Rattle.scene_turns_tests.specs.Drifting.{drifting_book, drifting_columns, Drifts, drifting-apart};
 
+use crate::columns::{
+    position_datum, put_position, put_velocity, register_both, take_position, take_velocity,
+    velocity_datum,
+};
 use crate::drift::drift_all;
 use crate::values::Value;
-use scene_rules::{Accessor, Queue};
+use scene_rules::Queue;
+use scene_stores::Store;
 use scene_turns::Rules;
-use shred_plan::RunningTime;
 use shred_stages::Stop;
-use shred_world::{Holder, ResourceId};
+use shred_world::{Holder, ResourceId, World};
+use specs_entity::Entity;
 use std::alloc::{AllocError, Global};
 
 /// Rules under which entities have a position and a velocity.
@@ -23,29 +27,17 @@ pub struct Drift;
 impl Rules for Drifting {
     type Value = Value;
 
-    type Data = u64;
-
-    type System = Drift;
-
-    ghost book = { λ _. drifting_book };
-
-    ghost part_of = { counting };
-
     ghost columns = { drifting_columns };
-
-    ghost kind_of = { λ _. drift_name };
-
-    ghost config_of = { λ _. null };
-
-    ghost declared = { λ _. drift_access };
-
-    ghost said_time = { λ _. 3 };
 
     ghost sense = { λ _. sense_of drifting_book };
 
     ghost does = { λ _. Drifts };
 
+    ghost named_so = { λ _. record { parts = refl; globals = refl } };
+
     ghost apart = { drifting-apart };
+
+    ghost of_book = { λ rules system made. record { is = tt; sense_so = refl; does_so = λ f o did. did } };
 
     fn part_id(kind: &str) -> ResourceId {
         if kind == "pos" {
@@ -59,22 +51,61 @@ impl Rules for Drifting {
         ResourceId::from_type_id(6)
     }
 
-    fn accessor(_system: &Drift, alloc: Global) -> Result<Accessor, AllocError> {
-        let mut reads = Vec::new(alloc);
-        reads.push("vel")?;
-        let mut writes = Vec::new(alloc);
-        writes.push("pos")?;
-        Ok(Accessor {
-            reads,
-            writes,
-            read_globals: Vec::new(alloc),
-            written_globals: Vec::new(alloc),
-            writes_reserved: false,
-        })
+    fn register(world: &mut World<Value>, store: Store, alloc: Global) -> Result<(), AllocError> {
+        register_both(world, store, alloc)
     }
 
-    fn running_time(_system: &Drift) -> RunningTime {
-        RunningTime::Average
+    fn put(
+        value: &mut Value,
+        kind: &str,
+        index: u32,
+        datum: &u64,
+        _named: &[Entity],
+    ) -> Result<(), AllocError> {
+        if kind == "pos" {
+            put_position(value, index, *datum)
+        } else {
+            put_velocity(value, index, *datum)
+        }
+    }
+
+    fn take(value: &mut Value, kind: &str, index: u32) -> Result<(), AllocError> {
+        if kind == "pos" {
+            take_position(value, index)
+        } else {
+            take_velocity(value, index)
+        }
+    }
+
+    fn named_at(
+        _value: &Value,
+        _kind: &str,
+        _index: u32,
+        _named: &mut Vec<Entity>,
+    ) -> Result<(), AllocError> {
+        Ok(())
+    }
+
+    fn get(
+        value: &Value,
+        kind: &str,
+        index: u32,
+        _ids: &[u64],
+        _alloc: Global,
+    ) -> Result<Option<u64>, AllocError> {
+        if kind == "pos" {
+            Ok(position_datum(value, index))
+        } else {
+            Ok(velocity_datum(value, index))
+        }
+    }
+
+    fn to_value(_name: &str, _global: u64) -> Value {
+        unreachable!()
+    }
+
+    fn as_global<'a>(_name: &str, _value: &'a Value) -> Option<&'a u64> {
+        None
     }
 
     fn run<H: AllocGlobal, W: Holder<Value>>(

@@ -46,21 +46,21 @@ living-lives births index life = by (set.contains births.fresh index) (persisten
     by false last e = alive last e
 
 -- what is of its own life
-same-life : (life : Life) → life.lives ≡ true → is_life life (Some life) ≡ true
+pub same-life : (life : Life) → life.lives ≡ true → is_life life (Some life) ≡ true
 same-life life e = ap (λ b. b && eqb life.number life.number) e ∙ eq-eqb life.number life.number refl
 
-both-true : (a b : Bool) → (a && b) ≡ true → (a ≡ true) × (b ≡ true)
+pub both-true : (a b : Bool) → (a && b) ≡ true → (a ≡ true) × (b ≡ true)
 both-true true b e = (refl, e)
 both-true false b e = absurd (false≢true e)
 
 -- what is of a life that lives is that life
-life-is : (life other : Life) → other.lives ≡ true → is_life life (Some other) ≡ true → other ≡ life
+pub life-is : (life other : Life) → other.lives ≡ true → is_life life (Some other) ≡ true → other ≡ life
 life-is life other lives_it is =
     let both = both-true life.lives (eqb other.number life.number) is in
     ap (λ n. let x : Life = record { number = n; lives = other.lives } in x) (eqb-true other.number life.number both.1)
     ∙ ap (λ b. let x : Life = record { number = life.number; lives = b } in x) (lives_it ∙ sym both.0)
 
-life-there : (life : Life) (o : Option Life) → is_life life o ≡ true → is_some o ≡ true
+pub life-there : (life : Life) (o : Option Life) → is_life life o ≡ true → is_some o ≡ true
 life-there life None e = e
 life-there life (Some other) e = refl
 
@@ -86,7 +86,7 @@ module _ (roll : Roll) where
   pub id-lives : (id index : ℕ) → id_at roll index ≡ Some id → is_some (living roll.births index) ≡ true
   id-lives id index e = (there-so (is_some (living roll.births index)) (roll.marker index) id e).0
 
-  id-marks : (id index : ℕ) → id_at roll index ≡ Some id → roll.marker index ≡ Some id
+  pub id-marks : (id index : ℕ) → id_at roll index ≡ Some id → roll.marker index ≡ Some id
   id-marks id index e = (there-so (is_some (living roll.births index)) (roll.marker index) id e).1
 
   -- at the index of an id stands the id

@@ -14,4 +14,4 @@ returns g c =
     ∙ ap (λ l. l ++ map columns.global_id (texts c.deref-2.result.now)) (c.in_ok-push_parts.ensures ∙ ap (λ l. l ++ map columns.part_id (texts c.deref.result.now)) first)
     ∙ ap (λ names. ((places.queue_id c.args.position ∷ []) ++ map columns.part_id (texts names)) ++ map columns.global_id (texts c.deref-2.result.now)) c.deref.ensures.value
     ∙ ap (λ names. ((places.queue_id c.args.position ∷ []) ++ map columns.part_id declared.writes) ++ map columns.global_id (texts names)) c.deref-2.ensures.value
-    ∙ ap (λ l. places.queue_id c.args.position ∷ l) (sym (declared-ids (kinds_of places g.R.Rules.part_of columns) declared.writes declared.written_globals))
+    ∙ ap (λ l. places.queue_id c.args.position ∷ l) (sym (declared-ids (kinds_of places g.R.DocumentRules.part_of columns) declared.writes declared.written_globals))

@@ -1,0 +1,57 @@
+-- Parts that are put in at an index and taken out there, and storages of parts that are registered.
+use Rattle.std.specs.Prelude.{◌≡◌, ℕ, true, false, List, [], map, Option, Some, None, IsSome}
+use Rattle.std.specs.Option.{option_map_or}
+use Rattle.std.specs.FinMap as slots
+use Rattle.shred_world.specs.declared.resource_id.ResourceId.{ResourceId}
+use Rattle.shred_world.specs.ResourceIds.{same_id}
+use Rattle.shred_world.specs.Worlds.{Slots, value_at}
+use Rattle.specs_entity.specs.Life.{LifeAt}
+use Rattle.scene_rules.specs.Parts.{Name, Part, living, is_among}
+use Rattle.scene_rules.specs.Rulebook.{Book}
+use Rattle.scene_world.specs.Stored.{Stored, ids_reached, part_with}
+use Rattle.scene_world.specs.Changes.{but_at}
+use Rattle.scene_turns.specs.Places.{Columns}
+
+-- the entities that what is stored names, if there is something
+abbrev pub named_in : Option Stored → List LifeAt
+named_in stored = option_map_or (λ one. one.named) stored []
+
+-- what is stored is this part, where its references are to these entities
+pub record StoresAs (part : Part) (named : List LifeAt) (stored : Stored) : Type 0 where
+  pub names : stored.named ≡ named
+  pub writes : stored.written (ids_reached part.refs) ≡ part.json
+
+-- what is stored as a part, where it refers to these ids
+abbrev pub part_read : List ℕ → Stored → Part
+part_read ids stored = part_with stored.written (map (λ id. living id) ids)
+
+module _ {V : Type 0} (stored : V → ℕ → Option Stored) where
+  -- a part is stored at an index, and at each other what was there
+  pub record PutsIn (index : ℕ) (part : Part) (named : List LifeAt) (old new : V) : Type 0 where
+    pub one : Stored
+    pub is : StoresAs part named one
+    pub there : (at : ℕ) → stored new at ≡ but_at index (Some one) (stored old) at
+
+  -- nothing is stored at an index, and at each other what was there
+  abbrev pub TakesOut : ℕ → (old new : V) → Type 0
+  TakesOut index old new = (at : ℕ) → stored new at ≡ but_at index None (stored old) at
+
+  -- at each index is what was there
+  abbrev pub SameColumn : (old new : V) → Type 0
+  SameColumn old new = (at : ℕ) → stored new at ≡ stored old at
+
+module _ {V : Type 0} (columns : Columns V) where
+  -- a value stores nothing under a kind
+  abbrev pub IsEmpty : Name → V → Type 0
+  IsEmpty kind v = (index : ℕ) → columns.stored kind v index ≡ None
+
+  -- under each kind of the rules a value stands that stores nothing, and under each other id what stood there
+  pub record Registers (w later : Slots V) : Type 0 where
+    pub there : (kind : Name) → is_among kind columns.part_names ≡ true → IsSome (value_at later (columns.part_id kind))
+    pub empty : (kind : Name) (v : V) → is_among kind columns.part_names ≡ true → value_at later (columns.part_id kind) ≡ Some v → IsEmpty kind v
+    pub others : (id : ResourceId) → ((kind : Name) → is_among kind columns.part_names ≡ true → same_id id (columns.part_id kind) ≡ false) → slots.get later id ≡ slots.get w id
+
+  -- the parts and globals are those of a book
+  pub record AreNamedIn (book : Book) : Type 0 where
+    pub parts : columns.part_names ≡ book.part_names
+    pub globals : columns.global_names ≡ book.global_names
