@@ -1,0 +1,4 @@
+pub mod LookLemmas
+pub mod LendLemmas
+pub mod PutLemmas
+pub mod ActLemmas

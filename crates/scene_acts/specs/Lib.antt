@@ -1,0 +1,5 @@
+-- The definitions that the contracts of this crate cite, in the order in which a reader needs them.
+pub use Rattle.scene_world.specs.Standing
+pub use Rattle.scene_world.specs.Changes
+pub use Rattle.scene_turns.specs.Places
+pub mod Acts
