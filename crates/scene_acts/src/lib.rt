@@ -1,8 +1,10 @@
 //! Commands that are carried out in a world in which a scene stands: what each makes of the scene.
 #![tactic(auto)]
 
+mod deaths;
 mod looking;
 mod parts;
 
+pub use deaths::kill_entity;
 pub use looking::{entities_under, entity_under};
 pub use parts::{put_part, take_part};

@@ -32,7 +32,11 @@ fn put_at<R: Rules>(
 }
 
 /// Takes the part at an index of a world out, if there is one. Errors: want of memory.
-fn take_at<R: Rules>(world: &mut World<R::Value>, kind: &str, index: u32) -> Result<(), AllocError>
+pub(crate) fn take_at<R: Rules>(
+    world: &mut World<R::Value>,
+    kind: &str,
+    index: u32,
+) -> Result<(), AllocError>
     requires known { IsTrue (is_among kind.now R.columns.part_names) }
     ensures { OnOk result (SetsColumn (kinds_of ⟦<R::Value as SceneValue<R::Data>>⟧.places R.part_of R.columns)
         kind.now index None (seen_of world.old) (seen_of world.new)) }

@@ -93,8 +93,8 @@ pub trait DocumentRules: Sized {
         name: &str,
         value: &Value,
     ) -> Result<Self::Global, ReadError>
-        requires { IsTrue (is_among name.now (book self.now).global_names) }
-        ensures { IsReadingOf global_of ((book self.now).read_global name.now (view value.now)) result };
+        ensures { IsTrue (is_among name.now (book self.now).global_names)
+            → IsReadingOf global_of ((book self.now).read_global name.now (view value.now)) result };
 
     /// What is written for a global's value.
     fn write_global(&self, alloc: Global, global: &Self::Global) -> Result<Value, AllocError>

@@ -6,7 +6,7 @@ use Rattle.shred_world.specs.declared.resource_id.ResourceId.{ResourceId}
 use Rattle.shred_world.specs.ResourceIds.{same_id}
 use Rattle.shred_world.specs.Worlds.{Slots, value_at}
 use Rattle.specs_entity.specs.Life.{LifeAt}
-use Rattle.scene_rules.specs.Parts.{Name, Part, living, is_among}
+use Rattle.scene_rules.specs.Parts.{Json, Name, Part, living, is_among}
 use Rattle.scene_rules.specs.Rulebook.{Book}
 use Rattle.scene_world.specs.Stored.{Stored, ids_reached, part_with}
 use Rattle.scene_world.specs.Changes.{but_at}
@@ -39,6 +39,11 @@ module _ {V : Type 0} (stored : V → ℕ → Option Stored) where
   -- at each index is what was there
   abbrev pub SameColumn : (old new : V) → Type 0
   SameColumn old new = (at : ℕ) → stored new at ≡ stored old at
+
+-- there is a value, in which this is the global
+abbrev pub HasValue : {V : Type 0} → (V → Option Json) → Json → Option V → Type 0
+HasValue read global None = ⊥
+HasValue read global (Some v) = read v ≡ Some global
 
 module _ {V : Type 0} (columns : Columns V) where
   -- a value stores nothing under a kind

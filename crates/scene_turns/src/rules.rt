@@ -24,7 +24,7 @@ pub trait Rules: DocumentRules {
     ghost use Rattle.scene_rules.specs.Queues.{waiting, plain_commands};
     ghost use Rattle.scene_world.specs.Lent.{StandApart};
     ghost use Rattle.scene_turns.specs.Places.{Columns, kinds_of};
-    ghost use Rattle.scene_turns.specs.Putting.{named_in, PutsIn, TakesOut, SameColumn, part_read, Registers, AreNamedIn};
+    ghost use Rattle.scene_turns.specs.Putting.{named_in, HasValue, PutsIn, TakesOut, SameColumn, part_read, Registers, AreNamedIn};
     ghost use Rattle.scene_turns.specs.Turns.{Sense, Runs, IsOfBook, meaning_of};
 
     /// What a world holds.
@@ -107,10 +107,10 @@ pub trait Rules: DocumentRules {
         ensures { IfOk result (λ datum. option_map Self.part_of datum
             ≡ option_map (part_read ids.now) (columns.stored kind.now value.now index)) };
 
-    /// The value that a global stands in a world as.
-    fn to_value(name: &str, global: Self::Global) -> Self::Value
-        requires known { IsTrue (is_among name.now columns.global_names) }
-        ensures { columns.value name.now result ≡ Some (Self.global_of global) };
+    /// The value that a global of the rules stands in a world as; none where they have no such global.
+    fn to_value(name: &str, global: Self::Global) -> Option<Self::Value>
+        ensures { IsTrue (is_among name.now columns.global_names)
+            → HasValue (columns.value name.now) (Self.global_of global) result };
 
     /// The global that a value is, if it is one under that name.
     fn as_global<'a>(name: &str, value: &'a Self::Value) -> Option<&'a Self::Global>

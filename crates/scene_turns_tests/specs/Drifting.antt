@@ -54,8 +54,8 @@ number_in (number (float f)) = None
 number_in null = None
 number_in (boolean b) = None
 number_in (string s) = None
-number_in (array items) = None
-number_in (object members) = None
+number_in (array _) = None
+number_in (object _) = None
 
 -- whether a part is a number
 abbrev pub is_counting : Option ℕ → List Ref → Bool

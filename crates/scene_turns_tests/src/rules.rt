@@ -100,8 +100,8 @@ impl Rules for Drifting {
         }
     }
 
-    fn to_value(_name: &str, _global: u64) -> Value {
-        unreachable!()
+    fn to_value(_name: &str, _global: u64) -> Option<Value> {
+        None
     }
 
     fn as_global<'a>(_name: &str, _value: &'a Value) -> Option<&'a u64> {
