@@ -1,22 +1,21 @@
 -- A part that is put in, or taken out, is the command that asks for it.
-use Rattle.std.proofs.Common.{◌≡◌, ◌≤◌, ◌+◌, ℕ, Bool, true, false, cond, eqb, ◌&&◌, List, [], ◌∷◌, length, map, Option, Some, None, is_some, refl, ap, sym, ◌∙◌, subst, All}
+use Rattle.std.proofs.Common.{◌≡◌, ◌≤◌, ◌+◌, ℕ, Bool, true, false, cond, ◌&&◌, List, [], ◌∷◌, length, map, Option, Some, None, is_some, refl, ap, sym, ◌∙◌, subst, All}
 use native.Mathlib.Omega.{arith}
-use Rattle.std.specs.Prelude.{option_map}
 use Rattle.std.specs.List.{list_all}
 use Rattle.std.specs.FinSet as set
 use Rattle.std.proofs.lemmas.Bool.{false≢true}
 use Rattle.std.proofs.lemmas.List.{length-map}
 use Rattle.std.proofs.lemmas.List.Elements.{All-nil, All-cons}
 use Rattle.shred_world.specs.Worlds.{Slots}
-use Rattle.specs_entity.specs.Births.{Births, count, living, living_of, alive_of, number_of, persistent_at}
+use Rattle.specs_entity.specs.Births.{Births, count, living, living_of, number_of, persistent_at}
 use Rattle.specs_entity.specs.Life.{Life, LifeAt}
 use Rattle.scene_rules.specs.Parts.{Name, living as reaching, Part, is_among}
 use Rattle.scene_rules.specs.Rulebook.{put, take}
 use Rattle.scene_rules.specs.Scenes.{PlainScene, lives}
 use Rattle.scene_rules.specs.Commands.{apply, changed, skipped, refs_live, ref_lives, with_part}
 use Rattle.scene_rules.specs.Laws.{refs_to}
-use Rattle.scene_world.specs.Stored.{Stored, part_under}
-use Rattle.scene_world.specs.Rolls.{Roll, is_life, ids_in, ref_to}
+use Rattle.scene_world.specs.Stored.{Stored}
+use Rattle.scene_world.specs.Rolls.{Roll, is_life, ids_in}
 use Rattle.scene_world.specs.Standing.{Kinds, roll_of, plain_of}
 use Rattle.scene_world.specs.Lent.{StandApart}
 use Rattle.scene_world.proofs.CallerLemmas.{living-lives, life-is, life-there}
@@ -24,24 +23,26 @@ use Rattle.scene_acts.specs.Acts.{seen_of, entity_under, AreUnder, WasBorn, MayA
 use Rattle.scene_acts.proofs.LookLemmas.{under-is, under-at, lives-under, all-live, one-lacks, stored-part}
 use Rattle.scene_acts.proofs.PutLemmas.{sets-may, sets-scene}
 
--- an entity that lives is one of the births of its index
-alive-born : (births : Births) (entity : LifeAt) → is_life entity.generation (living births entity.id) ≡ true → WasBorn births entity
-alive-born births entity alive = by (living births entity.id) refl alive
+-- a life at an index is one of its births
+pub life-counted : (births : Births) (index : ℕ) (life : Life) → living births index ≡ Some life → life.number ≤ count births index
+life-counted births index life = last-is (set.contains births.fresh index) (persistent_at births index)
   where
-    last-is : (fresh : Bool) (last : Option Life) (life : Life) → living_of fresh last ≡ Some life → life.number ≤ number_of last + (cond fresh 1 0)
-    last-is true last life e = let same : number_of last + 1 ≡ life.number = cc in omega (arith, same)
-    last-is false None life e = cc
-    last-is false (Some one) life e = at one.lives e
+    last-is : (fresh : Bool) (last : Option Life) → living_of fresh last ≡ Some life → life.number ≤ number_of last + (cond fresh 1 0)
+    last-is true last e = let same : number_of last + 1 ≡ life.number = cc in omega (arith, same)
+    last-is false None e = cc
+    last-is false (Some one) e = at one.lives e
       where
         at : (b : Bool) → cond b (Some one) None ≡ Some life → life.number ≤ one.number + 0
         at true f = let same : one.number ≡ life.number = cc in omega (arith, same)
         at false f = cc
 
+-- an entity that lives is one of the births of its index
+alive-born : (births : Births) (entity : LifeAt) → is_life entity.generation (living births entity.id) ≡ true → WasBorn births entity
+alive-born births entity alive = by (living births entity.id) refl alive
+  where
     by : (o : Option Life) → living births entity.id ≡ o → is_life entity.generation o ≡ true → entity.generation.number ≤ count births entity.id
     by None e is = absurd (false≢true is)
-    by (Some life) e is =
-        let same = life-is entity.generation life (living-lives births entity.id life e) is in
-        subst (λ l. l.number ≤ count births entity.id) same (last-is (set.contains births.fresh entity.id) (persistent_at births entity.id) life e)
+    by (Some life) e is = subst (λ l. l.number ≤ count births entity.id) (life-is entity.generation life (living-lives births entity.id life e) is) (life-counted births entity.id life e)
 
 -- so are all that are known under ids
 pub all-born : (roll : Roll) (ids : List ℕ) (named : List LifeAt) → map (entity_under roll) ids ≡ map (λ entity. Some entity) named → All (WasBorn roll.births) named

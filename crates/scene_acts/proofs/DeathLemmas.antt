@@ -1,5 +1,5 @@
 -- The marker of an entity is taken out, and the entity dies.
-use Rattle.std.proofs.Common.{◌≡◌, ◌≤◌, ℕ, Bool, true, false, cond, eqb, ◌||◌, List, [], ◌∷◌, Option, Some, None, refl, ap, sym, ◌∙◌, subst}
+use Rattle.std.proofs.Common.{◌≡◌, ◌≤◌, ℕ, Bool, true, false, cond, eqb, ◌||◌, [], ◌∷◌, Option, Some, None, refl, ap, sym, ◌∙◌, subst}
 use Rattle.std.specs.Prelude.{IsSome, option_and_then}
 use Rattle.std.specs.Option.{option_flatten, unwrap_or}
 use Rattle.std.specs.FinMap as slots
@@ -40,7 +40,7 @@ module _ {V : Type 0} (w between later : Slots V) (id asked : ResourceId) (at_id
       taken-out = ap (λ m. slots.get m other) out ∙ slots.get-insert ids_total w asked None other ∙ ap (λ b. cond b (Some None) (slots.get w other)) away
 
 -- what is put at an index is there alone
-puts-at : {A : Type 0} (before after : ℕ → Option A) (index : ℕ) (part : Option A) → Puts before index part after → (at : ℕ) → after at ≡ but_at index part before at
+pub puts-at : {A : Type 0} (before after : ℕ → Option A) (index : ℕ) (part : Option A) → Puts before index part after → (at : ℕ) → after at ≡ but_at index part before at
 puts-at before after index part puts at = by (eqb at index) refl
   where
     by : (b : Bool) → eqb at index ≡ b → after at ≡ cond (eqb at index) part (before at)

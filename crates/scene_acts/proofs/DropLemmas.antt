@@ -1,5 +1,5 @@
 -- The parts at an index, taken out kind by kind.
-use Rattle.std.proofs.Common.{◌≡◌, ◌<◌, ◌+◌, ℕ, zero, suc, Bool, true, false, cond, eqb, ◌||◌, List, [], ◌∷◌, ◌++◌, length, take, below_none, arith, get_or, Option, Some, None, refl, ap, sym, ◌∙◌, subst}
+use Rattle.std.proofs.Common.{◌≡◌, ◌<◌, ◌+◌, ℕ, zero, suc, Bool, true, false, cond, eqb, ◌||◌, List, [], ◌∷◌, ◌++◌, length, take, below_none, arith, get_or, Option, None, refl, ap, sym, ◌∙◌, subst}
 use Rattle.std.specs.Str.{bytes_eq}
 use denote.Ref.{Bor}
 use Rattle.std.proofs.Math.Seq.{take-suc}
@@ -8,8 +8,6 @@ use Rattle.scene_rules.specs.Lent.{texts}
 use Rattle.std.proofs.lemmas.Bool.{true≢false}
 use Rattle.std.proofs.lemmas.Slice.Eq.{bytes_eq-Decides}
 use Rattle.std.proofs.lemmas.List.Folds.{list_any-append}
-use Rattle.shred_world.specs.declared.resource_id.ResourceId.{ResourceId}
-use Rattle.shred_world.specs.ResourceIds.{same_id}
 use Rattle.scene_rules.specs.Parts.{Name, is_among}
 use Rattle.scene_world.specs.Stored.{Stored}
 use Rattle.scene_world.specs.Standing.{Sight, Kinds, column_of, column_in}

@@ -1,5 +1,5 @@
 -- An entity whose parts, marker and life were taken, one after the other, was killed.
-use Rattle.std.proofs.Common.{◌≡◌, ◌<◌, ◌≤◌, ℕ, Bool, true, false, cond, eqb, not, List, Option, Some, None, filter, is_some, refl, ap, sym, ◌∙◌, subst, arith, All}
+use Rattle.std.proofs.Common.{◌≡◌, ◌<◌, ◌≤◌, ℕ, Bool, true, false, cond, eqb, not, Some, None, filter, is_some, refl, ap, sym, ◌∙◌, subst, arith, All}
 use Rattle.std.specs.Prelude.{IsSome, option_and_then, option_map}
 use Rattle.std.specs.Option.{unwrap_or}
 use Rattle.std.proofs.lemmas.List.Elements.{All-filter, All-weaker}

@@ -13,7 +13,7 @@ use Rattle.shred_world.proofs.WorldLemmas.{on_some}
 use Rattle.specs_entity.specs.Life.{LifeAt}
 use Rattle.scene_rules.specs.Parts.{Name, Part}
 use Rattle.scene_world.specs.Stored.{Stored}
-use Rattle.scene_world.specs.Standing.{Kinds, column_of}
+use Rattle.scene_world.specs.Standing.{Kinds}
 use Rattle.scene_world.specs.Changes.{but_at}
 use Rattle.scene_turns.specs.Putting.{PutsIn}
 use Rattle.scene_acts.specs.Acts.{seen_of, SetsColumn, PutsPart}

@@ -5,3 +5,6 @@ pub mod ActLemmas
 pub mod DropLemmas
 pub mod DeathLemmas
 pub mod KillLemmas
+pub mod BirthLemmas
+pub mod GiveLemmas
+pub mod SpawnLemmas

@@ -1,7 +1,8 @@
 -- Entities of a world by the ids of its scene.
-use Rattle.std.proofs.Common.{◌≡◌, ℕ, Bool, true, false, cond, eqb, ◌&&◌, List, [], ◌∷◌, map, Option, Some, None, is_some, refl, ap, sym, ◌∙◌, subst, All}
+use Rattle.std.proofs.Common.{◌≡◌, ℕ, Bool, true, false, cond, ◌&&◌, List, [], ◌∷◌, map, Vec, Option, Some, None, is_some, refl, ap, sym, ◌∙◌, subst}
 use Rattle.std.specs.Prelude.{option_and_then, option_map}
 use Rattle.std.specs.List.{list_all, list_any}
+use Rattle.std.proofs.lemmas.Bool.{false≢true}
 use Rattle.std.specs.FinMap as slots
 use Rattle.std.specs.Option.{option_flatten, option_copied, unwrap_or}
 use denote.Ref.{Bor}
@@ -14,7 +15,7 @@ use Rattle.shred_world.specs.Bundles.{readable, slot_of}
 use Rattle.specs_entity.specs.Births.{Births, living, living_of, none_born}
 use Rattle.specs_entity.specs.Life.{Life, LifeAt}
 use Rattle.specs_markers.specs.Simple.{Noting, noted_under, none_noted}
-use Rattle.scene_rules.specs.Parts.{Ref, living as reaching, gone, Part}
+use Rattle.scene_rules.specs.Parts.{living as reaching, Part}
 use Rattle.scene_rules.specs.Scenes.{lives}
 use Rattle.scene_rules.specs.Commands.{ref_lives, refs_live, is_gone}
 use Rattle.scene_rules.specs.Laws.{refs_to}
@@ -121,6 +122,26 @@ module _ (roll : Roll) where
   pub one-lacks : (ids : List ℕ) → list_all (λ id. is_some (entity_under roll id)) ids ≡ list_all (ref_lives (ids_in roll)) (refs_to ids)
   one-lacks [] = refl
   one-lacks (id ∷ ids) = ap (λ b. b && list_all (λ one. is_some (entity_under roll one)) ids) (sym (lives-under id)) ∙ ap (λ b. lives id (ids_in roll) && b) (one-lacks ids)
+
+-- who is known under an id in one roll is so in another that has somebody there and the same note
+pub same-noted : (old new : Roll) (id : ℕ) (one : LifeAt) → entity_under new id ≡ Some one → is_some (entity_under old id) ≡ true → noted_under new.noting id ≡ noted_under old.noting id → entity_under old id ≡ Some one
+same-noted old new id one now there noted = ap tested note ∙ by (is_life one.generation (living old.births one.id) && is_id id (old.marker one.id)) (sym (ap (λ o. is_some (tested o)) note) ∙ there)
+  where
+    tested : Option LifeAt → Option LifeAt
+    tested o = option_and_then (λ entity. cond (is_life entity.generation (living old.births entity.id) && is_id id (old.marker entity.id)) (Some entity) None) o
+
+    note : noted_under old.noting id ≡ Some one
+    note = sym noted ∙ (under-is new id one now).noted
+
+    by : (b : Bool) → is_some (cond b (Some one) None) ≡ true → cond b (Some one) None ≡ Some one
+    by true e = refl
+    by false e = absurd (false≢true e)
+
+-- what was found under the ids of a part's references tells whether these live
+pub found-live : {E : Type 0} (roll : Roll) (ids : List ℕ) (found : Option (Vec LifeAt E)) (part : Part) → refs_to ids ≡ part.refs → AreUnder roll ids (option_map (λ entities. entities.items) found)
+    → is_some found ≡ refs_live (ids_in roll) part
+found-live roll ids None part refs none = sym none ∙ one-lacks roll ids ∙ ap (list_all (ref_lives (ids_in roll))) refs
+found-live roll ids (Some named) part refs all = sym (all-live roll ids named.items all) ∙ ap (list_all (ref_lives (ids_in roll))) refs
 
 -- references to living ids are none that is gone, and reach these ids
 none-gone : (ids : List ℕ) → list_any is_gone (refs_to ids) ≡ false

@@ -1,25 +1,20 @@
 -- What stands in a world once a part is another at an index.
-use Rattle.std.proofs.Common.{◌≡◌, ◌<◌, ◌≤◌, ℕ, Bool, true, false, cond, eqb, ◌&&◌, List, [], ◌∷◌, map, Option, Some, None, is_some, refl, ap, sym, ◌∙◌, subst, All}
+use Rattle.std.proofs.Common.{◌≡◌, ◌<◌, ℕ, Bool, true, false, cond, eqb, Option, Some, None, is_some, refl, ap, sym, ◌∙◌, subst, All}
 use Rattle.std.specs.Prelude.{IsSome, option_and_then, option_map}
 use Rattle.std.specs.Str.{bytes_eq}
-use Rattle.std.proofs.lemmas.Bool.{true≢false, false≢true, eqb-true, eq-eqb}
+use Rattle.std.proofs.lemmas.Bool.{false≢true, eqb-true}
 use Rattle.std.proofs.lemmas.Slice.Eq.{bytes_eq-Decides}
-use Rattle.shred_world.specs.declared.resource_id.ResourceId.{ResourceId}
-use Rattle.shred_world.specs.ResourceIds.{same_id}
 use Rattle.shred_world.specs.Worlds.{Slots}
-use Rattle.specs_entity.specs.Births.{Births, count, living}
-use Rattle.specs_entity.specs.Life.{LifeAt}
-use Rattle.scene_rules.specs.Parts.{Name, Part, is_among}
-use Rattle.scene_rules.specs.Rulebook.{put, take}
-use Rattle.scene_rules.specs.Scenes.{PlainScene, lives}
-use Rattle.scene_rules.specs.Commands.{apply, changed, skipped, refs_live, with_part}
+use Rattle.specs_entity.specs.Births.{living}
+use Rattle.scene_rules.specs.Parts.{Name, is_among}
+use Rattle.scene_rules.specs.Commands.{with_part}
 use Rattle.scene_world.specs.Stored.{Stored, part_under}
 use Rattle.scene_world.specs.Rolls.{Roll, IsRoll, id_at, ids_in, ref_to}
-use Rattle.scene_world.specs.Standing.{Sight, Kinds, roll_of, column_of, column_in, value_of, plain_of, IsWithin}
-use Rattle.scene_world.specs.Lent.{Place, entities, markers, allocator, parts, value, StandApart, id_of_place}
-use Rattle.scene_world.specs.Changes.{but_at, SetsPart}
+use Rattle.scene_world.specs.Standing.{Sight, Kinds, roll_of, column_of, column_in, plain_of, IsWithin}
+use Rattle.scene_world.specs.Lent.{entities, markers, allocator, parts, value, StandApart}
+use Rattle.scene_world.specs.Changes.{SetsPart}
 use Rattle.scene_world.proofs.CallerLemmas.{same-roll, scene-set}
-use Rattle.scene_acts.specs.Acts.{seen_of, WasBorn, NamesBorn, MayAct, Acts, SetsColumn}
+use Rattle.scene_acts.specs.Acts.{seen_of, WasBorn, MayAct, SetsColumn}
 
 module _ {V : Type 0} (kinds : Kinds V) (apart : StandApart kinds) (kind : Name) (known : is_among kind kinds.part_names ≡ true)
     (index : ℕ) (part : Option Stored) (w later : Sight V) (sets : SetsColumn kinds kind index part w later) where

@@ -1,5 +1,5 @@
 -- What becomes of a world, step by step, as an entity dies.
-use Rattle.std.specs.Prelude.{◌≡◌, ◌≤◌, ℕ, true, false, List, Option, None, IsSome, option_and_then}
+use Rattle.std.specs.Prelude.{◌≡◌, ◌≤◌, ℕ, true, false, List, None, IsSome, option_and_then}
 use Rattle.shred_world.specs.declared.resource_id.ResourceId.{ResourceId}
 use Rattle.shred_world.specs.ResourceIds.{same_id}
 use Rattle.specs_entity.specs.Births.{count, living}

@@ -4,3 +4,4 @@ pub use Rattle.scene_world.specs.Changes
 pub use Rattle.scene_turns.specs.Places
 pub mod Acts
 pub mod Deaths
+pub mod Newborns

@@ -1,10 +1,12 @@
 //! Commands that are carried out in a world in which a scene stands: what each makes of the scene.
 #![tactic(auto)]
 
+mod births;
 mod deaths;
 mod looking;
 mod parts;
 
+pub use births::spawn_entity;
 pub use deaths::kill_entity;
 pub use looking::{entities_under, entity_under};
 pub use parts::{put_part, take_part};

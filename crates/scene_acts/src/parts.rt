@@ -12,7 +12,7 @@ use specs_entity::Entity;
 use std::alloc::{AllocError, Global};
 
 /// Puts a part in at an index of a world. Errors: want of memory.
-fn put_at<R: Rules>(
+pub(crate) fn put_at<R: Rules>(
     world: &mut World<R::Value>,
     kind: &str,
     index: u32,

@@ -25,7 +25,7 @@ some-there : {A : Type 0} (a : A) → IsSome (Some a)
 some-there a = refl
 
 -- an id that lives among ids below a number is below it
-lives-below : (next id : ℕ) (ids : List ℕ) → All (λ one. one < next) ids → lives id ids ≡ true → id < next
+pub lives-below : (next id : ℕ) (ids : List ℕ) → All (λ one. one < next) ids → lives id ids ≡ true → id < next
 lives-below next id [] below e = absurd (false≢true e)
 lives-below next id (x ∷ ids) below e = by (eqb x id) refl e (lives-below next id ids (All-tail (λ one. one < next) x ids below))
   where
@@ -216,7 +216,7 @@ module _ (old new : Roll) (was : IsRoll old) (next : ℕ) (below : All (λ id. i
 -- ---- the scene
 
 -- what is noted where the next id was given
-next-noted : (noting : Noting) (entity : LifeAt) (id : ℕ) → noted_under (allocated noting entity None) id ≡ but_at noting.next (Some entity) (noted_under noting) id
+pub next-noted : (noting : Noting) (entity : LifeAt) (id : ℕ) → noted_under (allocated noting entity None) id ≡ but_at noting.next (Some entity) (noted_under noting) id
 next-noted noting entity id =
     map.get-insert nat_cmp_total noting.noted noting.next entity id
     ∙ ap (λ b. cond b (Some entity) (noted_under noting id)) (is_eq-nat_cmp id noting.next ∙ turned noting.next id (eqb noting.next id) refl)
@@ -229,7 +229,7 @@ next-noted noting entity id =
         back true f = absurd (true≢false (sym (eq-eqb a b (sym (eqb-true b a f))) ∙ e))
         back false f = refl
 
-next-after : (next : ℕ) → max next (next + 1) ≡ next + 1
+pub next-after : (next : ℕ) → max next (next + 1) ≡ next + 1
 next-after next = omega arith
 
 module _ {V : Type 0} (kinds : Kinds V) (w w2 : Sight V) (was : IsRoll (roll_of kinds w)) (below : All (λ id. id < (roll_of kinds w).noting.next) (ids_in (roll_of kinds w)))

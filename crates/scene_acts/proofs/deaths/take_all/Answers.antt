@@ -1,4 +1,4 @@
-use Rattle.std.proofs.Common.{◌≡◌, true, sym, subst, get_or, take}
+use Rattle.std.proofs.Common.{◌≡◌, true, sym, subst, get_or}
 use Rattle.scene_rules.specs.Parts.{is_among}
 use Rattle.scene_turns.specs.Places.{kinds_of}
 use Rattle.scene_acts.specs.Acts.{seen_of}

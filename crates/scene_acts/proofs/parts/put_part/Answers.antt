@@ -1,4 +1,4 @@
-use Rattle.std.proofs.Common.{◌≡◌, None, Some, length, refl, ap, sym, ◌∙◌, subst}
+use Rattle.std.proofs.Common.{length, refl, ap, sym, ◌∙◌, subst}
 use Rattle.std.specs.Prelude.{option_map}
 use Rattle.scene_turns.specs.Places.{kinds_of}
 use Rattle.scene_rules.specs.Laws.{refs_to}
