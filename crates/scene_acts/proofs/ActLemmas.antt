@@ -37,7 +37,7 @@ life-counted births index life = last-is (set.contains births.fresh index) (pers
         at false f = cc
 
 -- an entity that lives is one of the births of its index
-alive-born : (births : Births) (entity : LifeAt) → is_life entity.generation (living births entity.id) ≡ true → WasBorn births entity
+pub alive-born : (births : Births) (entity : LifeAt) → is_life entity.generation (living births entity.id) ≡ true → WasBorn births entity
 alive-born births entity alive = by (living births entity.id) refl alive
   where
     by : (o : Option Life) → living births entity.id ≡ o → is_life entity.generation o ≡ true → entity.generation.number ≤ count births entity.id

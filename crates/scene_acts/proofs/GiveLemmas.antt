@@ -1,14 +1,10 @@
 -- Parts of a newborn, put in one after the other.
-use Rattle.std.proofs.Common.{◌≡◌, ◌<◌, ◌+◌, ℕ, suc, Bool, true, false, cond, eqb, ◌&&◌, List, [], ◌∷◌, ◌++◌, length, map, take, get_or, Option, Some, None, refl, ap, sym, ◌∙◌, subst, arith, All, AllPairs}
+use Rattle.std.proofs.Common.{◌≡◌, ◌<◌, ℕ, suc, Bool, true, false, cond, eqb, List, [], ◌∷◌, ◌++◌, length, map, take, get_or, Option, Some, None, refl, ap, sym, ◌∙◌, subst, arith, AllPairs}
 use Rattle.std.specs.Str.{bytes_eq}
-use Rattle.std.specs.List.{list_all}
 use denote.Ref.{Bor}
-use Rattle.std.proofs.Math.Seq.{take-suc}
 use Rattle.std.proofs.lemmas.Bool.{eq-eqb, false≢true}
 use Rattle.std.proofs.Math.ListN.{get_or-map}
-use Rattle.std.proofs.lemmas.List.{map-append, length-map, length-take-le, get_or-take, get_or_default}
-use Rattle.std.proofs.lemmas.List.Elements.{All-get_or}
-use Rattle.std.proofs.lemmas.List.Folds.{list_all-append}
+use Rattle.std.proofs.lemmas.List.{length-map, length-take-le, get_or-take, get_or_default}
 use Rattle.std.proofs.lemmas.Slice.Eq.{bytes_eq-Decides}
 use Rattle.scene_rules.specs.Parts.{Name, Part, is_among, under}
 use Rattle.scene_rules.specs.Queues.{plain_entry}
@@ -18,20 +14,6 @@ use Rattle.scene_world.specs.Lent.{parts, entities, markers, allocator, StandApa
 use Rattle.scene_world.proofs.CallerLemmas.{same-roll}
 use Rattle.scene_acts.specs.Acts.{AreUnder}
 use Rattle.scene_acts.specs.Newborns.{IsGiven, GivesPart, GivesParts}
-
--- the entries up to a place and the one there
-pub entries-more : {D : Type 0} (part_of : D → Part) (entries : List (Bor Name × D)) (place : ℕ) (d : Bor Name × D) → place < length entries
-    → map (plain_entry part_of) (take (place + 1) entries) ≡ map (plain_entry part_of) (take place entries) ++ plain_entry part_of (get_or entries place d) ∷ []
-entries-more part_of entries place d below =
-    ap (λ n. map (plain_entry part_of) (take n entries)) (next place) ∙ ap (map (plain_entry part_of)) (take-suc entries place d below)
-    ∙ map-append (plain_entry part_of) (take place entries) (get_or entries place d ∷ [])
-  where
-    next : (n : ℕ) → n + 1 ≡ suc n
-    next n = omega arith
-
--- what holds of each up to a place and of the one there
-pub all-more : {X : Type 0} (test : X → Bool) (xs : List X) (x : X) → list_all test xs ≡ true → list_all test (xs ++ x ∷ []) ≡ (test x && true)
-all-more test xs x all = list_all-append test xs (x ∷ []) ∙ ap (λ b. b && (test x && true)) all
 
 -- what stands under a name among entries and one more
 under-more : {X : Type 0} (name : Name) (entries : List (Name × X)) (entry : Name × X) → under name entries ≡ None → under name (entries ++ entry ∷ []) ≡ cond (bytes_eq name entry.0) (Some entry.1) None
@@ -81,13 +63,6 @@ under-new part_of entries place d below apart = under-none (get_or entries place
         ∙ ap (plain_entry part_of) (get_or-take place entries at d lower) ∙ sym (get_or-map (plain_entry part_of) entries at d))
         ∙ ap (λ x. bytes_eq (get_or (map (plain_entry part_of) entries) at (plain_entry part_of d)).0 x.0) (sym (get_or-map (plain_entry part_of) entries place d))
         ∙ apart at place (plain_entry part_of d) lower (omega (arith, size, below))
-
--- what holds of all entries holds of one
-pub entry-has : {D : Type 0} (part_of : D → Part) (holds : Name × Part → Type 0) (entries : List (Bor Name × D)) (place : ℕ) (d : Bor Name × D) → place < length entries → All holds (map (plain_entry part_of) entries)
-    → holds (plain_entry part_of (get_or entries place d))
-entry-has part_of holds entries place d below all =
-    let size = length-map entries (plain_entry part_of) in
-    subst holds (get_or-map (plain_entry part_of) entries place d) (All-get_or holds (map (plain_entry part_of) entries) place (plain_entry part_of d) (omega (arith, size, below)) all)
 
 -- nothing is given at first
 pub gives-none : {V : Type 0} (kinds : Kinds V) (roll : Roll) (index : ℕ) (w : Sight V) → GivesParts kinds roll index [] w w

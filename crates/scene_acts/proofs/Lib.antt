@@ -8,3 +8,5 @@ pub mod KillLemmas
 pub mod BirthLemmas
 pub mod GiveLemmas
 pub mod SpawnLemmas
+pub mod ListLemmas
+pub mod StandLemmas

@@ -5,3 +5,4 @@ pub use Rattle.scene_turns.specs.Places
 pub mod Acts
 pub mod Deaths
 pub mod Newborns
+pub mod Lists

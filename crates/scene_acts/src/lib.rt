@@ -3,10 +3,13 @@
 
 mod births;
 mod deaths;
+pub mod laws;
+mod lists;
 mod looking;
 mod parts;
 
 pub use births::spawn_entity;
 pub use deaths::kill_entity;
+pub use lists::{act, act_all};
 pub use looking::{entities_under, entity_under};
 pub use parts::{put_part, take_part};

@@ -2,7 +2,7 @@
 use Rattle.std.proofs.Common.{◌≡◌, ℕ, ◌==◌, ◌&&◌, ◌||◌, Bool, true, false, cond, List, [], ◌∷◌, map, Option, Some, None, option_map, refl, sym, ◌∙◌, ap}
 use Rattle.std.proofs.lemmas.Bool.{false≢true}
 use Rattle.std.specs.List.{list_any, list_all}
-use Rattle.scene_commands.proofs.WalkLemmas.{any_none}
+use Rattle.scene_rules.proofs.CallerLemmas.{any_none}
 use Rattle.serde_json.specs.Data.{null}
 use Rattle.scene_rules.specs.Parts.{Json, Name, Part, Ref, living, gone}
 use Rattle.scene_rules.specs.Scenes.{lives}

@@ -13,8 +13,8 @@ use Rattle.scene_rules.specs.declared.refusals.Skip.{Skip}
 use Rattle.scene_rules.specs.declared.refusals.FrameRefusal.{FrameRefusal}
 use Rattle.scene_rules.specs.declared.refusals.FrameRefusal.TheVariants.{System, GoneReference, IdsSpent, IndicesSpent, GenerationsSpent, TooManyCommands, Memory, Threads}
 use Rattle.scene_commands.specs.Together.{of_queue}
-use Rattle.scene_commands.specs.Leads.{RunsTo, RunRefused}
-use Rattle.scene_commands.proofs.LeadLemmas.{joined-to, refused-join, refused-more, behind_all-played}
+use Rattle.scene_rules.specs.Leads.{RunsTo, RunRefused}
+use Rattle.scene_rules.proofs.CallerLemmas.{joined-to, refused-join, refused-more, behind_all-played}
 
 -- how many commands wait in queues
 pub length-queues : {D : Type 0} (part_of : D → Part) (entries : List (ℕ × Queue D)) → length (flat_map (of_queue part_of) entries) ≡ length (flat_map waiting (values_of entries))

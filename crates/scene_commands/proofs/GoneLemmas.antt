@@ -17,7 +17,7 @@ use Rattle.scene_rules.specs.Lent.{datum}
 use Rattle.scene_rules.specs.Lending.{IsSound, scene_in}
 use Rattle.scene_commands.specs.Over.{cut, cut_ref, dead, given, left, slot, put_over, datum_over, scene_over, IsOver}
 use Rattle.scene_commands.proofs.CutLemmas.{refs_cut-nobody, cut-nobody, dead_holds}
-use Rattle.scene_commands.proofs.WalkLemmas.{find-filter, find_none, any_none}
+use Rattle.scene_rules.proofs.CallerLemmas.{find-filter, find_none, any_none}
 use Rattle.scene_rules.proofs.CallerLemmas.{under_name}
 use Rattle.scene_commands.proofs.ColumnLemmas.{in_column-slot}
 use Rattle.scene_commands.proofs.OverLemmas.{same_scene, bare}

@@ -1,10 +1,8 @@
 pub mod LivingLemmas
 pub mod CutLemmas
-pub mod LeadLemmas
 pub mod ColumnLemmas
 pub mod OverLemmas
 pub mod ChangeLemmas
-pub mod WalkLemmas
 pub mod GoneLemmas
 pub mod FrameLemmas
 pub mod CommitLemmas

@@ -7,7 +7,7 @@ ghost use Rattle.scene_rules.specs.Queues.{plain_command, plain_commands, waitin
 ghost use Rattle.std.specs.BTreeMap.{values};
 ghost use Rattle.scene_rules.specs.Lending.{IsSound, scene_in};
 ghost use Rattle.scene_commands.specs.Over.{scene_over, IsOver};
-ghost use Rattle.scene_commands.specs.Leads.{CommandsLead, RunRefused, RunsTo};
+ghost use Rattle.scene_rules.specs.Leads.{CommandsLead, RunRefused, RunsTo};
 ghost use Rattle.scene_commands.specs.Together.{of_queue, all_of};
 
 use crate::changes::{Base, Changes, Done, Tally};

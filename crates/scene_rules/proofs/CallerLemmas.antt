@@ -2,3 +2,5 @@
 pub use Rattle.scene_rules.proofs.ColumnsLemmas.{slice_get-set_other, slice_get-set_same, taken_last, under_name, under_name-set}
 pub use Rattle.scene_rules.proofs.FragmentLemmas.{cond_same, same_scene, admitted-fragment, living-fragment, readable-fragment, admitted-left, living-left, readable-left, owned-held}
 pub use Rattle.scene_rules.proofs.OrderLemmas.{is_eq-nat_cmp, lives-ascending, in_order-ascends, same-ids, lives-kept, lives-behind, behind-ascends}
+pub use Rattle.scene_rules.proofs.LeadLemmas.{behind_all-played, lead-none, lead-changed, lead-skipped, finds_no_id, none-to, skipped-to, joined-to, refused-join, refused-more}
+pub use Rattle.scene_rules.proofs.WalkLemmas.{mapped_at, left_at, split_at, front_at, holds_at, passes_at, find-filter, find_none, any_none, all_front, all_back, pieces_at, no_items, all_head, all_tail}

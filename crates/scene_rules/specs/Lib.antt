@@ -6,6 +6,7 @@ pub mod Scenes
 pub mod Ids
 pub mod Causes
 pub mod Commands
+pub mod Leads
 pub mod Frames
 pub mod Slots
 pub mod Lent

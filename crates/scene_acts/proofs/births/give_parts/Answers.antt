@@ -1,28 +1,25 @@
-use Rattle.std.proofs.Common.{◌≡◌, true, [], ◌∷◌, ◌++◌, None, map, take, ap, sym, ◌∙◌, subst}
+use Rattle.std.proofs.Common.{◌≡◌, true, None, map, take, sym, subst}
 use Rattle.std.proofs.lemmas.List.{take_all}
 use Rattle.scene_rules.specs.Parts.{is_among, under}
 use Rattle.scene_rules.specs.Queues.{plain_entry}
+use Rattle.scene_rules.proofs.CallerLemmas.{holds_at, front_at}
 use Rattle.scene_turns.specs.Places.{kinds_of}
 use Rattle.scene_world.specs.Standing.{roll_of}
 use Rattle.scene_acts.specs.Acts.{seen_of}
 use Rattle.scene_acts.specs.Newborns.{GivesParts}
-use Rattle.scene_acts.proofs.GiveLemmas.{entries-more, under-new, entry-has, gives-more}
+use Rattle.scene_acts.proofs.GiveLemmas.{under-new, gives-more}
 use Rattle.scene_acts.proofs.births.give_parts.Goals as goal
 
 pub give_part-requires-clause-known : goal.give_part-requires-clause-known
-give_part-requires-clause-known g c =
-    subst (λ part. is_among part.0.now g.R.Rules.columns.part_names ≡ true) (sym c.part-item.is)
-    (entry-has g.R.DocumentRules.part_of (λ entry. is_among entry.0 g.R.Rules.columns.part_names ≡ true) c.args.parts.now c.loop-part.part-index c.part-item.result c.loop-part-test.true c.requires.known)
+give_part-requires-clause-known g c = holds_at (plain_entry g.R.DocumentRules.part_of) c.args.parts.now c.loop-part.part-index c.part-item.result c.loop-part-test.true c.part-item.is (λ entry. is_among entry.0 g.R.Rules.columns.part_names ≡ true) c.requires.known
 
 pub loop-part-preserved : goal.loop-part-preserved
 loop-part-preserved g c =
     subst (λ given. GivesParts (kinds_of g.R.Value.SceneValue.places g.R.DocumentRules.part_of g.R.Rules.columns) (roll_of (kinds_of g.R.Value.SceneValue.places g.R.DocumentRules.part_of g.R.Rules.columns) (seen_of c.args.world.now)) c.args.index given (seen_of c.args.world.now) (seen_of c.give_part.new.world))
-    (sym (entries-more g.R.DocumentRules.part_of c.args.parts.now c.loop-part.part-index c.part-item.result c.loop-part-test.true
-    ∙ ap (λ part. map (plain_entry g.R.DocumentRules.part_of) (take c.loop-part.part-index c.args.parts.now) ++ plain_entry g.R.DocumentRules.part_of part ∷ []) (sym c.part-item.is)))
+    (sym (front_at (plain_entry g.R.DocumentRules.part_of) c.args.parts.now c.loop-part.part-index c.part-item.result c.loop-part-test.true c.part-item.is))
     (gives-more (kinds_of g.R.Value.SceneValue.places g.R.DocumentRules.part_of g.R.Rules.columns) g.met.R.Rules.apart c.args.index (map (plain_entry g.R.DocumentRules.part_of) (take c.loop-part.part-index c.args.parts.now)) (seen_of c.args.world.now) (seen_of c.loop-part.world) (seen_of c.give_part.new.world)
     c.loop-part.invariant c.part-item.result.0.now (g.R.DocumentRules.part_of c.part-item.result.1)
-    (subst (λ part. is_among part.0.now g.R.Rules.columns.part_names ≡ true) (sym c.part-item.is)
-    (entry-has g.R.DocumentRules.part_of (λ entry. is_among entry.0 g.R.Rules.columns.part_names ≡ true) c.args.parts.now c.loop-part.part-index c.part-item.result c.loop-part-test.true c.requires.known))
+    (holds_at (plain_entry g.R.DocumentRules.part_of) c.args.parts.now c.loop-part.part-index c.part-item.result c.loop-part-test.true c.part-item.is (λ entry. is_among entry.0 g.R.Rules.columns.part_names ≡ true) c.requires.known)
     (subst (λ part. under part.0.now (map (plain_entry g.R.DocumentRules.part_of) (take c.loop-part.part-index c.args.parts.now)) ≡ None) (sym c.part-item.is)
     (under-new g.R.DocumentRules.part_of c.args.parts.now c.loop-part.part-index c.part-item.result c.loop-part-test.true c.requires.apart))
     c.in_ok-give_part.ensures)

@@ -4,7 +4,7 @@ use Rattle.std.specs.List.{list_all}
 use Rattle.scene_rules.specs.Commands.{refs_live}
 use Rattle.scene_rules.specs.Queues.{plain_entry}
 use Rattle.scene_commands.specs.Over.{left}
-use Rattle.scene_commands.proofs.WalkLemmas.{left_at}
+use Rattle.scene_rules.proofs.CallerLemmas.{left_at}
 use Rattle.scene_commands.proofs.commands.all_refer_to_living.Goals as goal
 
 pub returns-then-not-branch : goal.returns-then-not-branch

@@ -5,7 +5,7 @@ use Rattle.scene_rules.specs.Lawful.{IsKnownPart}
 use Rattle.scene_rules.specs.Queues.{plain_entry}
 use Rattle.scene_commands.specs.Over.{left, set_part, with_spawned}
 use Rattle.scene_commands.proofs.ChangeLemmas.{spawned-more}
-use Rattle.scene_commands.proofs.WalkLemmas.{holds_at, passes_at, left_at}
+use Rattle.scene_rules.proofs.CallerLemmas.{holds_at, passes_at, left_at}
 use Rattle.scene_commands.proofs.commands.put_parts.Goals as goal
 
 pub write-requires-clause-known : goal.write-requires-clause-known

@@ -4,7 +4,7 @@ use Rattle.std.proofs.Common.{tests}
 use Rattle.std.specs.List.{list_any}
 use Rattle.std.specs.Ordering.{nat_cmp}
 use Rattle.std.specs.BTreeSet.{contains}
-use Rattle.scene_commands.proofs.WalkLemmas.{no_items}
+use Rattle.scene_rules.proofs.CallerLemmas.{no_items}
 use Rattle.scene_commands.proofs.GoneLemmas.{filter-undead}
 use Rattle.scene_commands.proofs.commit.drop_ids.Goals as goal
 

@@ -3,7 +3,7 @@ use Rattle.std.specs.Option.{IsSome}
 use Rattle.std.specs.Ordering.{nat_cmp}
 use Rattle.std.specs.BTreeMap.{get, keys}
 use Rattle.std.specs.Map.{keys_of}
-use Rattle.scene_commands.proofs.WalkLemmas.{all_head, all_tail}
+use Rattle.scene_rules.proofs.CallerLemmas.{all_head, all_tail}
 use Rattle.scene_commands.proofs.CommitLemmas.{put-more, some-set, is_there}
 use Rattle.scene_commands.proofs.commit.put_column.Goals as goal
 

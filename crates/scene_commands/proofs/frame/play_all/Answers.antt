@@ -9,7 +9,7 @@ use Rattle.scene_rules.specs.Commands.{play, played, skips_of}
 use Rattle.scene_rules.specs.Lending.{scene_in}
 use Rattle.scene_commands.specs.Over.{scene_over}
 use Rattle.scene_commands.specs.Together.{of_queue, all_of}
-use Rattle.scene_commands.proofs.WalkLemmas.{all_front, all_back}
+use Rattle.scene_rules.proofs.CallerLemmas.{all_front, all_back}
 use Rattle.scene_commands.proofs.FrameLemmas.{length-queues, first_refused, later_refused, all_run}
 use Rattle.scene_commands.proofs.frame.play_all.Goals as goal
 

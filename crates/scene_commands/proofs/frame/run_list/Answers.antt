@@ -4,9 +4,9 @@ use Rattle.std.proofs.lemmas.Grind.{common_steps}
 use Rattle.scene_rules.specs.Lawful.{IsLawful}
 use Rattle.scene_rules.specs.Queues.{plain_command, plain_commands}
 use Rattle.scene_commands.specs.Over.{scene_over}
-use Rattle.scene_commands.specs.Leads.{RunsTo, RunRefused}
-use Rattle.scene_commands.proofs.WalkLemmas.{holds_at, front_at, split_at}
-use Rattle.scene_commands.proofs.LeadLemmas.{joined-to, refused-join, refused-more}
+use Rattle.scene_rules.specs.Leads.{RunsTo, RunRefused}
+use Rattle.scene_rules.proofs.CallerLemmas.{holds_at, front_at, split_at}
+use Rattle.scene_rules.proofs.CallerLemmas.{joined-to, refused-join, refused-more}
 use Rattle.scene_commands.proofs.frame.run_list.Goals as goal
 
 pub run_next-requires-clause-lawful : goal.run_next-requires-clause-lawful

@@ -1,7 +1,7 @@
 use Rattle.std.proofs.Common.{◌≡◌, ◌+◌, take}
 use Rattle.scene_rules.specs.Queues.{plain_commands}
 use Rattle.scene_commands.specs.Over.{scene_over, IsOver}
-use Rattle.scene_commands.specs.Leads.{RunsTo}
+use Rattle.scene_rules.specs.Leads.{RunsTo}
 use Rattle.scene_commands.proofs.frame.run_list.Given as goal
 
 abbrev pub invariant-loop-command : goal.invariant-loop-command

@@ -4,7 +4,7 @@ use Rattle.scene_rules.specs.Commands.{apply}
 use Rattle.scene_rules.specs.Queues.{plain_command}
 use Rattle.scene_commands.specs.declared.changes.Done.TheVariants as told
 use Rattle.scene_commands.specs.Over.{scene_over, IsDone}
-use Rattle.scene_commands.proofs.LeadLemmas.{skipped-to}
+use Rattle.scene_rules.proofs.CallerLemmas.{skipped-to}
 use Rattle.scene_commands.proofs.frame.run_next.Goals as goal
 
 pub returns-else-is_err-clause-ran : goal.returns-else-is_err-clause-ran

@@ -7,9 +7,9 @@ use Rattle.scene_rules.specs.Lawful.{IsLawful}
 use Rattle.scene_rules.specs.Queues.{plain_command, plain_commands, waiting}
 use Rattle.scene_commands.specs.Over.{scene_over}
 use Rattle.scene_commands.specs.Together.{of_queue}
-use Rattle.scene_commands.specs.Leads.{RunsTo, RunRefused}
-use Rattle.scene_commands.proofs.WalkLemmas.{pieces_at, all_front, all_back}
-use Rattle.scene_commands.proofs.LeadLemmas.{joined-to, refused-join, refused-more}
+use Rattle.scene_rules.specs.Leads.{RunsTo, RunRefused}
+use Rattle.scene_rules.proofs.CallerLemmas.{pieces_at, all_front, all_back}
+use Rattle.scene_rules.proofs.CallerLemmas.{joined-to, refused-join, refused-more}
 use Rattle.scene_commands.proofs.frame.run_queues.Goals as goal
 
 pub run_list-requires-clause-lawful : goal.run_list-requires-clause-lawful

@@ -3,7 +3,7 @@ use Rattle.std.specs.List.{flat_map}
 use Rattle.scene_rules.specs.declared.command.Queue.{Queue}
 use Rattle.scene_rules.specs.Queues.{plain_commands, waiting}
 use Rattle.scene_commands.specs.Over.{scene_over, IsOver}
-use Rattle.scene_commands.specs.Leads.{RunsTo}
+use Rattle.scene_rules.specs.Leads.{RunsTo}
 use Rattle.scene_commands.proofs.frame.run_queues.Given as goal
 
 abbrev pub invariant-loop-queue : goal.invariant-loop-queue

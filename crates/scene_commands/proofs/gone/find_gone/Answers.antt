@@ -4,7 +4,7 @@ use Rattle.std.specs.List.{list_any, find}
 use Rattle.scene_rules.specs.Commands.{holds_gone}
 use Rattle.scene_commands.specs.Over.{scene_over}
 use Rattle.scene_commands.proofs.GoneLemmas.{none_told, told, or_some, or_none}
-use Rattle.scene_commands.proofs.WalkLemmas.{no_items}
+use Rattle.scene_rules.proofs.CallerLemmas.{no_items}
 use Rattle.scene_commands.proofs.gone.find_gone.Goals as goal
 
 pub returns-then-is_empty : goal.returns-then-is_empty

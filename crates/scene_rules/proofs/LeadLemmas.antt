@@ -8,7 +8,7 @@ use Rattle.scene_rules.specs.Commands.{skips_of}
 use Rattle.scene_rules.specs.declared.refusals.Skip.{Skip}
 use Rattle.scene_rules.specs.declared.refusals.FrameRefusal.{FrameRefusal}
 use Rattle.scene_rules.specs.declared.refusals.FrameRefusal.TheVariants.{System, GoneReference, IdsSpent, IndicesSpent, GenerationsSpent, TooManyCommands, Memory, Threads}
-use Rattle.scene_commands.specs.Leads.{behind_all, CommandsLead, FindsNoId, RunsTo, RunRefused}
+use Rattle.scene_rules.specs.Leads.{behind_all, CommandsLead, FindsNoId, RunsTo, RunRefused}
 
 -- places behind places behind others
 pub behind_all-append : (one other : List ℕ) (rest : Played) → behind_all (one ++ other) rest ≡ behind_all one (behind_all other rest)

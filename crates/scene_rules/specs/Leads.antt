@@ -1,4 +1,4 @@
--- How lists of commands are run one after another: for private contracts.
+-- How lists of commands are run one after another, whatever comes after them.
 use Rattle.std.specs.Prelude.{◌≡◌, ℕ, ◌+◌, List, [], ◌∷◌, ◌++◌, length}
 use Rattle.scene_rules.specs.Rulebook.{Command}
 use Rattle.scene_rules.specs.Scenes.{PlainScene}
