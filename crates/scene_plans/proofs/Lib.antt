@@ -1,0 +1,4 @@
+pub mod ZipLemmas
+pub mod RestLemmas
+pub mod AlikeLemmas
+pub mod ShapeLemmas
