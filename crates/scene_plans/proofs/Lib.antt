@@ -2,3 +2,15 @@ pub mod ZipLemmas
 pub mod RestLemmas
 pub mod AlikeLemmas
 pub mod ShapeLemmas
+pub mod PlaceLemmas
+pub mod ConflictLemmas
+pub mod NumberLemmas
+pub mod NameLemmas
+pub mod FoundLemmas
+pub mod EntryLemmas
+pub mod OrderLemmas
+pub mod EarlierLemmas
+pub mod BuilderLemmas
+pub mod BuiltLemmas
+pub mod DocumentLemmas
+pub mod SameLemmas

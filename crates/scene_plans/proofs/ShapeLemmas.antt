@@ -8,14 +8,14 @@ use Rattle.scene_plans.proofs.ZipLemmas.{zip-weaker, zip-append, zip-length}
 use Rattle.scene_plans.proofs.AlikeLemmas.{ByGroup, ByStage, zip-systems, IsKnown, placed-zip}
 
 -- what holds of the systems of two plans holds of them in their order
-zip-order : {I J : Type 0} (R : Placing I → Placing J → Type 0) (stages : List (Stage I)) (others : List (Stage J)) → ByStage R stages others → AllZip R (plan_order stages) (plan_order others)
+pub zip-order : {I J : Type 0} (R : Placing I → Placing J → Type 0) (stages : List (Stage I)) (others : List (Stage J)) → ByStage R stages others → AllZip R (plan_order stages) (plan_order others)
 zip-order R [] [] zipped = tt
 zip-order R [] (partners ∷ others) zipped = absurd zipped
 zip-order R (stage ∷ stages) [] zipped = absurd zipped
 zip-order R (stage ∷ stages) (partners ∷ others) zipped = zip-append R (systems_of stage) (plan_order stages) (systems_of partners) (plan_order others) (zip-systems R stage partners zipped.0) (zip-order R stages others zipped.1)
 
 -- what is weaker holds of the systems of two plans
-weaker-plan : {I J : Type 0} (R S : Placing I → Placing J → Type 0) → ((one : Placing I) (other : Placing J) → R one other → S one other)
+pub weaker-plan : {I J : Type 0} (R S : Placing I → Placing J → Type 0) → ((one : Placing I) (other : Placing J) → R one other → S one other)
     → (stages : List (Stage I)) (others : List (Stage J)) → ByStage R stages others → ByStage S stages others
 weaker-plan R S weaker = zip-weaker (ByGroup R) (ByGroup S) (zip-weaker (AllZip R) (AllZip S) (zip-weaker R S weaker))
 
