@@ -15,7 +15,9 @@ use Rattle.shred.specs.Names.{numbers_under, with_name}
 use Rattle.shred.specs.Building.{Building, Declared, nothing_built}
 use Rattle.shred.specs.Histories.{Asked, with_asked, built_from, told}
 use Rattle.shred.specs.Histories as asked
-use Rattle.scene_plans.specs.Told.{systems_in, AreNamed, is_staged, is_staged_as, number_named, next_number, staged_list, declared_of, told_at, told_from, told_entries, asked_at, asked_entries, asked_as}
+use Rattle.scene_plans.specs.Entries.{systems_in, AreNamed, is_staged, is_staged_as, number_named, next_number, staged_list}
+use Rattle.scene_plans.specs.Told.{declared_of, told_at, told_from, told_entries}
+use Rattle.scene_plans.specs.Asked.{asked_at, asked_entries, asked_as}
 use Rattle.scene_plans.proofs.NumberLemmas.{staged_count, count-more, further}
 use Rattle.scene_plans.proofs.EarlierLemmas.{NamesOf, names_in, names-barrier, names-system, names-after-barrier, names-after-unstaged, names-after-staged, numbers-told}
 use Rattle.scene_plans.proofs.NameLemmas.{AreFit, named-fit, fit-staged}

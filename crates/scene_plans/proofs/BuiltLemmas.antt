@@ -14,7 +14,9 @@ use Rattle.scene_turns.specs.Chains.{plan_order, PlanIsLent, EachAt}
 use Rattle.shred.specs.Building.{Building, nothing_built}
 use Rattle.shred.specs.Histories.{Asked, with_asked, built_from, told}
 use Rattle.shred.specs.Histories as asked
-use Rattle.scene_plans.specs.Told.{AreNamed, AllKnown, meant_at, nobody, told_entries, asked_entries, asked_as}
+use Rattle.scene_plans.specs.Entries.{AreNamed, staged_list, nobody, meant_at}
+use Rattle.scene_plans.specs.Told.{AllKnown, told_entries}
+use Rattle.scene_plans.specs.Asked.{IsBuiltOf}
 use Rattle.scene_plans.proofs.BuilderLemmas.{builder-told, builder-systems}
 use Rattle.scene_plans.proofs.OrderLemmas.{staged-order, staged-lent}
 
@@ -30,23 +32,26 @@ made-at f [] place x d e = cc
 made-at f (y ∷ xs) zero x d e = let same : y ≡ x = cc in ap f (sym same)
 made-at f (y ∷ xs) (suc place) x d e = made-at f xs place x d e
 
--- each system of a builder is the one that is meant by its number
-pub built-meant : {V S : Type 0} (kinds : Kinds V) (same : ResourceId → ResourceId → Bool) (plain : S → PlainSystem) (list : List (Asked S)) (entries : List DraftEntry) → map (asked_as plain) list ≡ asked_entries kinds 1 entries
-    → EachAt (λ number one. plain one ≡ meant_at entries number) (built_from same nothing_built list).staging.systems
-built-meant kinds same plain list entries asks number one there =
-    made-at plain (built_from same nothing_built list).staging.systems number one nobody there
-    ∙ ap (λ systems. get_or systems number nobody) (builder-systems kinds same plain list entries asks)
+module _ {V S : Type 0} (kinds : Kinds V) (plain : S → PlainSystem) where
+  -- the systems of a builder are the staged ones
+  pub built-systems : (same : ResourceId → ResourceId → Bool) (entries : List DraftEntry) (building : Building S) → IsBuiltOf kinds same plain entries building → map plain building.staging.systems ≡ staged_list 1 entries
+  built-systems same entries building is = ap (λ (b : Building S). map plain b.staging.systems) is.built ∙ builder-systems kinds same plain is.list entries is.asks
 
-module _ {V S : Type 0} (kinds : Kinds V) (plain : S → PlainSystem) (list : List (Asked S)) (draft : Draft) (named : AreNamed draft.entries) (asks : map (asked_as plain) list ≡ asked_entries kinds 1 draft.entries) where
-  -- its plan is that of what the document says
-  pub built-plan : (built_from same_id nothing_built list).staging.planning.stages ≡ plan same_id (told_entries kinds draft.entries)
-  built-plan = ap (λ planning. planning.stages) (built-planned same_id list nothing_built) ∙ ap (plan same_id) (builder-told kinds same_id plain list draft.entries named asks)
+  -- and each is the one that is meant by its number
+  pub built-meant : (same : ResourceId → ResourceId → Bool) (entries : List DraftEntry) (building : Building S) → IsBuiltOf kinds same plain entries building → EachAt (λ number one. plain one ≡ meant_at entries number) building.staging.systems
+  built-meant same entries building is number one there =
+      made-at plain building.staging.systems number one nobody there ∙ ap (λ systems. get_or systems number nobody) (built-systems same entries building is)
 
-  module _ (apart : StandApart kinds) (known : AllKnown kinds draft.entries) where
+  -- its plan is that of what the entries say
+  pub built-plan : (same : ResourceId → ResourceId → Bool) (entries : List DraftEntry) (building : Building S) → AreNamed entries → IsBuiltOf kinds same plain entries building → building.staging.planning.stages ≡ plan same (told_entries kinds entries)
+  built-plan same entries building named is =
+      ap (λ (b : Building S). b.staging.planning.stages) is.built ∙ ap (λ planning. planning.stages) (built-planned same is.list nothing_built) ∙ ap (plan same) (builder-told kinds same plain is.list entries named is.asks)
+
+  module _ (apart : StandApart kinds) (draft : Draft) (known : AllKnown kinds draft.entries) (named : AreNamed draft.entries) (building : Building S) (is : IsBuiltOf kinds same_id plain draft.entries building) where
     -- so its systems run in the order of the document
-    pub built-order : plan_order (meant_at draft.entries) (built_from same_id nothing_built list).staging.planning.stages ≡ staged_systems draft
-    built-order = ap (plan_order (meant_at draft.entries)) built-plan ∙ staged-order kinds apart draft named known
+    pub built-order : plan_order (meant_at draft.entries) building.staging.planning.stages ≡ staged_systems draft
+    built-order = ap (plan_order (meant_at draft.entries)) (built-plan same_id draft.entries building named is) ∙ staged-order kinds apart draft named known
 
     -- and each declares what it is lent
-    pub built-lent : PlanIsLent kinds (meant_at draft.entries) (built_from same_id nothing_built list).staging.planning.stages
-    built-lent = subst (PlanIsLent kinds (meant_at draft.entries)) (sym built-plan) (staged-lent kinds apart draft named known)
+    pub built-lent : PlanIsLent kinds (meant_at draft.entries) building.staging.planning.stages
+    built-lent = subst (PlanIsLent kinds (meant_at draft.entries)) (sym (built-plan same_id draft.entries building named is)) (staged-lent kinds apart draft named known)

@@ -1,9 +1,10 @@
 -- What the reading of a document, and the refusals that don't stand, say of its entries.
 use Rattle.std.proofs.Common.{◌≡◌, ℕ, Bool, true, false, ◌&&◌, List, [], ◌∷◌, Option, Some, None, option_map, refl, ap, sym, ◌∙◌, subst}
-use Rattle.std.specs.Prelude.{Ok, Err, codes, if◌then◌else◌}
+use Rattle.std.specs.Prelude.{◌≤◌, length, nat_lt, Ok, Err, codes, if◌then◌else◌}
 use Rattle.std.specs.List.{All, AllByRecursion}
 use Rattle.std.specs.Option.{option_and_then}
 use Rattle.std.specs.Ordering.{nat_cmp, match_ordering, is_eq}
+use Rattle.std.proofs.lemmas.Bool.{ltb-false}
 use Rattle.std.specs.declared.cmp.Ordering.{Ordering}
 use Rattle.std.specs.declared.cmp.Ordering.TheVariants.{Less, Equal, Greater}
 use Rattle.std.specs.Cmp.Lexicographic.{slice_cmp}
@@ -20,8 +21,8 @@ use Rattle.scene_draft.specs.Drafts.{Draft, DraftEntity, DraftEntry, DraftSystem
 use Rattle.scene_rules.specs.declared.refusals.DocRefusal.TheVariants.{NotWhole}
 use Rattle.std.proofs.lemmas.List.Elements.{All-from_recursion}
 use Rattle.serde_json.specs.Written.{has_float}
-use Rattle.scene_document.specs.Documents.{listed_ids, systems_of, has_unknown_kind, has_double, has_id_past_next, dangles, has_unknown_system, has_taken_name, has_unknown_dependency, refusal_of, unless_refused, of_shape, document_from}
-use Rattle.scene_plans.specs.Told.{systems_in, AreNamed, IsSaid}
+use Rattle.scene_document.specs.Documents.{listed_ids, systems_of, has_unknown_kind, has_double, has_id_past_next, dangles, has_unknown_system, has_taken_name, has_unknown_dependency, lacks_global, writes_reserved, refusal_of, unless_refused, of_shape, document_from}
+use Rattle.scene_plans.specs.Entries.{systems_in, AreNamed, IsSaid}
 use Rattle.scene_plans.proofs.EntryLemmas.{each-weaker}
 
 -- what a reading of one element says holds of each that is read
@@ -193,9 +194,10 @@ unless : (b : Bool) (refusal : DocRefusal) (later : Option DocRefusal) → (if b
 unless true refusal later e = cc
 unless false refusal later e = (refl, e)
 
--- the systems of a draft without refusals are known, have names of their own, and come after systems that have their names before them
+-- the systems of a draft without refusals are known, have names of their own, and come after systems that have their names before them; and
+-- there are few entries
 pub names-unrefused : (indices : ℕ) (draft : Draft) → refusal_of indices draft ≡ None
-    → (has_unknown_system draft ≡ false) × (has_taken_name (systems_of draft) ≡ false) × (has_unknown_dependency [] (systems_of draft) ≡ false)
+    → (has_unknown_system draft ≡ false) × (has_taken_name (systems_of draft) ≡ false) × (has_unknown_dependency [] (systems_of draft) ≡ false) × (length draft.entries ≤ 4096)
 names-unrefused indices draft none =
     let kinds = unless (has_unknown_kind draft) _ _ none in
     let ids = unless (has_double (listed_ids draft)) _ _ kinds.1 in
@@ -204,7 +206,11 @@ names-unrefused indices draft none =
     let systems = unless (has_unknown_system draft) _ _ refs.1 in
     let names = unless (has_taken_name (systems_of draft)) _ _ systems.1 in
     let follow = unless (has_unknown_dependency [] (systems_of draft)) _ _ names.1 in
-    (systems.0, names.0, follow.0)
+    let globals = unless (lacks_global draft) _ _ follow.1 in
+    let reserved = unless (writes_reserved draft) _ _ globals.1 in
+    let workers = unless (nat_lt 64 draft.workers) _ _ reserved.1 in
+    let many = unless (nat_lt 4096 (length draft.entries)) _ _ workers.1 in
+    (systems.0, names.0, follow.0, ltb-false 4096 (length draft.entries) many.0)
 
 -- so the entries of a document are named, and its systems are what the rules say
 module _ (book : Book) (indices : ℕ) (json : Json) (draft : Draft) (is : document_from book indices json ≡ Ok draft) where
@@ -218,8 +224,12 @@ module _ (book : Book) (indices : ℕ) (json : Json) (draft : Draft) (is : docum
         none_unknown = names.0;
         unnamed = All-from_recursion (λ one. one.local ≡ true → one.name ≡ []) (systems_in draft.entries)
             (each-weaker (IsRead book) (λ one. one.local ≡ true → one.name ≡ []) (λ one read. read.unnamed) (systems_in draft.entries) reads);
+        own = names.1;
         earlier = names.2;
       }
+
+  pub document-few : length draft.entries ≤ 4096
+  document-few = (names-unrefused indices draft (document-read book indices json draft is).1).3
 
   pub document-described : All (IsSaid book) (systems_in draft.entries)
   document-described = All-from_recursion (IsSaid book) (systems_in draft.entries) (each-weaker (IsRead book) (IsSaid book) (λ one read. read.described) (systems_in draft.entries) reads)

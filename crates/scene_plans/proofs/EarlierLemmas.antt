@@ -12,7 +12,7 @@ use Rattle.scene_rules.specs.Parts.{Name, is_among}
 use Rattle.scene_draft.specs.Drafts.{DraftEntry, DraftSystem, barrier, system, system_of_entry}
 use Rattle.scene_draft.proofs.CallerLemmas.{bytes_eq-symmetric}
 use Rattle.shred.specs.Names.{Named, number_under, numbers_under, with_name}
-use Rattle.scene_plans.specs.Told.{systems_in, is_staged, number_named, next_number}
+use Rattle.scene_plans.specs.Entries.{systems_in, is_staged, number_named, next_number}
 use Rattle.scene_plans.proofs.NumberLemmas.{staged_count}
 
 or-nothing : {X : Type 0} (o : Option X) → option_or o None ≡ o
@@ -68,7 +68,7 @@ named-early number (system one ∷ early) later name among =
     by false among rest = rest among
 
 -- the number under a name, with one name more
-under-more : (names : List Named) (one : List ℕ) (number : ℕ) (name : List ℕ) → number_under (names ++ (one, number) ∷ []) name ≡ option_or (number_under names name) (if bytes_eq name one then Some number else None)
+pub under-more : (names : List Named) (one : List ℕ) (number : ℕ) (name : List ℕ) → number_under (names ++ (one, number) ∷ []) name ≡ option_or (number_under names name) (if bytes_eq name one then Some number else None)
 under-more [] one number name = refl
 under-more (first ∷ names) one number name = by (bytes_eq name first.0) (under-more names one number name)
   where

@@ -10,12 +10,8 @@ use Rattle.scene_rules.specs.Rulebook.{Facts}
 use Rattle.scene_rules.specs.Scenes.{PlainSystem}
 use Rattle.scene_draft.specs.Drafts.{DraftEntry, DraftSystem, barrier, system}
 use Rattle.scene_document.specs.Openings.{systems_at, with_facts}
-use Rattle.scene_plans.specs.Told.{is_staged, is_staged_as, staged_list, meant_at, nobody}
+use Rattle.scene_plans.specs.Entries.{plain_at, is_staged, is_staged_as, staged_list, meant_at, nobody}
 use Rattle.scene_plans.proofs.NumberLemmas.{staged_count}
-
--- the system of an entry, by what a document says of it
-abbrev pub plain_at : ℕ → DraftSystem → Facts → PlainSystem
-plain_at place one facts = record { position = place; kind = one.kind; config = one.config; access = facts.access }
 
 -- the systems of entries, and then those of later ones
 systems-append : (test : DraftSystem → Bool) (place end : ℕ) (early later : List DraftEntry) → end ≡ place + length early → systems_at test place (early ++ later) ≡ systems_at test place early ++ systems_at test end later

@@ -14,3 +14,8 @@ pub mod BuilderLemmas
 pub mod BuiltLemmas
 pub mod DocumentLemmas
 pub mod SameLemmas
+pub mod StepLemmas
+pub mod TakenLemmas
+pub mod PlanRows
+pub mod KnownLemmas
+pub mod CallerLemmas

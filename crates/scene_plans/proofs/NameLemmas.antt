@@ -11,7 +11,7 @@ use Rattle.scene_rules.specs.Rulebook.{Facts}
 use Rattle.scene_draft.specs.Drafts.{DraftEntry, DraftSystem, barrier, system}
 use Rattle.scene_document.specs.Documents.{has_unknown_dependency}
 use Rattle.scene_document.specs.Openings.{place_named}
-use Rattle.scene_plans.specs.Told.{systems_in, AreNamed, is_staged, is_staged_as, number_at, next_number, number_named}
+use Rattle.scene_plans.specs.Entries.{systems_in, AreNamed, is_staged, is_staged_as, number_at, next_number, number_named}
 use Rattle.scene_plans.proofs.NumberLemmas.{staged_count, count-more, further, next-place, number-behind, IsStagedAt, staged-here}
 
 -- a system's kind is known, and it has no name if it is local

@@ -6,7 +6,7 @@ use Rattle.std.proofs.lemmas.Bool.{cases_lt}
 use Rattle.std.proofs.lemmas.List.{length_push}
 use Rattle.std.proofs.lemmas.List.Sums.{sum_by_push, sum_by-cons}
 use Rattle.scene_draft.specs.Drafts.{DraftEntry}
-use Rattle.scene_plans.specs.Told.{is_staged, number_at, next_number}
+use Rattle.scene_plans.specs.Entries.{is_staged, number_at, next_number}
 
 -- how many of entries are staged systems
 abbrev pub staged_count : List DraftEntry → ℕ

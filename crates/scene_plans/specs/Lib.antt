@@ -5,4 +5,6 @@ pub use Rattle.scene_document.specs.Openings
 pub use Rattle.scene_turns.specs.Chains
 pub mod Alike
 pub mod Declaring
+pub mod Entries
 pub mod Told
+pub mod Asked

@@ -1,13 +1,13 @@
 //! Laws of plans that are made side by side. The functions have no code; each contract is the law.
-ghost use Rattle.std.specs.Prelude.{◌≡◌, ◌≢◌, ℕ, List, map, All, Option, Ok};
+ghost use Rattle.std.specs.Prelude.{◌≡◌, ◌≢◌, ◌≤◌, ◌++◌, ◌∷◌, [], ℕ, suc, false, List, length, map, All, None, Some, Ok};
 ghost use Rattle.shred_world.specs.declared.resource_id.ResourceId.{ResourceId as Id};
 ghost use Rattle.shred_plan.specs.Plan.{Placing, conflict, plan, order};
-ghost use Rattle.shred.specs.Building.{nothing_built};
-ghost use Rattle.shred.specs.Histories.{Asked, built_from, told};
-ghost use Rattle.scene_rules.specs.Parts.{Json};
-ghost use Rattle.scene_rules.specs.Rulebook.{Access};
+ghost use Rattle.shred.specs.Building.{Building, Declared, nothing_built, built_with, fenced, refusal};
+ghost use Rattle.shred.specs.Histories.{Asked, told};
+ghost use Rattle.scene_rules.specs.Parts.{Json, Name};
+ghost use Rattle.scene_rules.specs.Rulebook.{Access, Facts, known};
 ghost use Rattle.scene_rules.specs.Scenes.{PlainSystem};
-ghost use Rattle.scene_draft.specs.Drafts.{Draft, DraftEntry};
+ghost use Rattle.scene_draft.specs.Drafts.{Draft, DraftEntry, DraftSystem, barrier, system};
 ghost use Rattle.scene_document.specs.Documents.{document_from};
 ghost use Rattle.scene_document.specs.Openings.{Resource, same_resource, staged_systems};
 ghost use Rattle.scene_world.specs.Standing.{Kinds};
@@ -15,7 +15,9 @@ ghost use Rattle.scene_world.specs.Lent.{StandApart, AreKnown};
 ghost use Rattle.scene_turns.specs.Chains.{plan_order, PlanIsLent, EachAt};
 ghost use Rattle.scene_plans.specs.Alike.{Beside, AreAlike, HaveOneShape, to_one, to_other};
 ghost use Rattle.scene_plans.specs.Declaring.{DeclareOne};
-ghost use Rattle.scene_plans.specs.Told.{AreNamed, AllKnown, IsSaid, systems_in, staged_list, meant_at, told_entries, asked_entries, asked_as};
+ghost use Rattle.scene_plans.specs.Entries.{AreNamed, IsSaid, systems_in, is_staged, plain_at, staged_list, meant_at};
+ghost use Rattle.scene_plans.specs.Told.{AllKnown, declared_of, told_entries};
+ghost use Rattle.scene_plans.specs.Asked.{asked_entries, asked_as, IsBuiltOf};
 
 use scene_turns::Rules;
 use shred_world::ResourceId;
@@ -51,38 +53,76 @@ pub fn the_order_is_the_documents<V>()
         (plan ⟦<ResourceId as PartialEq>⟧.eq (told_entries kinds draft.entries)) }
 {}
 
-/// A builder that is asked for what entries say, one after the other, tells the planner so; its systems are the staged
-/// ones in their order, and each is the one that is meant by its number.
+/// A builder that is asked for what entries say, one after the other, tells the planner so.
 pub fn a_builder_tells_what_it_is_asked<V, S>()
-    ensures told { (kinds : Kinds V) (plain : S → PlainSystem) (list : List (Asked S)) (entries : List DraftEntry)
+    ensures { (kinds : Kinds V) (plain : S → PlainSystem) (list : List (Asked S)) (entries : List DraftEntry)
         → AreNamed entries → map (asked_as plain) list ≡ asked_entries kinds 1 entries
         → told ⟦<ResourceId as PartialEq>⟧.eq nothing_built list ≡ told_entries kinds entries }
-    ensures systems { (kinds : Kinds V) (plain : S → PlainSystem) (list : List (Asked S)) (entries : List DraftEntry)
-        → map (asked_as plain) list ≡ asked_entries kinds 1 entries
-        → map plain (built_from ⟦<ResourceId as PartialEq>⟧.eq nothing_built list).staging.systems
-        ≡ staged_list 1 entries }
-    ensures meant { (kinds : Kinds V) (plain : S → PlainSystem) (list : List (Asked S)) (entries : List DraftEntry)
-        → map (asked_as plain) list ≡ asked_entries kinds 1 entries
-        → EachAt (λ number one. plain one ≡ meant_at entries number)
-        (built_from ⟦<ResourceId as PartialEq>⟧.eq nothing_built list).staging.systems }
 {}
 
-/// So the systems of what is built run in the order of the document, and each declares what it is lent.
+/// A builder is asked for entries one after the other: for a barrier, for a staged system, and for nothing where a
+/// system isn't staged.
+pub fn a_builder_goes_on_with_entries<V, S>()
+    ensures begins { (kinds : Kinds V) (plain : S → PlainSystem)
+        → IsBuiltOf kinds ⟦<ResourceId as PartialEq>⟧.eq plain [] nothing_built }
+    ensures barrier { (kinds : Kinds V) (plain : S → PlainSystem) (early : List DraftEntry) (building : Building S)
+        → IsBuiltOf kinds ⟦<ResourceId as PartialEq>⟧.eq plain early building
+        → IsBuiltOf kinds ⟦<ResourceId as PartialEq>⟧.eq plain (early ++ barrier ∷ []) (record {
+          staging = fenced ⟦<ResourceId as PartialEq>⟧.eq building.staging;
+          names = building.names;
+        }) }
+    ensures staged { (kinds : Kinds V) (plain : S → PlainSystem) (early : List DraftEntry) (building : Building S)
+        (one : DraftSystem) (facts : Facts) (taken : S) (declared : Declared)
+        → IsBuiltOf kinds ⟦<ResourceId as PartialEq>⟧.eq plain early building
+        → one.local ≡ false → one.facts ≡ Some facts → plain taken ≡ plain_at (suc (length early)) one facts
+        → declared ≡ declared_of kinds (suc (length early)) facts
+        → IsBuiltOf kinds ⟦<ResourceId as PartialEq>⟧.eq plain (early ++ system one ∷ [])
+        (built_with ⟦<ResourceId as PartialEq>⟧.eq building taken declared one.name one.after) }
+    ensures unstaged { (kinds : Kinds V) (plain : S → PlainSystem) (early : List DraftEntry) (building : Building S)
+        (one : DraftSystem) → IsBuiltOf kinds ⟦<ResourceId as PartialEq>⟧.eq plain early building
+        → is_staged (system one) ≡ false
+        → IsBuiltOf kinds ⟦<ResourceId as PartialEq>⟧.eq plain (early ++ system one ∷ []) building }
+{}
+
+/// Nothing but want of memory stands against a system of a document, once a builder was asked for the entries before
+/// it: its name is free, those that it comes after are there, and there is room.
+pub fn a_builder_takes_the_systems_of_a_document<V, S>()
+    ensures { (kinds : Kinds V) (plain : S → PlainSystem) (entries early later : List DraftEntry) (one : DraftSystem)
+        (building : Building S) → AreNamed entries → length entries ≤ 65536 → entries ≡ early ++ system one ∷ later
+        → IsBuiltOf kinds ⟦<ResourceId as PartialEq>⟧.eq plain early building
+        → refusal building one.name one.after ≡ None }
+{}
+
+/// The systems of what is built are the staged ones in their order, each the one that is meant by its number; they run
+/// in the order of the document, and each declares what it is lent.
 pub fn what_is_built_runs_as_the_document_says<V, S>()
-    ensures order { (kinds : Kinds V) (plain : S → PlainSystem) (list : List (Asked S)) (draft : Draft)
+    ensures systems { (kinds : Kinds V) (plain : S → PlainSystem) (entries : List DraftEntry) (building : Building S)
+        → IsBuiltOf kinds ⟦<ResourceId as PartialEq>⟧.eq plain entries building
+        → map plain building.staging.systems ≡ staged_list 1 entries }
+    ensures meant { (kinds : Kinds V) (plain : S → PlainSystem) (entries : List DraftEntry) (building : Building S)
+        → IsBuiltOf kinds ⟦<ResourceId as PartialEq>⟧.eq plain entries building
+        → EachAt (λ number one. plain one ≡ meant_at entries number) building.staging.systems }
+    ensures order { (kinds : Kinds V) (plain : S → PlainSystem) (draft : Draft) (building : Building S)
         → StandApart kinds → AllKnown kinds draft.entries → AreNamed draft.entries
-        → map (asked_as plain) list ≡ asked_entries kinds 1 draft.entries → plan_order (meant_at draft.entries)
-        (built_from ⟦<ResourceId as PartialEq>⟧.eq nothing_built list).staging.planning.stages ≡ staged_systems draft }
-    ensures lent { (kinds : Kinds V) (plain : S → PlainSystem) (list : List (Asked S)) (draft : Draft)
+        → IsBuiltOf kinds ⟦<ResourceId as PartialEq>⟧.eq plain draft.entries building
+        → plan_order (meant_at draft.entries) building.staging.planning.stages ≡ staged_systems draft }
+    ensures lent { (kinds : Kinds V) (plain : S → PlainSystem) (draft : Draft) (building : Building S)
         → StandApart kinds → AllKnown kinds draft.entries → AreNamed draft.entries
-        → map (asked_as plain) list ≡ asked_entries kinds 1 draft.entries → PlanIsLent kinds (meant_at draft.entries)
-        (built_from ⟦<ResourceId as PartialEq>⟧.eq nothing_built list).staging.planning.stages }
+        → IsBuiltOf kinds ⟦<ResourceId as PartialEq>⟧.eq plain draft.entries building
+        → PlanIsLent kinds (meant_at draft.entries) building.staging.planning.stages }
 {}
 
-/// The entries of a document are named, and what is known of its systems is what the rules say.
+/// The entries of a document are named and no more than 4096, and what is known of its systems is what the rules say;
+/// so it declares names that the rules know, where all that they describe does.
 pub fn documents_name_their_systems<R: Rules>(rules: &R)
     ensures named { (indices : ℕ) (json : Json) (draft : Draft) → document_from (R.book rules.now) indices json ≡ Ok draft
         → AreNamed draft.entries }
+    ensures few { (indices : ℕ) (json : Json) (draft : Draft) → document_from (R.book rules.now) indices json ≡ Ok draft
+        → length draft.entries ≤ 4096 }
     ensures said { (indices : ℕ) (json : Json) (draft : Draft) → document_from (R.book rules.now) indices json ≡ Ok draft
         → All (IsSaid (R.book rules.now)) (systems_in draft.entries) }
+    ensures known { (kinds : Kinds R.Value) (entries : List DraftEntry)
+        → ((kind : Name) (config : Json) (facts : Facts) → (R.book rules.now).system kind config ≡ known facts
+        → AreKnown kinds facts.access)
+        → All (IsSaid (R.book rules.now)) (systems_in entries) → AllKnown kinds entries }
 {}

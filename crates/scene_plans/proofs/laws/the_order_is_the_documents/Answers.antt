@@ -2,7 +2,8 @@ use Rattle.std.proofs.Common.{◌≡◌, sym, subst}
 use Rattle.shred_plan.specs.Plan.{plan}
 use Rattle.scene_document.specs.Openings.{staged_systems}
 use Rattle.scene_turns.specs.Chains.{plan_order, PlanIsLent}
-use Rattle.scene_plans.specs.Told.{meant_at, told_entries}
+use Rattle.scene_plans.specs.Entries.{meant_at}
+use Rattle.scene_plans.specs.Told.{told_entries}
 use Rattle.scene_plans.proofs.OrderLemmas.{staged-order, staged-lent}
 use Rattle.scene_plans.proofs.SameLemmas.{same-ids}
 use Rattle.scene_plans.proofs.laws.the_order_is_the_documents.Goals as goal

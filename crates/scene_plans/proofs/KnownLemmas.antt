@@ -1,0 +1,27 @@
+-- Systems of a document declare what the rules know, where all that the rules describe does.
+use Rattle.std.proofs.Common.{◌≡◌, List, Option, Some, None, refl}
+use Rattle.std.specs.List.{All}
+use Rattle.std.proofs.lemmas.List.Elements.{All-from_recursion, recursion_from_All}
+use Rattle.scene_rules.specs.Parts.{Json, Name}
+use Rattle.scene_rules.specs.Rulebook.{Book, Facts, known}
+use Rattle.scene_draft.specs.Drafts.{DraftEntry, DraftSystem}
+use Rattle.scene_world.specs.Standing.{Kinds}
+use Rattle.scene_world.specs.Lent.{AreKnown}
+use Rattle.scene_plans.specs.Entries.{IsSaid, systems_in}
+use Rattle.scene_plans.specs.Told.{FactsKnown, AllKnown}
+use Rattle.scene_plans.proofs.EntryLemmas.{each-weaker}
+
+module _ {V : Type 0} (kinds : Kinds V) (book : Book) (describes : (kind : Name) (config : Json) (facts : Facts) → book.system kind config ≡ known facts → AreKnown kinds facts.access) where
+  -- what is known of a system
+  said-known : (one : DraftSystem) → IsSaid book one → FactsKnown kinds one.facts
+  said-known one said = by one.facts said
+    where
+      by : (found : Option Facts) → ((facts : Facts) → found ≡ Some facts → book.system one.kind one.config ≡ known facts) → FactsKnown kinds found
+      by None said = tt
+      by (Some facts) said = describes one.kind one.config facts (said facts refl)
+
+  -- of each system of entries
+  pub all-known : (entries : List DraftEntry) → All (IsSaid book) (systems_in entries) → AllKnown kinds entries
+  all-known entries said =
+      All-from_recursion (λ one. FactsKnown kinds one.facts) (systems_in entries)
+      (each-weaker (IsSaid book) (λ one. FactsKnown kinds one.facts) said-known (systems_in entries) (recursion_from_All (IsSaid book) (systems_in entries) said))
