@@ -42,20 +42,25 @@ pub record IsKnown {I J : Type 0} (same_one : I → I → Bool) (same_other : J 
   pub apart : TellsApart renumber InUse system.number
 
 module _ {I J : Type 0} (same_one : I → I → Bool) (same_other : J → J → Bool) (renumber : ℕ → ℕ) (InUse : ℕ → Type 0) (one : Placing I) (other : Placing J) (time : other.time ≡ one.time) where
+  -- that of one system and its partner, for this pair
   abbrev Known : Placing I → Placing J → Type 0
   Known system partner = IsKnown same_one same_other renumber InUse one other system partner
 
+  -- a system conflicts with a group just where its partner does
   hits-same : (group : Group I) (partners : Group J) → AllZip Known group partners → hits same_one one group ≡ hits same_other other partners
   hits-same = zip-any Known (conflict same_one one) (conflict same_other other) (λ system partner known. known.conflicts)
 
+  -- two groups take the same time
   time-same : (group : Group I) (partners : Group J) → AllZip Known group partners → time_of group ≡ time_of partners
   time-same = zip-sum Known (λ system. system.time) (λ system. system.time) (λ system partner known. sym known.renumbered.time)
 
+  -- and so do the longest groups of two stages
   longest-same : (stage : Stage I) (others : Stage J) → ByGroup Known stage others → longest stage ≡ longest others
   longest-same stage others zipped =
       zip-fold (AllZip Known) (λ a b. a ≡ b) (λ most group. max most (time_of group)) (λ most group. max most (time_of group))
       (λ a b group partners e known. ap (λ n. max n (time_of group)) e ∙ ap (λ n. max b n) (time-same group partners known)) stage others 0 0 refl zipped
 
+  -- a system may go to the end of a group just where its partner may
   joins-same : (stage : Stage I) (others : Stage J) (group : Group I) (partners : Group J) → ByGroup Known stage others → AllZip Known group partners → joins one stage group ≡ joins other others partners
   joins-same stage others group partners zipped known =
       ap (λ n. nat_lt n 4 && nat_lt one.time (2 * (longest stage - time_of group))) (zip-length Known group partners known)
@@ -63,6 +68,7 @@ module _ {I J : Type 0} (same_one : I → I → Bool) (same_other : J → J → 
       ∙ ap (λ n. nat_lt (length partners) 4 && nat_lt other.time (2 * (n - time_of group))) (longest-same stage others zipped)
       ∙ ap (λ n. nat_lt (length partners) 4 && nat_lt other.time (2 * (longest others - n))) (time-same group partners known)
 
+  -- as many numbers are left
   left-length : (rest others : List ℕ) → IsLeft renumber InUse rest others → length rest ≡ length others
   left-length rest others left = sym (ap length left.0 ∙ length-map rest renumber)
 
@@ -71,6 +77,7 @@ module _ {I J : Type 0} (same_one : I → I → Bool) (same_other : J → J → 
       → IsLeft renumber InUse (rest_after rest systems) (rest_after others partners)
   left-further = left-after renumber InUse Known (λ system partner known. (known.renumbered.number, known.apart))
 
+  -- a group has all that is left just where the other has
   completes-same : (rest others : List ℕ) → IsLeft renumber InUse rest others → (group : Group I) (partners : Group J) → AllZip Known group partners → completes rest group ≡ completes others partners
   completes-same rest others left group partners known =
       let after = left-length (rest_after rest group) (rest_after others partners) (left-further group partners rest others left known) in

@@ -2,7 +2,6 @@
 use Rattle.std.proofs.Common.{◌≡◌, ℕ, suc, ◌+◌, Bool, true, false, not, List, [], ◌∷◌, ◌++◌, length, map, Option, Some, None, refl, ap, sym, ◌∙◌, subst, append_assoc, append-nil, arith}
 use Rattle.std.specs.Prelude.{if◌then◌else◌}
 use Rattle.std.specs.List.{filter_map}
-use Rattle.std.specs.Str.{bytes_eq}
 use Rattle.std.proofs.lemmas.List.{map-append, length_push}
 use Rattle.shred_world.specs.declared.resource_id.ResourceId.{ResourceId}
 use Rattle.shred_plan.specs.Plan.{fence, placing}
@@ -18,9 +17,9 @@ use Rattle.shred.specs.Histories as asked
 use Rattle.scene_plans.specs.Entries.{systems_in, AreNamed, is_staged, is_staged_as, number_named, next_number, staged_list}
 use Rattle.scene_plans.specs.Told.{declared_of, told_at, told_from, told_entries}
 use Rattle.scene_plans.specs.Asked.{asked_at, asked_entries, asked_as}
-use Rattle.scene_plans.proofs.NumberLemmas.{staged_count, count-more, further}
+use Rattle.scene_plans.proofs.NumberLemmas.{staged_count, next-counted, further}
 use Rattle.scene_plans.proofs.EarlierLemmas.{NamesOf, names_in, names-barrier, names-system, names-after-barrier, names-after-unstaged, names-after-staged, numbers-told}
-use Rattle.scene_plans.proofs.NameLemmas.{AreFit, named-fit, fit-staged}
+use Rattle.scene_plans.proofs.NameLemmas.{AreFit, named-fit, unstaged-unnamed}
 
 -- the systems that are asked for
 abbrev systems_asked : {S : Type 0} → List (Asked S) → List S
@@ -28,6 +27,7 @@ systems_asked [] = []
 systems_asked (asked.system one declared name after ∷ list) = one ∷ systems_asked list
 systems_asked (asked.barrier ∷ list) = systems_asked list
 
+-- those of one list and then of another
 asked-append : {S : Type 0} (list others : List (Asked S)) → systems_asked (list ++ others) ≡ systems_asked list ++ systems_asked others
 asked-append [] others = refl
 asked-append (asked.barrier ∷ list) others = asked-append list others
@@ -65,25 +65,18 @@ module _ {V : Type 0} (kinds : Kinds V) (same : ResourceId → ResourceId → Bo
   entries-told all early [] place number is counted fit building size of = refl
   entries-told all early (barrier ∷ later) place number is counted fit building size of =
       ap (λ list. fence ∷ list)
-      (entries-told all (early ++ barrier ∷ []) later (suc place) number (further all early barrier later is) (counted ∙ sym (count-more early barrier))
+      (entries-told all (early ++ barrier ∷ []) later (suc place) number (further all early barrier later is) (next-counted early barrier number counted)
       (subst (λ names. AreFit names (systems_in later)) (sym (names-barrier early)) fit) (with_asked same building asked.barrier) size (names-after-barrier building.names early of))
   entries-told all early (system one ∷ later) place number is counted fit building size of =
       by one.local refl one.facts refl
       (entries-told all (early ++ system one ∷ []) later (suc place) (next_number number (system one)) (further all early (system one) later is)
-      (ap (λ n. next_number n (system one)) counted ∙ sym (count-more early (system one))) (subst (λ names. AreFit names (systems_in later)) (sym (names-system early one)) fit.2))
+      (next-counted early (system one) number counted) (subst (λ names. AreFit names (systems_in later)) (sym (names-system early one)) fit.2))
     where
-      empty : is_staged (system one) ≡ false → bytes_eq one.name [] ≡ true
-      empty unstaged = or_else (bytes_eq one.name []) refl
-        where
-          or_else : (b : Bool) → bytes_eq one.name [] ≡ b → b ≡ true
-          or_else true e = refl
-          or_else false e = let staged = fit-staged one fit.0 e in cc
-
       unstaged : is_staged (system one) ≡ false
           → ((building : Building PlainSystem) → length building.staging.systems ≡ next_number number (system one) → NamesOf building.names (early ++ system one ∷ [])
           → told same building (asked_entries kinds (suc place) later) ≡ told_from kinds all (next_number number (system one)) (suc place) later)
           → told same building (asked_entries kinds (suc place) later) ≡ told_from kinds all (next_number number (system one)) (suc place) later
-      unstaged none rest = rest building (size ∙ sym (ap (λ b. if b then suc number else number) none)) (names-after-unstaged building.names early one (empty none) of)
+      unstaged none rest = rest building (size ∙ sym (ap (λ b. if b then suc number else number) none)) (names-after-unstaged building.names early one (unstaged-unnamed one fit.0 none) of)
 
       by : (local : Bool) → one.local ≡ local → (facts : Option Facts) → one.facts ≡ facts
           → ((building : Building PlainSystem) → length building.staging.systems ≡ next_number number (system one) → NamesOf building.names (early ++ system one ∷ [])

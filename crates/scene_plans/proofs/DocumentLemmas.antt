@@ -61,6 +61,7 @@ module _ (book : Book) where
     pub unnamed : one.local ≡ true → one.name ≡ []
     pub described : (facts : Facts) → one.facts ≡ Some facts → book.system one.kind one.config ≡ known facts
 
+  -- so it is of the system of an entry
   abbrev pub EntryRead : DraftEntry → Type 0
   EntryRead barrier = Unit {0}
   EntryRead (system one) = IsRead one
@@ -78,6 +79,7 @@ module _ (book : Book) where
       let same : made ≡ entry = cc in
       subst EntryRead same (record { unnamed = unnamed; described = λ facts there. let here : found ≡ facts = cc in is ∙ ap known here })
 
+  -- what is found under the keys of an entry makes such a system
   system-read : (kind name after config local : Option Json) → ((text : Name) → read_or false as_bool local ≡ Some true → read_or [] as_str name ≡ Some text → text ≡ []) → (entry : DraftEntry)
       → system_found book kind name after config local ≡ Some entry → EntryRead entry
   system-read kind name after config local unnamed entry =
@@ -214,9 +216,11 @@ names-unrefused indices draft none =
 
 -- so the entries of a document are named, and its systems are what the rules say
 module _ (book : Book) (indices : ℕ) (json : Json) (draft : Draft) (is : document_from book indices json ≡ Ok draft) where
+  -- what was read of its systems
   reads : AllByRecursion (IsRead book) (systems_in draft.entries)
   reads = systems-read book draft.entries (draft-read book json draft (document-read book indices json draft is).0)
 
+  -- its entries are named
   pub document-named : AreNamed draft.entries
   document-named =
       let names = names-unrefused indices draft (document-read book indices json draft is).1 in
@@ -228,8 +232,10 @@ module _ (book : Book) (indices : ℕ) (json : Json) (draft : Draft) (is : docum
         earlier = names.2;
       }
 
+  -- they are few
   pub document-few : length draft.entries ≤ 4096
   document-few = (names-unrefused indices draft (document-read book indices json draft is).1).3
 
+  -- its systems are what the rules say
   pub document-described : All (IsSaid book) (systems_in draft.entries)
   document-described = All-from_recursion (IsSaid book) (systems_in draft.entries) (each-weaker (IsRead book) (IsSaid book) (λ one read. read.described) (systems_in draft.entries) reads)

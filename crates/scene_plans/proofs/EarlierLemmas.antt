@@ -15,6 +15,7 @@ use Rattle.shred.specs.Names.{Named, number_under, numbers_under, with_name}
 use Rattle.scene_plans.specs.Entries.{systems_in, is_staged, number_named, next_number}
 use Rattle.scene_plans.proofs.NumberLemmas.{staged_count}
 
+-- nothing else changes nothing
 or-nothing : {X : Type 0} (o : Option X) → option_or o None ≡ o
 or-nothing None = refl
 or-nothing (Some x) = refl
@@ -49,9 +50,11 @@ named-more number end (system one ∷ early) entry name at =
 abbrev pub names_in : List DraftEntry → List Name
 names_in entries = map (λ one. one.name) (systems_in entries)
 
+-- a barrier adds none
 pub names-barrier : (early : List DraftEntry) → names_in (early ++ barrier ∷ []) ≡ names_in early
 names-barrier early = ap (map (λ one. one.name)) (filter_map-append system_of_entry early (barrier ∷ []) ∙ append-nil (systems_in early))
 
+-- a system adds its own
 pub names-system : (early : List DraftEntry) (one : DraftSystem) → names_in (early ++ system one ∷ []) ≡ names_in early ++ one.name ∷ []
 names-system early one = ap (map (λ one. one.name)) (filter_map-append system_of_entry early (system one ∷ [])) ∙ map-append (λ one. one.name) (systems_in early) (one ∷ [])
 
@@ -81,6 +84,7 @@ under-more (first ∷ names) one number name = by (bytes_eq name first.0) (under
 abbrev pub NamesOf : List Named → List DraftEntry → Type 0
 NamesOf names early = (name : Name) → bytes_eq name [] ≡ false → number_under names name ≡ number_named 0 early name
 
+-- a barrier adds none
 pub names-after-barrier : (names : List Named) (early : List DraftEntry) → NamesOf names early → NamesOf names (early ++ barrier ∷ [])
 names-after-barrier names early of name filled = of name filled ∙ sym (named-more 0 (staged_count early) early barrier name (omega arith) ∙ or-nothing (number_named 0 early name))
 
@@ -92,6 +96,7 @@ names-after-unstaged names early one empty of name filled =
     ∙ ap (λ b. option_or (number_named 0 early name) (if b then Some (staged_count early) else None)) (empty-other one.name name filled empty)
     ∙ or-nothing (number_named 0 early name))
 
+-- a staged system adds its own, with its number
 pub names-after-staged : (names : List Named) (early : List DraftEntry) (one : DraftSystem) (number : ℕ) → number ≡ staged_count early → NamesOf names early → NamesOf (with_name names one.name number) (early ++ system one ∷ [])
 names-after-staged names early one number counted of name filled =
     by (bytes_eq one.name []) refl

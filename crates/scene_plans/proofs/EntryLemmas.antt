@@ -18,7 +18,7 @@ use Rattle.scene_plans.specs.Alike.{Beside, fences, both, to_one, to_other, part
 use Rattle.scene_plans.specs.Declaring.{DeclareOne}
 use Rattle.scene_plans.specs.Entries.{systems_in, AreNamed, number_at, number_named, next_number, meant_at}
 use Rattle.scene_plans.specs.Told.{FactsKnown, declared_of, told_at, told_from}
-use Rattle.scene_plans.proofs.NumberLemmas.{staged_count, count-more, further, next-place, number-behind, IsStagedAt, staged-here, numbers-apart}
+use Rattle.scene_plans.proofs.NumberLemmas.{staged_count, next-counted, further, next-place, number-behind, IsStagedAt, staged-here, numbers-apart}
 use Rattle.scene_plans.proofs.NameLemmas.{Follows, AreFit, numbers-of-names, places-staged}
 use Rattle.scene_plans.proofs.FoundLemmas.{found-there, meant-there}
 use Rattle.scene_plans.proofs.ConflictLemmas.{conflicts-same}
@@ -33,14 +33,17 @@ module _ {V : Type 0} (kinds : Kinds V) where
   abbrev one_told : List DraftEntry → ℕ → DraftSystem → Facts → Placing Resource
   one_told all place one facts = record { number = place; reads = reads_of facts.access; writes = writes_of facts.access; after = filter_map (place_named 1 all) one.after; time = facts.time }
 
+  -- and as the planner of a dispatcher is
   abbrev other_told : List DraftEntry → ℕ → ℕ → DraftSystem → Facts → Placing ResourceId
   other_told all number place one facts = record { number = number; reads = (declared_of kinds place facts).reads; writes = (declared_of kinds place facts).writes; after = filter_map (number_named 0 all) one.after; time = facts.time }
 
+  -- what both are told of a system, which may be no staged one
   abbrev pub beside_at : List DraftEntry → ℕ → ℕ → DraftSystem → Bool → Option Facts → List (Beside Resource ResourceId)
   beside_at all number place one local None = []
   beside_at all number place one true (Some facts) = []
   beside_at all number place one false (Some facts) = both (one_told all place one facts) (other_told all number place one facts) ∷ []
 
+  -- and of entries, the first of them at a place and with a number
   abbrev pub beside_from : List DraftEntry → ℕ → ℕ → List DraftEntry → List (Beside Resource ResourceId)
   beside_from all number place [] = []
   beside_from all number place (barrier ∷ entries) = fences ∷ beside_from all number (suc place) entries
@@ -55,6 +58,7 @@ module _ {V : Type 0} (kinds : Kinds V) where
       by true e (Some facts) = rw e refl
       by false e (Some facts) = rw e refl
 
+  -- so it is of entries
   pub to-one : (all : List DraftEntry) (number place : ℕ) (entries : List DraftEntry) → map to_one (beside_from all number place entries) ≡ staged all place entries
   to-one all number place [] = refl
   to-one all number place (barrier ∷ entries) = ap (λ list. fence ∷ list) (to-one all number (suc place) entries)
@@ -69,6 +73,7 @@ module _ {V : Type 0} (kinds : Kinds V) where
   to-other-at all number place one true (Some facts) = refl
   to-other-at all number place one false (Some facts) = refl
 
+  -- so it is of entries
   pub to-other : (all : List DraftEntry) (number place : ℕ) (entries : List DraftEntry) → map to_other (beside_from all number place entries) ≡ told_from kinds all number place entries
   to-other all number place [] = refl
   to-other all number place (barrier ∷ entries) = ap (λ list. fence ∷ list) (to-other all number (suc place) entries)
@@ -90,6 +95,7 @@ module _ {V : Type 0} (kinds : Kinds V) where
     pub position : (meant_at all pair.1.number).position ≡ pair.0.number
     pub declared : (meant_at all pair.1.number).access ≡ access
 
+  -- they are so from an earlier place on too
   earlier-entry : (all : List DraftEntry) (place : ℕ) (pair : Placing Resource × Placing ResourceId) → IsEntry all (suc place) pair → IsEntry all place pair
   earlier-entry all place pair entry = record {
     access = entry.access;
@@ -133,12 +139,12 @@ module _ {V : Type 0} (kinds : Kinds V) where
     entries-told early [] place number is at counted earlier fit known = tt
     entries-told early (barrier ∷ later) place number is at counted earlier fit known =
         each-weaker (IsEntry all (suc place)) (IsEntry all place) (earlier-entry all place) (partners_of (beside_from all number (suc place) later))
-        (entries-told (early ++ barrier ∷ []) later (suc place) number (further all early barrier later is) (next-place early barrier place at) (counted ∙ sym (count-more early barrier)) earlier fit known)
+        (entries-told (early ++ barrier ∷ []) later (suc place) number (further all early barrier later is) (next-place early barrier place at) (next-counted early barrier number counted) earlier fit known)
     entries-told early (system one ∷ later) place number is at counted earlier fit known =
         by one.local refl one.facts refl known.0
         (each-weaker (IsEntry all (suc place)) (IsEntry all place) (earlier-entry all place) (partners_of (beside_from all (next_number number (system one)) (suc place) later))
         (entries-told (early ++ system one ∷ []) later (suc place) (next_number number (system one)) (further all early (system one) later is) (next-place early (system one) place at)
-        (ap (λ n. next_number n (system one)) counted ∙ sym (count-more early (system one))) (earlier ++ one.name ∷ []) fit.2 known.1))
+        (next-counted early (system one) number counted) (earlier ++ one.name ∷ []) fit.2 known.1))
       where
         by : (local : Bool) → one.local ≡ local → (facts : Option Facts) → one.facts ≡ facts → FactsKnown kinds facts
             → AllByRecursion (IsEntry all place) (partners_of (beside_from all (next_number number (system one)) (suc place) later))
@@ -166,13 +172,13 @@ module _ {V : Type 0} (kinds : Kinds V) where
           → AllPairs (Agree same_resource same_id (number_at all)) (partners_of (beside_from all number place later))
       entries-alike early [] place number is at counted earlier fit known = λ i j d less within. absurd (omega arith)
       entries-alike early (barrier ∷ later) place number is at counted earlier fit known =
-          entries-alike (early ++ barrier ∷ []) later (suc place) number (further all early barrier later is) (next-place early barrier place at) (counted ∙ sym (count-more early barrier)) earlier fit known
+          entries-alike (early ++ barrier ∷ []) later (suc place) number (further all early barrier later is) (next-place early barrier place at) (next-counted early barrier number counted) earlier fit known
       entries-alike early (system one ∷ later) place number is at counted earlier fit known =
           by one.local refl one.facts refl known.0
           (entries-told (early ++ system one ∷ []) later (suc place) (next_number number (system one)) (further all early (system one) later is) (next-place early (system one) place at)
-          (ap (λ n. next_number n (system one)) counted ∙ sym (count-more early (system one))) (earlier ++ one.name ∷ []) fit.2 known.1)
+          (next-counted early (system one) number counted) (earlier ++ one.name ∷ []) fit.2 known.1)
           (entries-alike (early ++ system one ∷ []) later (suc place) (next_number number (system one)) (further all early (system one) later is) (next-place early (system one) place at)
-          (ap (λ n. next_number n (system one)) counted ∙ sym (count-more early (system one))) (earlier ++ one.name ∷ []) fit.2 known.1)
+          (next-counted early (system one) number counted) (earlier ++ one.name ∷ []) fit.2 known.1)
         where
           rest : List (Placing Resource × Placing ResourceId)
           rest = partners_of (beside_from all (next_number number (system one)) (suc place) later)

@@ -12,7 +12,7 @@ use Rattle.scene_draft.specs.Drafts.{DraftEntry, DraftSystem, barrier, system}
 use Rattle.scene_document.specs.Documents.{has_unknown_dependency}
 use Rattle.scene_document.specs.Openings.{place_named}
 use Rattle.scene_plans.specs.Entries.{systems_in, AreNamed, is_staged, is_staged_as, number_at, next_number, number_named}
-use Rattle.scene_plans.proofs.NumberLemmas.{staged_count, count-more, further, next-place, number-behind, IsStagedAt, staged-here}
+use Rattle.scene_plans.proofs.NumberLemmas.{staged_count, next-counted, further, next-place, number-behind, IsStagedAt, staged-here}
 
 -- a system's kind is known, and it has no name if it is local
 abbrev pub IsFit : DraftSystem → Type 0
@@ -27,6 +27,7 @@ abbrev pub AreFit : List Name → List DraftSystem → Type 0
 AreFit earlier [] = Unit {0}
 AreFit earlier (one ∷ others) = IsFit one × Follows earlier one × AreFit (earlier ++ one.name ∷ []) others
 
+-- they are so where none is empty or another
 follows-all : (earlier after : List Name) → list_any (λ name. bytes_eq name [] || not (is_among name earlier)) after ≡ false → AllByRecursion (λ name. (bytes_eq name [] ≡ false) × (is_among name earlier ≡ true)) after
 follows-all earlier [] none = tt
 follows-all earlier (name ∷ after) none =
@@ -38,6 +39,7 @@ follows-all earlier (name ∷ after) none =
     by true e = refl
     by false e = cc
 
+-- systems whose kinds are known, that have no name if they are local, and come after earlier ones are fit
 fit-all : (earlier : List Name) (systems : List DraftSystem) → list_any (λ one. is_none one.facts) systems ≡ false → All (λ one. one.local ≡ true → one.name ≡ []) systems → has_unknown_dependency earlier systems ≡ false → AreFit earlier systems
 fit-all earlier [] known unnamed depends = tt
 fit-all earlier (one ∷ others) known unnamed depends =
@@ -61,16 +63,24 @@ fit-staged one fit filled = by one.local one.facts fit.0 fit.1
     by true (Some facts) known unnamed = let empty : bytes_eq one.name [] ≡ true = (bytes_eq-Decides one.name []).1 (unnamed refl) in cc
     by false (Some facts) known unnamed = refl
 
+-- one that isn't staged has none
+pub unstaged-unnamed : (one : DraftSystem) → IsFit one → is_staged (system one) ≡ false → bytes_eq one.name [] ≡ true
+unstaged-unnamed one fit unstaged = by (bytes_eq one.name []) refl
+  where
+    by : (b : Bool) → bytes_eq one.name [] ≡ b → b ≡ true
+    by true is = refl
+    by false is = let staged = fit-staged one fit is in cc
+
 -- the number of the system of a name is that of its place
 named-number : (all early later : List DraftEntry) (place number : ℕ) → all ≡ early ++ later → place ≡ suc (length early) → number ≡ staged_count early → (name : Name)
     → number_named number later name ≡ option_map (number_at all) (place_named place later name)
 named-number all early [] place number is at counted name = refl
 named-number all early (barrier ∷ later) place number is at counted name =
-    named-number all (early ++ barrier ∷ []) later (suc place) number (further all early barrier later is) (next-place early barrier place at) (counted ∙ sym (count-more early barrier)) name
+    named-number all (early ++ barrier ∷ []) later (suc place) number (further all early barrier later is) (next-place early barrier place at) (next-counted early barrier number counted) name
 named-number all early (system one ∷ later) place number is at counted name =
     by (bytes_eq one.name name)
     (named-number all (early ++ system one ∷ []) later (suc place) (next_number number (system one)) (further all early (system one) later is) (next-place early (system one) place at)
-    (ap (λ n. next_number n (system one)) counted ∙ sym (count-more early (system one))) name)
+    (next-counted early (system one) number counted) name)
   where
     by : (b : Bool) → number_named (next_number number (system one)) later name ≡ option_map (number_at all) (place_named (suc place) later name)
         → (if b then Some number else number_named (next_number number (system one)) later name) ≡ option_map (number_at all) (if b then Some place else place_named (suc place) later name)
@@ -98,6 +108,7 @@ named-staged all early (system one ∷ later) place is at earlier fit name fille
         subst (IsStagedAt all) here (staged-here all early (system one) later place is at (fit-staged one fit.0 (ap (λ n. bytes_eq n []) is_name ∙ filled)))
     by false same there rest = rest there
 
+-- so it is of entries, the first of them 1
 pub name-staged : (all : List DraftEntry) → AreNamed all → (name : Name) → bytes_eq name [] ≡ false → (found : ℕ) → place_named 1 all name ≡ Some found → IsStagedAt all found
 name-staged all named = named-staged all [] all 1 refl refl [] (named-fit all named)
 
@@ -113,6 +124,7 @@ numbers-of-names all (name ∷ names) =
     by None rest = rest
     by (Some place) rest = ap (λ list. number_at all place ∷ list) rest
 
+-- at each of the places of names that are not empty a system is staged
 pub places-staged : (all : List DraftEntry) → AreNamed all → (earlier names : List Name) → AllByRecursion (λ name. (bytes_eq name [] ≡ false) × (is_among name earlier ≡ true)) names
     → AllByRecursion (IsStagedAt all) (filter_map (place_named 1 all) names)
 places-staged all named earlier [] follows = tt

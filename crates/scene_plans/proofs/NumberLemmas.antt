@@ -12,6 +12,7 @@ use Rattle.scene_plans.specs.Entries.{is_staged, number_at, next_number}
 abbrev pub staged_count : List DraftEntry → ℕ
 staged_count entries = count_by is_staged entries
 
+-- a number and one more, if a test passes
 next_by : (b : Bool) (number : ℕ) → number + cond b 1 0 ≡ (if b then suc number else number)
 next_by true number = omega arith
 next_by false number = omega arith
@@ -20,13 +21,19 @@ next_by false number = omega arith
 pub count-more : (early : List DraftEntry) (entry : DraftEntry) → staged_count (early ++ entry ∷ []) ≡ next_number (staged_count early) entry
 count-more early entry = sum_by_push (λ one. cond (is_staged one) 1 0) early entry ∙ next_by (is_staged entry) (staged_count early)
 
+-- the number after that of an entry
+pub next-counted : (early : List DraftEntry) (entry : DraftEntry) (number : ℕ) → number ≡ staged_count early → next_number number entry ≡ staged_count (early ++ entry ∷ [])
+next-counted early entry number counted = ap (λ n. next_number n entry) counted ∙ sym (count-more early entry)
+
 -- entries that begin with some begin with one more
 pub further : (all early : List DraftEntry) (entry : DraftEntry) (later : List DraftEntry) → all ≡ early ++ entry ∷ later → all ≡ (early ++ entry ∷ []) ++ later
 further all early entry later is = is ∙ sym (append_assoc early (entry ∷ []) later)
 
+-- one entry more makes a list longer by one
 length-more : (early : List DraftEntry) (entry : DraftEntry) → length (early ++ entry ∷ []) ≡ suc (length early)
 length-more early entry = length_push early entry ∙ omega arith
 
+-- the place behind one entry more
 pub next-place : (early : List DraftEntry) (entry : DraftEntry) (place : ℕ) → place ≡ suc (length early) → suc place ≡ suc (length (early ++ entry ∷ []))
 next-place early entry place at = ap suc (at ∙ sym (length-more early entry))
 
@@ -39,6 +46,7 @@ number-behind all early later place is at =
 abbrev pub IsStagedAt : List DraftEntry → ℕ → Type 0
 IsStagedAt all place = (1 ≤ place) × (number_at all (suc place) ≡ suc (number_at all place))
 
+-- so it is behind the entries before a staged system
 pub staged-here : (all early : List DraftEntry) (entry : DraftEntry) (later : List DraftEntry) (place : ℕ) → all ≡ early ++ entry ∷ later → place ≡ suc (length early) → is_staged entry ≡ true → IsStagedAt all place
 staged-here all early entry later place is at staged = (
   omega arith,
@@ -57,6 +65,7 @@ count-grows (entry ∷ entries) (suc one) (suc other) h =
     let f = sum_by-cons (λ (e : DraftEntry). cond (is_staged e) 1 0) entry (take other entries) in
     let rest = count-grows entries one other (omega arith) in omega (arith, e, f, rest)
 
+-- the number of a staged system is below that of a later place
 number-below : (all : List DraftEntry) (one other : ℕ) → IsStagedAt all one → one < other → number_at all one < number_at all other
 number-below all zero other staged h = absurd (omega arith)
 number-below all (suc one) zero staged h = absurd (omega arith)

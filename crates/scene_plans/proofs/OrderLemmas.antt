@@ -28,6 +28,7 @@ stage-meant : (at : ℕ → PlainSystem) (stage : Stage ResourceId) → stage_or
 stage-meant at [] = refl
 stage-meant at (group ∷ stage) = ap (λ list. group_order at group ++ list) (stage-meant at stage) ∙ sym (map-append (λ one. at one.number) group (systems_of stage))
 
+-- so it is of the systems of a plan
 plan-meant : (at : ℕ → PlainSystem) (stages : List (Stage ResourceId)) → plan_order at stages ≡ map (λ one. at one.number) (planner.plan_order stages)
 plan-meant at [] = refl
 plan-meant at (stage ∷ stages) =
@@ -49,18 +50,21 @@ module _ {V I : Type 0} (kinds : Kinds V) (at : ℕ → PlainSystem) where
   abbrev LentAs : Placing I → Placing ResourceId → Type 0
   LentAs one other = IsLent kinds (at other.number).access (at other.number).position other.reads other.writes
 
+  -- those of a group
   group-lent : (group : Group I) (others : Group ResourceId) → AllZip LentAs group others → GroupIsLent kinds at others
   group-lent [] [] zipped = tt
   group-lent [] (other ∷ others) zipped = absurd zipped
   group-lent (one ∷ group) [] zipped = absurd zipped
   group-lent (one ∷ group) (other ∷ others) zipped = (zipped.0, group-lent group others zipped.1)
 
+  -- those of a stage
   stage-lent : (stage : Stage I) (others : Stage ResourceId) → ByGroup LentAs stage others → StageIsLent kinds at others
   stage-lent [] [] zipped = tt
   stage-lent [] (other ∷ others) zipped = absurd zipped
   stage-lent (group ∷ stage) [] zipped = absurd zipped
   stage-lent (group ∷ stage) (other ∷ others) zipped = (group-lent group other zipped.0, stage-lent stage others zipped.1)
 
+  -- those of a plan
   plan-lent : (stages : List (Stage I)) (others : List (Stage ResourceId)) → ByStage LentAs stages others → PlanIsLent kinds at others
   plan-lent [] [] zipped = tt
   plan-lent [] (other ∷ others) zipped = absurd zipped
@@ -79,12 +83,15 @@ module _ {V : Type 0} (kinds : Kinds V) (apart : StandApart kinds) (draft : Draf
   abbrev told_both : List (Beside Resource ResourceId)
   told_both = beside_from kinds draft.entries 0 1 draft.entries
 
+  -- what the rules know of each system
   knows : AllByRecursion (λ one. FactsKnown kinds one.facts) (systems_in draft.entries)
   knows = recursion_from_All (λ one. FactsKnown kinds one.facts) (systems_in draft.entries) known
 
+  -- each two partners are told of an entry
   entries : AllByRecursion (IsEntry kinds draft.entries 1) (partners_of told_both)
   entries = entries-told kinds draft.entries named [] draft.entries 1 0 refl refl refl [] (named-fit draft.entries named) knows
 
+  -- both planners are told alike
   alike : AreAlike same_resource same_id (number_at draft.entries) told_both
   alike = record {
     renumbered = All-from_recursion (IsRenumbered (number_at draft.entries)) (partners_of told_both)
@@ -92,6 +99,7 @@ module _ {V : Type 0} (kinds : Kinds V) (apart : StandApart kinds) (draft : Draf
     agree = entries-alike kinds draft.entries named apart [] draft.entries 1 0 refl refl refl [] (named-fit draft.entries named) knows;
   }
 
+  -- the system of the document at a place
   abbrev look : ℕ → Option PlainSystem
   look place = find (λ one. one.position == place) (all_systems draft)
 
@@ -111,6 +119,7 @@ module _ {V : Type 0} (kinds : Kinds V) (apart : StandApart kinds) (draft : Draf
       weaker-plan (ArePartners told_both) R (of-partners (λ pair. R pair.0 pair.1) holds) (plan same_resource (map to_one told_both)) (plan same_id (map to_other told_both))
       (one-shape same_resource same_id (number_at draft.entries) told_both alike)
 
+  -- what is meant by the numbers in the order of the one plan is what is found at the places in the order of the other
   both-ordered : plan_order (meant_at draft.entries) (plan same_id (map to_other told_both)) ≡ filter_map look (map (λ one. one.number) (planner.plan_order (plan same_resource (map to_one told_both))))
   both-ordered =
       plan-meant (meant_at draft.entries) (plan same_id (map to_other told_both))

@@ -16,6 +16,7 @@ abbrev pub place_of : Resource → Place
 place_of (parts_of kind) = parts kind
 place_of (value_of name) = value name
 
+-- two resources are one just where their places are
 same-places : (one other : Resource) → same_place (place_of one) (place_of other) ≡ same_resource one other
 same-places (parts_of kind) (parts_of other) = refl
 same-places (parts_of kind) (value_of other) = refl
@@ -33,6 +34,7 @@ none-in : (place : Place) → ((resource : Resource) → same_place place (place
 none-in place apart [] = refl
 none-in place apart (first ∷ resources) = ap (λ b. b || list_any (same_place place) (map place_of resources)) (apart first) ∙ none-in place apart resources
 
+-- a queue is the place of no resource
 no-queue : (position : ℕ) (resource : Resource) → same_place (queue position) (place_of resource) ≡ false
 no-queue position (parts_of kind) = refl
 no-queue position (value_of name) = refl
@@ -48,6 +50,7 @@ among-read : (one : Resource) (others : List Resource) → list_any (same_place 
 among-read (parts_of kind) others = among-places (parts_of kind) others
 among-read (value_of name) others = among-places (value_of name) others
 
+-- and among what it writes beside its queue
 among-written : (one : Resource) (position : ℕ) (others : List Resource) → list_any (same_place (place_of one)) (queue position ∷ map place_of others) ≡ list_any (same_resource one) others
 among-written (parts_of kind) position others = among-places (parts_of kind) others
 among-written (value_of name) position others = among-places (value_of name) others
@@ -79,11 +82,13 @@ module _ {V : Type 0} (kinds : Kinds V) where
   abbrev pub KnownPlaces : List Place → Type 0
   KnownPlaces places = AllByRecursion (λ place. is_known kinds place ≡ true) places
 
+  -- places of known names, and then others that are known
   known-map : (make : Name → Place) (names : List Name) → All (λ name. is_known kinds (make name) ≡ true) names → (others : List Place) → KnownPlaces others → KnownPlaces (map make names ++ others)
   known-map make [] all others known = known
   known-map make (first ∷ names) all others known =
       (All-head (λ name. is_known kinds (make name) ≡ true) first names all, known-map make names (All-tail (λ name. is_known kinds (make name) ≡ true) first names all) others known)
 
+  -- places of known names
   known-only : (make : Name → Place) (names : List Name) → All (λ name. is_known kinds (make name) ≡ true) names → KnownPlaces (map make names)
   known-only make [] all = tt
   known-only make (first ∷ names) all = (All-head (λ name. is_known kinds (make name) ≡ true) first names all, known-only make names (All-tail (λ name. is_known kinds (make name) ≡ true) first names all))
@@ -92,10 +97,12 @@ module _ {V : Type 0} (kinds : Kinds V) where
   pub known-read : (access : Access) → AreKnown kinds access → KnownPlaces (read_places access)
   known-read access known = (refl, (refl, (refl, known-map parts access.reads known.reads (map value access.read_globals) (known-only value access.read_globals known.read_globals))))
 
+  -- so they know what it writes
   pub known-written : (access : Access) (position : ℕ) → AreKnown kinds access → KnownPlaces (written_places access position)
   known-written access position known = (refl, known-map parts access.writes known.writes (map value access.written_globals) (known-only value access.written_globals known.written_globals))
 
   module _ (apart : StandApart kinds) where
+    -- an id is among those of places just where its place is among them
     among-ids : (place : Place) → is_known kinds place ≡ true → (places : List Place) → KnownPlaces places
         → list_any (same_id (id_of_place kinds place)) (map (id_of_place kinds) places) ≡ list_any (same_place place) places
     among-ids place known [] all = refl
@@ -119,6 +126,7 @@ module _ {V : Type 0} (kinds : Kinds V) where
         ∙ ap (λ read. share same_place (queue position ∷ map place_of (writes_of one)) (entities ∷ markers ∷ allocator ∷ read)) (places-named other.reads other.read_globals)
         ∙ shares-read position (writes_of one) (reads_of other)
 
+    -- so it is of what both write, at different positions
     pub ids-written : (one other : Access) (position place : ℕ) → (position == place) ≡ false → AreKnown kinds one → AreKnown kinds other
         → share same_id (map (id_of_place kinds) (written_places one position)) (map (id_of_place kinds) (written_places other place)) ≡ share same_resource (writes_of one) (writes_of other)
     ids-written one other position place differ known knows =

@@ -79,9 +79,11 @@ abbrev numbers : {Id : Type 0} → Added Id → Option (ℕ × List ℕ)
 numbers fence = None
 numbers (placing one) = Some (one.number, one.after)
 
+-- the document is planned by places
 by_places : map numbers (staged small.entries 1 small.entries) ≡ Some (1, []) ∷ Some (3, []) ∷ Some (4, []) ∷ None ∷ Some (6, 3 ∷ []) ∷ []
 by_places = refl
 
+-- the dispatcher by numbers
 by_numbers : map numbers (told_entries kinds small.entries) ≡ Some (0, []) ∷ Some (1, []) ∷ Some (2, []) ∷ None ∷ Some (3, 1 ∷ []) ∷ []
 by_numbers = refl
 
@@ -89,6 +91,7 @@ by_numbers = refl
 order_of_places : order same_resource (staged small.entries 1 small.entries) ≡ 1 ∷ 4 ∷ 3 ∷ 6 ∷ []
 order_of_places = refl
 
+-- so it is by numbers
 order_of_numbers : order same_id (told_entries kinds small.entries) ≡ 0 ∷ 2 ∷ 1 ∷ 3 ∷ []
 order_of_numbers = refl
 
@@ -96,5 +99,6 @@ order_of_numbers = refl
 positions : map (λ (one : PlainSystem). one.position) (plan_order (meant_at small.entries) (plan same_id (told_entries kinds small.entries))) ≡ 1 ∷ 4 ∷ 3 ∷ 6 ∷ []
 positions = refl
 
+-- that is this
 staged_positions : map (λ (one : PlainSystem). one.position) (staged_systems small) ≡ 1 ∷ 4 ∷ 3 ∷ 6 ∷ []
 staged_positions = refl

@@ -20,6 +20,7 @@ module _ (renumber : ℕ → ℕ) (InUse : ℕ → Type 0) where
   abbrev pub TellsApart : ℕ → Type 0
   TellsApart number = (other : ℕ) → InUse other → renumber other ≡ renumber number → other ≡ number
 
+  -- a number in use is another just where its own number is the other's
   renumbered-test : (first number : ℕ) → InUse first → TellsApart number → (renumber first == renumber number) ≡ (first == number)
   renumbered-test first number used apart = by (first == number) refl
     where

@@ -5,6 +5,7 @@ use Rattle.shred_world.specs.declared.resource_id.ResourceId.{ResourceId}
 use Rattle.shred_world.specs.ResourceIds.{same_id}
 use Rattle.shred_world.specs.contracts.resource_id.ResourceIdPartialEq.TheImpl.{ghosts}
 
+-- they are, for each two ids
 same-pair : (one other : ResourceId) → ghosts.eq one other ≡ same_id one other
 same-pair one other = search rules
 

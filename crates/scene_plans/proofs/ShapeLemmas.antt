@@ -36,6 +36,7 @@ record Stands {I J : Type 0} (same_one : I → I → Bool) (same_other : J → J
   agree : All (Agree same_one same_other renumber (one, other)) later
 
 module _ {I J : Type 0} (same_one : I → I → Bool) (same_other : J → J → Bool) (renumber : ℕ → ℕ) (Inside : Placing I → Placing J → Type 0) where
+  -- that of one system and its partner
   abbrev StandsBefore : List (Placing I × Placing J) → Placing I → Placing J → Type 0
   StandsBefore later one other = Stands same_one same_other renumber Inside later one other
 
@@ -79,14 +80,17 @@ module _ {I J : Type 0} (same_one : I → I → Bool) (same_other : J → J → 
       (weaker-plan (StandsBefore ((next, partner) ∷ later)) (StandsBefore later) (fewer (next, partner) later) one.stages other.stages stand)))
 
 module _ {I J : Type 0} (same_one : I → I → Bool) (same_other : J → J → Bool) (renumber : ℕ → ℕ) (list : List (Beside I J)) (alike : AreAlike same_one same_other renumber list) where
+  -- each system of the one plan stands where its partner does, and is renumbered as it
   planned : ByStage (Stands same_one same_other renumber (ArePartners list) []) (plan same_one (map to_one list)) (plan same_other (map to_other list))
   planned =
       folded same_one same_other renumber (ArePartners list) list (All-contains_itself (partners_of list)) alike.renumbered alike.agree
       (record { first = 0; stages = [] }) (record { first = 0; stages = [] }) refl tt
 
+  -- so the plans have one shape
   pub one-shape : HaveOneShape list (plan same_one (map to_one list)) (plan same_other (map to_other list))
   one-shape = weaker-plan (Stands same_one same_other renumber (ArePartners list) []) (ArePartners list) (λ one other stands. stands.inside) (plan same_one (map to_one list)) (plan same_other (map to_other list)) planned
 
+  -- and the numbers one order
   pub one-order : order same_other (map to_other list) ≡ map renumber (order same_one (map to_one list))
   one-order =
       zip-numbers (Stands same_one same_other renumber (ArePartners list) []) renumber (λ one other stands. stands.renumbered.number) _ _

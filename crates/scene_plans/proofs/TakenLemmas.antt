@@ -25,7 +25,7 @@ use Rattle.scene_plans.specs.Entries.{systems_in, AreNamed, is_staged, is_staged
 use Rattle.scene_plans.specs.Told.{declared_of}
 use Rattle.scene_plans.specs.Asked.{asked_at, asked_entries, asked_as, IsBuiltOf}
 use Rattle.scene_plans.proofs.NumberLemmas.{staged_count, count-more}
-use Rattle.scene_plans.proofs.NameLemmas.{IsFit, Follows, AreFit, named-fit, fit-staged}
+use Rattle.scene_plans.proofs.NameLemmas.{IsFit, Follows, AreFit, named-fit, unstaged-unnamed}
 use Rattle.scene_plans.proofs.EarlierLemmas.{NamesOf, names_in, under-more, names-after-barrier, names-after-unstaged, names-after-staged}
 
 -- ---- what names find
@@ -48,13 +48,10 @@ any-at test [] later one none = (or_parts (test one) (list_any test (systems_in 
 any-at test (barrier ∷ early) later one none = any-at test early later one none
 any-at test (system first ∷ early) later one none = any-at test early later one ((or_parts (test first) (list_any test (systems_in (early ++ system one ∷ later))) none).1)
 
+-- where a denial and something else don't stand together, and that does, what is denied stands
 and-false : (a b : Bool) → (not a && b) ≡ false → b ≡ true → a ≡ true
 and-false true b e f = refl
 and-false false b e f = cc
-
-isnt : (b : Bool) → (b ≡ true → b ≡ false) → b ≡ false
-isnt true e = e refl
-isnt false e = refl
 
 -- where names are their systems' own, no earlier system has that of a later one
 named-none : (number : ℕ) (early later : List DraftEntry) (one : DraftSystem) → bytes_eq one.name [] ≡ false → has_taken_name (systems_in (early ++ system one ∷ later)) ≡ false → number_named number early one.name ≡ None
@@ -83,6 +80,7 @@ fit-later earlier (barrier ∷ early) later fit = fit-later earlier early later 
 fit-later earlier (system one ∷ early) later fit =
     subst (λ names. AreFit names (systems_in later)) (append_assoc earlier (one.name ∷ []) (names_in early)) (fit-later (earlier ++ one.name ∷ []) early later fit.2)
 
+-- and the entries before it are
 fit-early : (earlier : List Name) (early later : List DraftEntry) → AreFit earlier (systems_in (early ++ later)) → AllByRecursion IsFit (systems_in early)
 fit-early earlier [] later fit = tt
 fit-early earlier (barrier ∷ early) later fit = fit-early earlier early later fit
@@ -120,16 +118,9 @@ module _ {V : Type 0} (kinds : Kinds V) (same : ResourceId → ResourceId → Bo
       subst (λ entries. HasNames entries (built_from same building (asked_at kinds place one one.local one.facts ++ asked_entries kinds (suc place) later))) (append_assoc early (system one ∷ []) later)
       (by one.local refl one.facts refl (has-names (early ++ system one ∷ []) later (suc place) fit.1))
     where
-      empty : is_staged (system one) ≡ false → bytes_eq one.name [] ≡ true
-      empty unstaged = or_else (bytes_eq one.name []) refl
-        where
-          or_else : (b : Bool) → bytes_eq one.name [] ≡ b → b ≡ true
-          or_else true e = refl
-          or_else false e = let staged = fit-staged one fit.0 e in cc
-
       unstaged : is_staged (system one) ≡ false → HasNames (early ++ system one ∷ []) building
       unstaged none = record {
-        names = names-after-unstaged building.names early one (empty none) has.names;
+        names = names-after-unstaged building.names early one (unstaged-unnamed one fit.0 none) has.names;
         empty = has.empty;
         size = has.size ∙ sym (count-more early (system one) ∙ ap (λ b. if b then suc (staged_count early) else staged_count early) none);
       }
@@ -163,6 +154,7 @@ module _ {V : Type 0} (kinds : Kinds V) (same : ResourceId → ResourceId → Bo
       (ap (λ known. with_name known name (length building.staging.systems)) names ∙ ap (with_name other.names name) size)
       (length_push building.staging.systems one ∙ ap (λ n. n + 1) size ∙ sym (length_push other.staging.systems (plain one))) has
 
+  -- so it is of each builder that is asked for entries
   built-has : {S : Type 0} (plain : S → PlainSystem) (early : List DraftEntry) (building : Building S) → AllByRecursion IsFit (systems_in early) → IsBuiltOf kinds same plain early building → HasNames early building
   built-has {S} plain early building fit is =
       let start : HasNames [] (nothing_built {S = PlainSystem}) = record { names = λ name filled. refl; empty = refl; size = refl } in
@@ -173,11 +165,13 @@ module _ {V : Type 0} (kinds : Kinds V) (same : ResourceId → ResourceId → Bo
 
   -- ---- what it takes
 
+  -- each name that a system comes after has a number
   none-lacking : (names : List Named) (early : List DraftEntry) → NamesOf names early → (after : List Name) → AllByRecursion (λ name. (bytes_eq name [] ≡ false) × (is_among name (names_in early) ≡ true)) after → lacks_one names after ≡ false
   none-lacking names early of [] follows = refl
   none-lacking names early of (name ∷ after) follows =
       ap (λ o. is_none o || lacks_one names after) (of name follows.0.0) ∙ ap (λ b. b || lacks_one names after) (named-some 0 early name follows.0.1) ∙ none-lacking names early of after follows.1
 
+  -- the name of a system has none
   name-free : (names : List Named) (early later : List DraftEntry) (one : DraftSystem) → NamesOf names early → number_under names [] ≡ None → has_taken_name (systems_in (early ++ system one ∷ later)) ≡ false → number_under names one.name ≡ None
   name-free names early later one of empty own = by (bytes_eq one.name []) refl
     where

@@ -70,6 +70,7 @@ module _ {A B : Type 0} (R : A → B → Type 0) where
     zip-any (x ∷ xs) [] zipped = absurd zipped
     zip-any (x ∷ xs) (y ∷ ys) zipped = ap (λ b. b || list_any p xs) (same x y zipped.0) ∙ ap (λ b. q y || b) (zip-any xs ys zipped.1)
 
+    -- counted from a number on
     position-from : (xs : List A) (ys : List B) (k : ℕ) → AllZip R xs ys → position_from p k xs ≡ position_from q k ys
     position-from [] [] k zipped = refl
     position-from [] (y ∷ ys) k zipped = absurd zipped
