@@ -14,7 +14,7 @@ use Rattle.shred.specs.Names.{numbers_under, with_name}
 use Rattle.shred.specs.Building.{Building, Declared, nothing_built}
 use Rattle.shred.specs.Histories.{Asked, with_asked, built_from, told}
 use Rattle.shred.specs.Histories as asked
-use Rattle.scene_plans.specs.Entries.{systems_in, AreNamed, is_staged, is_staged_as, number_named, next_number, staged_list}
+use Rattle.scene_plans.specs.Entries.{systems_among, AreNamed, is_staged, is_staged_as, number_named, next_number, staged_list}
 use Rattle.scene_plans.specs.Told.{declared_of, told_at, told_from, told_entries}
 use Rattle.scene_plans.specs.Asked.{asked_at, asked_entries, asked_as}
 use Rattle.scene_plans.proofs.NumberLemmas.{staged_count, next-counted, further}
@@ -59,18 +59,18 @@ module _ (same : ResourceId → ResourceId → Bool) where
 
 module _ {V : Type 0} (kinds : Kinds V) (same : ResourceId → ResourceId → Bool) where
   -- a builder with the names of some entries is asked for the others
-  entries-told : (all early later : List DraftEntry) (place number : ℕ) → all ≡ early ++ later → number ≡ staged_count early → AreFit (names_in early) (systems_in later)
+  entries-told : (all early later : List DraftEntry) (place number : ℕ) → all ≡ early ++ later → number ≡ staged_count early → AreFit (names_in early) (systems_among later)
       → (building : Building PlainSystem) → length building.staging.systems ≡ number → NamesOf building.names early
       → told same building (asked_entries kinds place later) ≡ told_from kinds all number place later
   entries-told all early [] place number is counted fit building size of = refl
   entries-told all early (barrier ∷ later) place number is counted fit building size of =
       ap (λ list. fence ∷ list)
       (entries-told all (early ++ barrier ∷ []) later (suc place) number (further all early barrier later is) (next-counted early barrier number counted)
-      (subst (λ names. AreFit names (systems_in later)) (sym (names-barrier early)) fit) (with_asked same building asked.barrier) size (names-after-barrier building.names early of))
+      (subst (λ names. AreFit names (systems_among later)) (sym (names-barrier early)) fit) (with_asked same building asked.barrier) size (names-after-barrier building.names early of))
   entries-told all early (system one ∷ later) place number is counted fit building size of =
       by one.local refl one.facts refl
       (entries-told all (early ++ system one ∷ []) later (suc place) (next_number number (system one)) (further all early (system one) later is)
-      (next-counted early (system one) number counted) (subst (λ names. AreFit names (systems_in later)) (sym (names-system early one)) fit.2))
+      (next-counted early (system one) number counted) (subst (λ names. AreFit names (systems_among later)) (sym (names-system early one)) fit.2))
     where
       unstaged : is_staged (system one) ≡ false
           → ((building : Building PlainSystem) → length building.staging.systems ≡ next_number number (system one) → NamesOf building.names (early ++ system one ∷ [])

@@ -8,4 +8,4 @@ pub use Rattle.scene_plans.proofs.StepLemmas.{none-asked, barrier-asked, system-
 pub use Rattle.scene_plans.proofs.TakenLemmas.{none-refused}
 pub use Rattle.scene_plans.proofs.BuiltLemmas.{built-systems, built-meant, built-order, built-lent}
 pub use Rattle.scene_plans.proofs.DocumentLemmas.{document-named, document-few, document-described}
-pub use Rattle.scene_plans.proofs.KnownLemmas.{all-known}
+pub use Rattle.scene_plans.proofs.KnownLemmas.{declares-known, all-known}

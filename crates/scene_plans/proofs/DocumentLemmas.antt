@@ -22,7 +22,7 @@ use Rattle.scene_rules.specs.declared.refusals.DocRefusal.TheVariants.{NotWhole}
 use Rattle.std.proofs.lemmas.List.Elements.{All-from_recursion}
 use Rattle.serde_json.specs.Written.{has_float}
 use Rattle.scene_document.specs.Documents.{listed_ids, systems_of, has_unknown_kind, has_double, has_id_past_next, dangles, has_unknown_system, has_taken_name, has_unknown_dependency, lacks_global, writes_reserved, refusal_of, unless_refused, of_shape, document_from}
-use Rattle.scene_plans.specs.Entries.{systems_in, AreNamed, IsSaid}
+use Rattle.scene_plans.specs.Entries.{systems_among, AreNamed, IsSaid}
 use Rattle.scene_plans.proofs.EntryLemmas.{each-weaker}
 
 -- what a reading of one element says holds of each that is read
@@ -173,7 +173,7 @@ module _ (book : Book) where
       (λ found is read. draft-found (get_member (codes "next") found) (get_member (codes "entities") found) (get_member (codes "globals") found) (get_member (codes "systems") found) (get_member (codes "frames") found) (get_member (codes "commands") found) (get_member (codes "workers") found) (get_member (codes "store") found) draft read)
 
   -- and so of its systems
-  systems-read : (entries : List DraftEntry) → AllByRecursion EntryRead entries → AllByRecursion IsRead (systems_in entries)
+  systems-read : (entries : List DraftEntry) → AllByRecursion EntryRead entries → AllByRecursion IsRead (systems_among entries)
   systems-read [] read = tt
   systems-read (barrier ∷ entries) read = systems-read entries read.1
   systems-read (system one ∷ entries) read = (read.0, systems-read entries read.1)
@@ -217,7 +217,7 @@ names-unrefused indices draft none =
 -- so the entries of a document are named, and its systems are what the rules say
 module _ (book : Book) (indices : ℕ) (json : Json) (draft : Draft) (is : document_from book indices json ≡ Ok draft) where
   -- what was read of its systems
-  reads : AllByRecursion (IsRead book) (systems_in draft.entries)
+  reads : AllByRecursion (IsRead book) (systems_among draft.entries)
   reads = systems-read book draft.entries (draft-read book json draft (document-read book indices json draft is).0)
 
   -- its entries are named
@@ -226,8 +226,8 @@ module _ (book : Book) (indices : ℕ) (json : Json) (draft : Draft) (is : docum
       let names = names-unrefused indices draft (document-read book indices json draft is).1 in
       record {
         none_unknown = names.0;
-        unnamed = All-from_recursion (λ one. one.local ≡ true → one.name ≡ []) (systems_in draft.entries)
-            (each-weaker (IsRead book) (λ one. one.local ≡ true → one.name ≡ []) (λ one read. read.unnamed) (systems_in draft.entries) reads);
+        unnamed = All-from_recursion (λ one. one.local ≡ true → one.name ≡ []) (systems_among draft.entries)
+            (each-weaker (IsRead book) (λ one. one.local ≡ true → one.name ≡ []) (λ one read. read.unnamed) (systems_among draft.entries) reads);
         own = names.1;
         earlier = names.2;
       }
@@ -237,5 +237,5 @@ module _ (book : Book) (indices : ℕ) (json : Json) (draft : Draft) (is : docum
   document-few = (names-unrefused indices draft (document-read book indices json draft is).1).3
 
   -- its systems are what the rules say
-  pub document-described : All (IsSaid book) (systems_in draft.entries)
-  document-described = All-from_recursion (IsSaid book) (systems_in draft.entries) (each-weaker (IsRead book) (IsSaid book) (λ one read. read.described) (systems_in draft.entries) reads)
+  pub document-described : All (IsSaid book) (systems_among draft.entries)
+  document-described = All-from_recursion (IsSaid book) (systems_among draft.entries) (each-weaker (IsRead book) (IsSaid book) (λ one read. read.described) (systems_among draft.entries) reads)

@@ -12,7 +12,7 @@ use Rattle.scene_rules.specs.Parts.{Name, is_among}
 use Rattle.scene_draft.specs.Drafts.{DraftEntry, DraftSystem, barrier, system, system_of_entry}
 use Rattle.scene_draft.proofs.CallerLemmas.{bytes_eq-symmetric}
 use Rattle.shred.specs.Names.{Named, number_under, numbers_under, with_name}
-use Rattle.scene_plans.specs.Entries.{systems_in, is_staged, number_named, next_number}
+use Rattle.scene_plans.specs.Entries.{systems_among, is_staged, number_named, next_number}
 use Rattle.scene_plans.proofs.NumberLemmas.{staged_count}
 
 -- nothing else changes nothing
@@ -48,15 +48,15 @@ named-more number end (system one ∷ early) entry name at =
 
 -- the names of the systems among entries
 abbrev pub names_in : List DraftEntry → List Name
-names_in entries = map (λ one. one.name) (systems_in entries)
+names_in entries = map (λ one. one.name) (systems_among entries)
 
 -- a barrier adds none
 pub names-barrier : (early : List DraftEntry) → names_in (early ++ barrier ∷ []) ≡ names_in early
-names-barrier early = ap (map (λ one. one.name)) (filter_map-append system_of_entry early (barrier ∷ []) ∙ append-nil (systems_in early))
+names-barrier early = ap (map (λ one. one.name)) (filter_map-append system_of_entry early (barrier ∷ []) ∙ append-nil (systems_among early))
 
 -- a system adds its own
 pub names-system : (early : List DraftEntry) (one : DraftSystem) → names_in (early ++ system one ∷ []) ≡ names_in early ++ one.name ∷ []
-names-system early one = ap (map (λ one. one.name)) (filter_map-append system_of_entry early (system one ∷ [])) ∙ map-append (λ one. one.name) (systems_in early) (one ∷ [])
+names-system early one = ap (map (λ one. one.name)) (filter_map-append system_of_entry early (system one ∷ [])) ∙ map-append (λ one. one.name) (systems_among early) (one ∷ [])
 
 -- a name of one of some entries is looked up among them
 named-early : (number : ℕ) (early later : List DraftEntry) (name : Name) → is_among name (names_in early) ≡ true → number_named number (early ++ later) name ≡ number_named number early name

@@ -16,7 +16,7 @@ use Rattle.scene_world.specs.Standing.{Kinds}
 use Rattle.scene_world.specs.Lent.{AreKnown, StandApart}
 use Rattle.scene_plans.specs.Alike.{Beside, fences, both, to_one, to_other, partners_of, IsRenumbered, Agree}
 use Rattle.scene_plans.specs.Declaring.{DeclareOne}
-use Rattle.scene_plans.specs.Entries.{systems_in, AreNamed, number_at, number_named, next_number, meant_at}
+use Rattle.scene_plans.specs.Entries.{systems_among, AreNamed, number_at, number_named, next_number, meant_at}
 use Rattle.scene_plans.specs.Told.{FactsKnown, declared_of, told_at, told_from}
 use Rattle.scene_plans.proofs.NumberLemmas.{staged_count, next-counted, further, next-place, number-behind, IsStagedAt, staged-here, numbers-apart}
 use Rattle.scene_plans.proofs.NameLemmas.{Follows, AreFit, numbers-of-names, places-staged}
@@ -134,7 +134,7 @@ module _ {V : Type 0} (kinds : Kinds V) where
 
     -- so all of them are
     pub entries-told : (early later : List DraftEntry) (place number : ℕ) → all ≡ early ++ later → place ≡ suc (length early) → number ≡ staged_count early
-        → (earlier : List Name) → AreFit earlier (systems_in later) → AllByRecursion (λ one. FactsKnown kinds one.facts) (systems_in later)
+        → (earlier : List Name) → AreFit earlier (systems_among later) → AllByRecursion (λ one. FactsKnown kinds one.facts) (systems_among later)
         → AllByRecursion (IsEntry all place) (partners_of (beside_from all number place later))
     entries-told early [] place number is at counted earlier fit known = tt
     entries-told early (barrier ∷ later) place number is at counted earlier fit known =
@@ -168,7 +168,7 @@ module _ {V : Type 0} (kinds : Kinds V) where
 
       -- so it is with each two of them
       pub entries-alike : (early later : List DraftEntry) (place number : ℕ) → all ≡ early ++ later → place ≡ suc (length early) → number ≡ staged_count early
-          → (earlier : List Name) → AreFit earlier (systems_in later) → AllByRecursion (λ one. FactsKnown kinds one.facts) (systems_in later)
+          → (earlier : List Name) → AreFit earlier (systems_among later) → AllByRecursion (λ one. FactsKnown kinds one.facts) (systems_among later)
           → AllPairs (Agree same_resource same_id (number_at all)) (partners_of (beside_from all number place later))
       entries-alike early [] place number is at counted earlier fit known = λ i j d less within. absurd (omega arith)
       entries-alike early (barrier ∷ later) place number is at counted earlier fit known =

@@ -11,7 +11,7 @@ use Rattle.scene_rules.specs.Rulebook.{Facts}
 use Rattle.scene_draft.specs.Drafts.{DraftEntry, DraftSystem, barrier, system}
 use Rattle.scene_document.specs.Documents.{has_unknown_dependency}
 use Rattle.scene_document.specs.Openings.{place_named}
-use Rattle.scene_plans.specs.Entries.{systems_in, AreNamed, is_staged, is_staged_as, number_at, next_number, number_named}
+use Rattle.scene_plans.specs.Entries.{systems_among, AreNamed, is_staged, is_staged_as, number_at, next_number, number_named}
 use Rattle.scene_plans.proofs.NumberLemmas.{staged_count, next-counted, further, next-place, number-behind, IsStagedAt, staged-here}
 
 -- a system's kind is known, and it has no name if it is local
@@ -51,8 +51,8 @@ fit-all earlier (one ∷ others) known unnamed depends =
     )
 
 -- so they are in a document
-pub named-fit : (entries : List DraftEntry) → AreNamed entries → AreFit [] (systems_in entries)
-named-fit entries named = fit-all [] (systems_in entries) named.none_unknown named.unnamed named.earlier
+pub named-fit : (entries : List DraftEntry) → AreNamed entries → AreFit [] (systems_among entries)
+named-fit entries named = fit-all [] (systems_among entries) named.none_unknown named.unnamed named.earlier
 
 -- a fit system that has a name is staged
 pub fit-staged : (one : DraftSystem) → IsFit one → bytes_eq one.name [] ≡ false → is_staged (system one) ≡ true
@@ -92,7 +92,7 @@ pub number-of-name : (all : List DraftEntry) (name : Name) → number_named 0 al
 number-of-name all name = named-number all [] all 1 0 refl refl refl name
 
 -- a system of a name that isn't empty is staged at its place
-named-staged : (all early later : List DraftEntry) (place : ℕ) → all ≡ early ++ later → place ≡ suc (length early) → (earlier : List Name) → AreFit earlier (systems_in later)
+named-staged : (all early later : List DraftEntry) (place : ℕ) → all ≡ early ++ later → place ≡ suc (length early) → (earlier : List Name) → AreFit earlier (systems_among later)
     → (name : Name) → bytes_eq name [] ≡ false → (found : ℕ) → place_named place later name ≡ Some found → IsStagedAt all found
 named-staged all early [] place is at earlier fit name filled found there = cc
 named-staged all early (barrier ∷ later) place is at earlier fit name filled found there =

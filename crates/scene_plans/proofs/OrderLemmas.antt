@@ -16,7 +16,7 @@ use Rattle.scene_world.specs.Lent.{StandApart, IsLent, id_of_place, read_places,
 use Rattle.scene_world.proofs.CallerLemmas.{lent-ids}
 use Rattle.scene_turns.specs.Chains.{group_order, stage_order, plan_order, GroupIsLent, StageIsLent, PlanIsLent}
 use Rattle.scene_plans.specs.Alike.{Beside, to_one, to_other, partners_of, IsRenumbered, AreAlike, ArePartners}
-use Rattle.scene_plans.specs.Entries.{systems_in, AreNamed, number_at, meant_at}
+use Rattle.scene_plans.specs.Entries.{systems_among, AreNamed, number_at, meant_at}
 use Rattle.scene_plans.specs.Told.{FactsKnown, AllKnown, told_entries}
 use Rattle.scene_plans.proofs.ShapeLemmas.{zip-order, weaker-plan, one-shape}
 use Rattle.scene_plans.proofs.AlikeLemmas.{ByGroup, ByStage}
@@ -84,8 +84,8 @@ module _ {V : Type 0} (kinds : Kinds V) (apart : StandApart kinds) (draft : Draf
   told_both = beside_from kinds draft.entries 0 1 draft.entries
 
   -- what the rules know of each system
-  knows : AllByRecursion (λ one. FactsKnown kinds one.facts) (systems_in draft.entries)
-  knows = recursion_from_All (λ one. FactsKnown kinds one.facts) (systems_in draft.entries) known
+  knows : AllByRecursion (λ one. FactsKnown kinds one.facts) (systems_among draft.entries)
+  knows = recursion_from_All (λ one. FactsKnown kinds one.facts) (systems_among draft.entries) known
 
   -- each two partners are told of an entry
   entries : AllByRecursion (IsEntry kinds draft.entries 1) (partners_of told_both)

@@ -21,7 +21,7 @@ use Rattle.shred.specs.Names.{Named, number_under, lacks_one, with_name}
 use Rattle.shred.specs.Building.{Building, nothing_built, refusal}
 use Rattle.shred.specs.Histories.{Asked, with_asked, built_from}
 use Rattle.shred.specs.Histories as asked
-use Rattle.scene_plans.specs.Entries.{systems_in, AreNamed, is_staged, is_staged_as, number_named, next_number, plain_at}
+use Rattle.scene_plans.specs.Entries.{systems_among, AreNamed, is_staged, is_staged_as, number_named, next_number, plain_at}
 use Rattle.scene_plans.specs.Told.{declared_of}
 use Rattle.scene_plans.specs.Asked.{asked_at, asked_entries, asked_as, IsBuiltOf}
 use Rattle.scene_plans.proofs.NumberLemmas.{staged_count, count-more}
@@ -43,10 +43,10 @@ named-some number (system one ∷ early) name among =
     by false among rest = rest among
 
 -- a test that passes for no system passes for none among later entries
-any-at : (test : DraftSystem → Bool) (early later : List DraftEntry) (one : DraftSystem) → list_any test (systems_in (early ++ system one ∷ later)) ≡ false → test one ≡ false
-any-at test [] later one none = (or_parts (test one) (list_any test (systems_in later)) none).0
+any-at : (test : DraftSystem → Bool) (early later : List DraftEntry) (one : DraftSystem) → list_any test (systems_among (early ++ system one ∷ later)) ≡ false → test one ≡ false
+any-at test [] later one none = (or_parts (test one) (list_any test (systems_among later)) none).0
 any-at test (barrier ∷ early) later one none = any-at test early later one none
-any-at test (system first ∷ early) later one none = any-at test early later one ((or_parts (test first) (list_any test (systems_in (early ++ system one ∷ later))) none).1)
+any-at test (system first ∷ early) later one none = any-at test early later one ((or_parts (test first) (list_any test (systems_among (early ++ system one ∷ later))) none).1)
 
 -- where a denial and something else don't stand together, and that does, what is denied stands
 and-false : (a b : Bool) → (not a && b) ≡ false → b ≡ true → a ≡ true
@@ -54,15 +54,15 @@ and-false true b e f = refl
 and-false false b e f = cc
 
 -- where names are their systems' own, no earlier system has that of a later one
-named-none : (number : ℕ) (early later : List DraftEntry) (one : DraftSystem) → bytes_eq one.name [] ≡ false → has_taken_name (systems_in (early ++ system one ∷ later)) ≡ false → number_named number early one.name ≡ None
+named-none : (number : ℕ) (early later : List DraftEntry) (one : DraftSystem) → bytes_eq one.name [] ≡ false → has_taken_name (systems_among (early ++ system one ∷ later)) ≡ false → number_named number early one.name ≡ None
 named-none number [] later one filled own = refl
 named-none number (barrier ∷ early) later one filled own = named-none number early later one filled own
 named-none number (system first ∷ early) later one filled own =
-    let both = or_parts (not (bytes_eq first.name []) && list_any (λ other. bytes_eq other.name first.name) (systems_in (early ++ system one ∷ later))) (has_taken_name (systems_in (early ++ system one ∷ later))) own in
+    let both = or_parts (not (bytes_eq first.name []) && list_any (λ other. bytes_eq other.name first.name) (systems_among (early ++ system one ∷ later))) (has_taken_name (systems_among (early ++ system one ∷ later))) own in
     ap (λ b. if b then Some number else number_named (next_number number (system first)) early one.name) (differ both.0) ∙ named-none (next_number number (system first)) early later one filled both.1
   where
     others : Bool
-    others = list_any (λ other. bytes_eq other.name first.name) (systems_in (early ++ system one ∷ later))
+    others = list_any (λ other. bytes_eq other.name first.name) (systems_among (early ++ system one ∷ later))
 
     differ : (not (bytes_eq first.name []) && others) ≡ false → bytes_eq first.name one.name ≡ false
     differ none = by others refl
@@ -74,14 +74,14 @@ named-none number (system first ∷ early) later one filled own =
             ap (λ name. bytes_eq name one.name) ((bytes_eq-Decides first.name []).0 empty) ∙ bytes_eq-symmetric [] one.name ∙ filled
 
 -- fit entries are fit from a later one on, with the names of those before it
-fit-later : (earlier : List Name) (early later : List DraftEntry) → AreFit earlier (systems_in (early ++ later)) → AreFit (earlier ++ names_in early) (systems_in later)
-fit-later earlier [] later fit = subst (λ names. AreFit names (systems_in later)) (sym (append-nil earlier)) fit
+fit-later : (earlier : List Name) (early later : List DraftEntry) → AreFit earlier (systems_among (early ++ later)) → AreFit (earlier ++ names_in early) (systems_among later)
+fit-later earlier [] later fit = subst (λ names. AreFit names (systems_among later)) (sym (append-nil earlier)) fit
 fit-later earlier (barrier ∷ early) later fit = fit-later earlier early later fit
 fit-later earlier (system one ∷ early) later fit =
-    subst (λ names. AreFit names (systems_in later)) (append_assoc earlier (one.name ∷ []) (names_in early)) (fit-later (earlier ++ one.name ∷ []) early later fit.2)
+    subst (λ names. AreFit names (systems_among later)) (append_assoc earlier (one.name ∷ []) (names_in early)) (fit-later (earlier ++ one.name ∷ []) early later fit.2)
 
 -- and the entries before it are
-fit-early : (earlier : List Name) (early later : List DraftEntry) → AreFit earlier (systems_in (early ++ later)) → AllByRecursion IsFit (systems_in early)
+fit-early : (earlier : List Name) (early later : List DraftEntry) → AreFit earlier (systems_among (early ++ later)) → AllByRecursion IsFit (systems_among early)
 fit-early earlier [] later fit = tt
 fit-early earlier (barrier ∷ early) later fit = fit-early earlier early later fit
 fit-early earlier (system one ∷ early) later fit = (fit.0, fit-early (earlier ++ one.name ∷ []) early later fit.2)
@@ -106,7 +106,7 @@ empty-more names name number none = by (bytes_eq name []) refl
 
 module _ {V : Type 0} (kinds : Kinds V) (same : ResourceId → ResourceId → Bool) where
   -- so it is once it is asked for them
-  has-names : (early later : List DraftEntry) (place : ℕ) → AllByRecursion IsFit (systems_in later) → (building : Building PlainSystem) → HasNames early building
+  has-names : (early later : List DraftEntry) (place : ℕ) → AllByRecursion IsFit (systems_among later) → (building : Building PlainSystem) → HasNames early building
       → HasNames (early ++ later) (built_from same building (asked_entries kinds place later))
   has-names early [] place fit building has = subst (λ entries. HasNames entries building) (sym (append-nil early)) has
   has-names early (barrier ∷ later) place fit building has =
@@ -155,7 +155,7 @@ module _ {V : Type 0} (kinds : Kinds V) (same : ResourceId → ResourceId → Bo
       (length_push building.staging.systems one ∙ ap (λ n. n + 1) size ∙ sym (length_push other.staging.systems (plain one))) has
 
   -- so it is of each builder that is asked for entries
-  built-has : {S : Type 0} (plain : S → PlainSystem) (early : List DraftEntry) (building : Building S) → AllByRecursion IsFit (systems_in early) → IsBuiltOf kinds same plain early building → HasNames early building
+  built-has : {S : Type 0} (plain : S → PlainSystem) (early : List DraftEntry) (building : Building S) → AllByRecursion IsFit (systems_among early) → IsBuiltOf kinds same plain early building → HasNames early building
   built-has {S} plain early building fit is =
       let start : HasNames [] (nothing_built {S = PlainSystem}) = record { names = λ name filled. refl; empty = refl; size = refl } in
       let P : Building S → Type 0 = λ b. HasNames early b in
@@ -172,7 +172,7 @@ module _ {V : Type 0} (kinds : Kinds V) (same : ResourceId → ResourceId → Bo
       ap (λ o. is_none o || lacks_one names after) (of name follows.0.0) ∙ ap (λ b. b || lacks_one names after) (named-some 0 early name follows.0.1) ∙ none-lacking names early of after follows.1
 
   -- the name of a system has none
-  name-free : (names : List Named) (early later : List DraftEntry) (one : DraftSystem) → NamesOf names early → number_under names [] ≡ None → has_taken_name (systems_in (early ++ system one ∷ later)) ≡ false → number_under names one.name ≡ None
+  name-free : (names : List Named) (early later : List DraftEntry) (one : DraftSystem) → NamesOf names early → number_under names [] ≡ None → has_taken_name (systems_among (early ++ system one ∷ later)) ≡ false → number_under names one.name ≡ None
   name-free names early later one of empty own = by (bytes_eq one.name []) refl
     where
       by : (b : Bool) → bytes_eq one.name [] ≡ b → number_under names one.name ≡ None
@@ -183,8 +183,8 @@ module _ {V : Type 0} (kinds : Kinds V) (same : ResourceId → ResourceId → Bo
   pub none-refused : {S : Type 0} (plain : S → PlainSystem) (entries early later : List DraftEntry) (one : DraftSystem) (building : Building S) → AreNamed entries → length entries ≤ 65536 → entries ≡ early ++ system one ∷ later
       → IsBuiltOf kinds same plain early building → refusal building one.name one.after ≡ None
   none-refused plain entries early later one building named few is built =
-      let fit : AreFit [] (systems_in (early ++ system one ∷ later)) = subst (λ list. AreFit [] (systems_in list)) is (named-fit entries named) in
-      let own : has_taken_name (systems_in (early ++ system one ∷ later)) ≡ false = ap (λ list. has_taken_name (systems_in list)) (sym is) ∙ named.own in
+      let fit : AreFit [] (systems_among (early ++ system one ∷ later)) = subst (λ list. AreFit [] (systems_among list)) is (named-fit entries named) in
+      let own : has_taken_name (systems_among (early ++ system one ∷ later)) ≡ false = ap (λ list. has_taken_name (systems_among list)) (sym is) ∙ named.own in
       let has : HasNames early building = built-has plain early building (fit-early [] early (system one ∷ later) fit) built in
       let follows : Follows (names_in early) one = (fit-later [] early (system one ∷ later) fit).1 in
       let long : length entries ≡ length early + suc (length later) = ap length is ∙ length-append early (system one ∷ later) in

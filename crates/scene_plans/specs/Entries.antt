@@ -11,16 +11,16 @@ use Rattle.scene_document.specs.Documents.{has_taken_name, has_unknown_dependenc
 use Rattle.scene_document.specs.Openings.{systems_at}
 
 -- the systems among entries
-abbrev pub systems_in : List DraftEntry → List DraftSystem
-systems_in entries = filter_map system_of_entry entries
+abbrev pub systems_among : List DraftEntry → List DraftSystem
+systems_among entries = filter_map system_of_entry entries
 
 -- entries are named as a document's are: the kind of each system is known, a local system has no name, no two systems have one that isn't
 -- empty, and each comes after systems that have their names before it
 pub record AreNamed (entries : List DraftEntry) : Type 0 where
-  pub none_unknown : list_any (λ one. is_none one.facts) (systems_in entries) ≡ false
-  pub unnamed : All (λ one. one.local ≡ true → one.name ≡ []) (systems_in entries)
-  pub own : has_taken_name (systems_in entries) ≡ false
-  pub earlier : has_unknown_dependency [] (systems_in entries) ≡ false
+  pub none_unknown : list_any (λ one. is_none one.facts) (systems_among entries) ≡ false
+  pub unnamed : All (λ one. one.local ≡ true → one.name ≡ []) (systems_among entries)
+  pub own : has_taken_name (systems_among entries) ≡ false
+  pub earlier : has_unknown_dependency [] (systems_among entries) ≡ false
 
 -- what is known of a system is what the rules say of its kind and its configuration
 abbrev pub IsSaid : Book → DraftSystem → Type 0

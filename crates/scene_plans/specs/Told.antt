@@ -8,7 +8,7 @@ use Rattle.scene_draft.specs.Drafts.{DraftEntry, DraftSystem, barrier, system}
 use Rattle.scene_world.specs.Standing.{Kinds}
 use Rattle.scene_world.specs.Lent.{AreKnown, id_of_place, read_places, written_places}
 use Rattle.shred.specs.Building.{Declared}
-use Rattle.scene_plans.specs.Entries.{systems_in, number_named, next_number}
+use Rattle.scene_plans.specs.Entries.{systems_among, number_named, next_number}
 
 module _ {V : Type 0} (kinds : Kinds V) where
   -- the rules know what each system of a known kind declares
@@ -17,7 +17,7 @@ module _ {V : Type 0} (kinds : Kinds V) where
   FactsKnown (Some facts) = AreKnown kinds facts.access
 
   abbrev pub AllKnown : List DraftEntry → Type 0
-  AllKnown entries = All (λ one. FactsKnown one.facts) (systems_in entries)
+  AllKnown entries = All (λ one. FactsKnown one.facts) (systems_among entries)
 
   -- what a system at a place declares, by the ids of what it is lent
   abbrev pub declared_of : ℕ → Facts → Declared

@@ -4,8 +4,8 @@ ghost use Rattle.shred_world.specs.declared.resource_id.ResourceId.{ResourceId a
 ghost use Rattle.shred_plan.specs.Plan.{Placing, conflict, plan, order};
 ghost use Rattle.shred.specs.Building.{Building, Declared, nothing_built, built_with, fenced, refusal};
 ghost use Rattle.shred.specs.Histories.{Asked, told};
-ghost use Rattle.scene_rules.specs.Parts.{Json, Name};
-ghost use Rattle.scene_rules.specs.Rulebook.{Access, Facts, known};
+ghost use Rattle.scene_rules.specs.Parts.{Json};
+ghost use Rattle.scene_rules.specs.Rulebook.{Access, Facts};
 ghost use Rattle.scene_rules.specs.Scenes.{PlainSystem};
 ghost use Rattle.scene_draft.specs.Drafts.{Draft, DraftEntry, DraftSystem, barrier, system};
 ghost use Rattle.scene_document.specs.Documents.{document_from};
@@ -15,11 +15,11 @@ ghost use Rattle.scene_world.specs.Lent.{StandApart, AreKnown};
 ghost use Rattle.scene_turns.specs.Chains.{plan_order, PlanIsLent, EachAt};
 ghost use Rattle.scene_plans.specs.Alike.{Beside, AreAlike, HaveOneShape, to_one, to_other};
 ghost use Rattle.scene_plans.specs.Declaring.{DeclareOne};
-ghost use Rattle.scene_plans.specs.Entries.{AreNamed, IsSaid, systems_in, is_staged, plain_at, staged_list, meant_at};
+ghost use Rattle.scene_plans.specs.Entries.{AreNamed, IsSaid, systems_among, is_staged, plain_at, staged_list, meant_at};
 ghost use Rattle.scene_plans.specs.Told.{AllKnown, declared_of, told_entries};
 ghost use Rattle.scene_plans.specs.Asked.{asked_entries, asked_as, IsBuiltOf};
 
-use scene_turns::Rules;
+use scene_rules::DocumentRules;
 use shred_world::ResourceId;
 
 /// Two planners that are told alike, whatever their ids are, make plans of one shape: stage for stage and group for
@@ -112,17 +112,21 @@ pub fn what_is_built_runs_as_the_document_says<V, S>()
         → PlanIsLent kinds (meant_at draft.entries) building.staging.planning.stages }
 {}
 
-/// The entries of a document are named and no more than 4096, and what is known of its systems is what the rules say;
-/// so it declares names that the rules know, where all that they describe does.
-pub fn documents_name_their_systems<R: Rules>(rules: &R)
-    ensures named { (indices : ℕ) (json : Json) (draft : Draft) → document_from (R.book rules.now) indices json ≡ Ok draft
-        → AreNamed draft.entries }
-    ensures few { (indices : ℕ) (json : Json) (draft : Draft) → document_from (R.book rules.now) indices json ≡ Ok draft
-        → length draft.entries ≤ 4096 }
-    ensures said { (indices : ℕ) (json : Json) (draft : Draft) → document_from (R.book rules.now) indices json ≡ Ok draft
-        → All (IsSaid (R.book rules.now)) (systems_in draft.entries) }
-    ensures known { (kinds : Kinds R.Value) (entries : List DraftEntry)
-        → ((kind : Name) (config : Json) (facts : Facts) → (R.book rules.now).system kind config ≡ known facts
-        → AreKnown kinds facts.access)
-        → All (IsSaid (R.book rules.now)) (systems_in entries) → AllKnown kinds entries }
+/// The entries of a document are named, there are no more than 4096, and what is known of its systems is what the rules
+/// say.
+pub fn documents_name_their_systems<R: DocumentRules>(rules: &R)
+    ensures named { (indices : ℕ) (json : Json) (draft : Draft)
+        → document_from (R.book rules.now) indices json ≡ Ok draft → AreNamed draft.entries }
+    ensures few { (indices : ℕ) (json : Json) (draft : Draft)
+        → document_from (R.book rules.now) indices json ≡ Ok draft → length draft.entries ≤ 4096 }
+    ensures said { (indices : ℕ) (json : Json) (draft : Draft)
+        → document_from (R.book rules.now) indices json ≡ Ok draft
+        → All (IsSaid (R.book rules.now)) (systems_among draft.entries) }
+{}
+
+/// The systems of a document declare kinds and globals that stand in a world under the names of the rules.
+pub fn documents_declare_what_is_known<V, R: DocumentRules>(rules: &R)
+    ensures { (kinds : Kinds V) (indices : ℕ) (json : Json) (draft : Draft)
+        → kinds.part_names ≡ (R.book rules.now).part_names → kinds.global_names ≡ (R.book rules.now).global_names
+        → document_from (R.book rules.now) indices json ≡ Ok draft → AllKnown kinds draft.entries }
 {}

@@ -1,15 +1,11 @@
 use Rattle.scene_plans.proofs.DocumentLemmas.{document-named, document-few, document-described}
-use Rattle.scene_plans.proofs.KnownLemmas.{all-known}
 use Rattle.scene_plans.proofs.laws.documents_name_their_systems.Goals as goal
 
 pub returns-clause-named : goal.returns-clause-named
-returns-clause-named g c = document-named (g.R.Rules.book c.args.rules.now)
+returns-clause-named g c = document-named (g.R.DocumentRules.book c.args.rules.now)
 
 pub returns-clause-few : goal.returns-clause-few
-returns-clause-few g c = document-few (g.R.Rules.book c.args.rules.now)
+returns-clause-few g c = document-few (g.R.DocumentRules.book c.args.rules.now)
 
 pub returns-clause-said : goal.returns-clause-said
-returns-clause-said g c = document-described (g.R.Rules.book c.args.rules.now)
-
-pub returns-clause-known : goal.returns-clause-known
-returns-clause-known g c kinds entries describes = all-known kinds (g.R.Rules.book c.args.rules.now) describes entries
+returns-clause-said g c = document-described (g.R.DocumentRules.book c.args.rules.now)
