@@ -1,17 +1,21 @@
 -- A builder that is asked for entries, one more at a time.
 use Rattle.std.proofs.Common.{◌≡◌, ℕ, suc, ◌+◌, Bool, true, false, List, [], ◌∷◌, ◌++◌, length, Option, Some, None, refl, ap, sym, ◌∙◌, append_assoc, append-nil, arith}
+use Rattle.std.specs.Prelude.{if◌then◌else◌}
 use Rattle.std.proofs.lemmas.List.{map-append}
 use Rattle.shred_world.specs.declared.resource_id.ResourceId.{ResourceId}
 use Rattle.scene_rules.specs.Rulebook.{Facts}
 use Rattle.scene_rules.specs.Scenes.{PlainSystem}
 use Rattle.scene_draft.specs.Drafts.{DraftEntry, DraftSystem, barrier, system}
+use Rattle.scene_document.specs.Openings.{with_facts}
 use Rattle.scene_world.specs.Standing.{Kinds}
 use Rattle.shred.specs.Building.{Building, Declared, nothing_built, built_with, fenced}
+use Rattle.shred.specs.Dispatchers.{Drafting, with_building}
 use Rattle.shred.specs.Histories.{Asked, with_asked, built_from}
 use Rattle.shred.specs.Histories as asked
-use Rattle.scene_plans.specs.Entries.{is_staged, is_staged_as, plain_at}
+use Rattle.scene_plans.specs.Entries.{is_staged, is_staged_as, plain_system, local_list}
 use Rattle.scene_plans.specs.Told.{declared_of}
-use Rattle.scene_plans.specs.Asked.{asked_at, asked_entries, asked_as, IsBuiltOf}
+use Rattle.scene_plans.specs.Asked.{asked_at, asked_entries, asked_as, IsBuiltOf, IsDraftedOf}
+use Rattle.scene_plans.proofs.FoundLemmas.{systems-append}
 
 -- a builder once one thing after others is done
 built-more : {S : Type 0} (same : ResourceId → ResourceId → Bool) (list : List (Asked S)) (one : Asked S) (building : Building S) → built_from same building (list ++ one ∷ []) ≡ with_asked same (built_from same building list) one
@@ -33,7 +37,7 @@ module _ {V : Type 0} (kinds : Kinds V) where
 
   module _ {S : Type 0} (same : ResourceId → ResourceId → Bool) (plain : S → PlainSystem) where
     -- a builder that has nothing is asked for no entries
-    pub none-asked : IsBuiltOf kinds same plain [] nothing_built
+    none-asked : IsBuiltOf kinds same plain [] nothing_built
     none-asked = record { list = []; built = refl; asks = refl }
 
     -- one thing more is asked for one entry more
@@ -46,21 +50,21 @@ module _ {V : Type 0} (kinds : Kinds V) where
     }
 
     -- a barrier
-    pub barrier-asked : (early : List DraftEntry) (building : Building S) → IsBuiltOf kinds same plain early building
+    barrier-asked : (early : List DraftEntry) (building : Building S) → IsBuiltOf kinds same plain early building
         → IsBuiltOf kinds same plain (early ++ barrier ∷ []) (record { staging = fenced same building.staging; names = building.names })
     barrier-asked early building is = step-asked early barrier building asked.barrier is refl
 
     -- a staged system
-    pub system-asked : (early : List DraftEntry) (building : Building S) (one : DraftSystem) (facts : Facts) (taken : S) (declared : Declared) → IsBuiltOf kinds same plain early building
-        → one.local ≡ false → one.facts ≡ Some facts → plain taken ≡ plain_at (suc (length early)) one facts → declared ≡ declared_of kinds (suc (length early)) facts
+    system-asked : (early : List DraftEntry) (building : Building S) (one : DraftSystem) (facts : Facts) (taken : S) (declared : Declared) → IsBuiltOf kinds same plain early building
+        → one.local ≡ false → one.facts ≡ Some facts → plain taken ≡ plain_system (suc (length early)) one facts → declared ≡ declared_of kinds (suc (length early)) facts
         → IsBuiltOf kinds same plain (early ++ system one ∷ []) (built_with same building taken declared one.name one.after)
     system-asked early building one facts taken declared is staged known means declares =
         step-asked early (system one) building (asked.system taken declared one.name one.after) is
-        (ap (λ p. asked.system p declared one.name one.after ∷ []) means ∙ ap (λ d. asked.system (plain_at (suc (length early)) one facts) d one.name one.after ∷ []) declares
+        (ap (λ p. asked.system p declared one.name one.after ∷ []) means ∙ ap (λ d. asked.system (plain_system (suc (length early)) one facts) d one.name one.after ∷ []) declares
         ∙ sym (ap (λ local. asked_at kinds (suc (length early)) one local one.facts ++ []) staged ∙ ap (λ found. asked_at kinds (suc (length early)) one false found ++ []) known))
 
     -- for one that isn't staged nothing is asked
-    pub unstaged-asked : (early : List DraftEntry) (building : Building S) (one : DraftSystem) → IsBuiltOf kinds same plain early building → is_staged (system one) ≡ false
+    unstaged-asked : (early : List DraftEntry) (building : Building S) (one : DraftSystem) → IsBuiltOf kinds same plain early building → is_staged (system one) ≡ false
         → IsBuiltOf kinds same plain (early ++ system one ∷ []) building
     unstaged-asked early building one is unstaged = record {
       list = is.list;
@@ -72,3 +76,41 @@ module _ {V : Type 0} (kinds : Kinds V) where
         by local None e = refl
         by true (Some facts) e = refl
         by false (Some facts) e = cc
+
+    -- ---- with the local systems
+
+    -- one entry more may have a local system
+    locals-more : (early : List DraftEntry) (entry : DraftEntry) → local_list 1 (early ++ entry ∷ []) ≡ local_list 1 early ++ local_list (suc (length early)) (entry ∷ [])
+    locals-more early entry = systems-append (λ one. one.local) 1 (suc (length early)) early (entry ∷ []) (omega arith)
+
+    -- a builder that has nothing
+    pub none-drafted : (workers : ℕ) → IsDraftedOf kinds same plain [] (record { building = nothing_built; locals = []; workers = workers })
+    none-drafted workers = record { building = none-asked; locals = refl }
+
+    -- a barrier
+    pub barrier-drafted : (early : List DraftEntry) (draft : Drafting S S) → IsDraftedOf kinds same plain early draft
+        → IsDraftedOf kinds same plain (early ++ barrier ∷ []) (with_building draft (record { staging = fenced same draft.building.staging; names = draft.building.names }))
+    barrier-drafted early draft is = record {
+      building = barrier-asked early draft.building is.building;
+      locals = is.locals ∙ sym (locals-more early barrier ∙ append-nil (local_list 1 early));
+    }
+
+    -- a staged system
+    pub system-drafted : (early : List DraftEntry) (draft : Drafting S S) (one : DraftSystem) (facts : Facts) (taken : S) (declared : Declared) → IsDraftedOf kinds same plain early draft
+        → one.local ≡ false → one.facts ≡ Some facts → plain taken ≡ plain_system (suc (length early)) one facts → declared ≡ declared_of kinds (suc (length early)) facts
+        → IsDraftedOf kinds same plain (early ++ system one ∷ []) (with_building draft (built_with same draft.building taken declared one.name one.after))
+    system-drafted early draft one facts taken declared is staged known means declares = record {
+      building = system-asked early draft.building one facts taken declared is.building staged known means declares;
+      locals = is.locals ∙ sym (locals-more early (system one) ∙ ap (λ b. local_list 1 early ++ ((if b then with_facts (suc (length early)) one one.facts else []) ++ [])) staged ∙ append-nil (local_list 1 early));
+    }
+
+    -- a local one
+    pub local-drafted : (early : List DraftEntry) (draft : Drafting S S) (one : DraftSystem) (facts : Facts) (taken : S) → IsDraftedOf kinds same plain early draft
+        → one.local ≡ true → one.facts ≡ Some facts → plain taken ≡ plain_system (suc (length early)) one facts
+        → IsDraftedOf kinds same plain (early ++ system one ∷ []) (record { building = draft.building; locals = draft.locals ++ taken ∷ []; workers = draft.workers })
+    local-drafted early draft one facts taken is local known means = record {
+      building = unstaged-asked early draft.building one is.building (ap (λ b. is_staged_as b one.facts) local ∙ ap (is_staged_as true) known);
+      locals = map-append plain draft.locals (taken ∷ []) ∙ ap (λ list. list ++ plain taken ∷ []) is.locals ∙ ap (λ last. local_list 1 early ++ last ∷ []) means
+          ∙ sym (locals-more early (system one) ∙ ap (λ b. local_list 1 early ++ ((if b then with_facts (suc (length early)) one one.facts else []) ++ [])) local
+          ∙ ap (λ found. local_list 1 early ++ (with_facts (suc (length early)) one found ++ [])) known);
+    }

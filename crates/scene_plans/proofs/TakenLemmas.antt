@@ -21,7 +21,7 @@ use Rattle.shred.specs.Names.{Named, number_under, lacks_one, with_name}
 use Rattle.shred.specs.Building.{Building, nothing_built, refusal}
 use Rattle.shred.specs.Histories.{Asked, with_asked, built_from}
 use Rattle.shred.specs.Histories as asked
-use Rattle.scene_plans.specs.Entries.{systems_among, AreNamed, is_staged, is_staged_as, number_named, next_number, plain_at}
+use Rattle.scene_plans.specs.Entries.{systems_among, AreNamed, is_staged, is_staged_as, number_named, next_number, plain_system}
 use Rattle.scene_plans.specs.Told.{declared_of}
 use Rattle.scene_plans.specs.Asked.{asked_at, asked_entries, asked_as, IsBuiltOf}
 use Rattle.scene_plans.proofs.NumberLemmas.{staged_count, count-more}
@@ -131,7 +131,7 @@ module _ {V : Type 0} (kinds : Kinds V) (same : ResourceId → ResourceId → Bo
       by local e None there rest = rest building (unstaged (ap (is_staged_as one.local) there))
       by true e (Some facts) there rest = rest building (unstaged (ap (is_staged_as one.local) there ∙ ap not e))
       by false e (Some facts) there rest =
-          let plain : PlainSystem = plain_at place one facts in
+          let plain : PlainSystem = plain_system place one facts in
           let staged : is_staged (system one) ≡ true = ap (is_staged_as one.local) there ∙ ap not e in
           rest (with_asked same building (asked.system plain (declared_of kinds place facts) one.name one.after))
           (record {

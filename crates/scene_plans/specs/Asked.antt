@@ -6,9 +6,10 @@ use Rattle.scene_rules.specs.Scenes.{PlainSystem}
 use Rattle.scene_draft.specs.Drafts.{DraftEntry, DraftSystem, barrier, system}
 use Rattle.scene_world.specs.Standing.{Kinds}
 use Rattle.shred.specs.Building.{Building, nothing_built}
+use Rattle.shred.specs.Dispatchers.{Drafting}
 use Rattle.shred.specs.Histories.{Asked, built_from}
 use Rattle.shred.specs.Histories as asked
-use Rattle.scene_plans.specs.Entries.{plain_at}
+use Rattle.scene_plans.specs.Entries.{plain_system, local_list}
 use Rattle.scene_plans.specs.Told.{declared_of}
 
 -- what is asked, by what a system is for a document
@@ -22,7 +23,7 @@ module _ {V : Type 0} (kinds : Kinds V) where
   asked_at place one local None = []
   asked_at place one true (Some facts) = []
   asked_at place one false (Some facts) =
-      asked.system (plain_at place one facts) (declared_of kinds place facts) one.name one.after ∷ []
+      asked.system (plain_system place one facts) (declared_of kinds place facts) one.name one.after ∷ []
 
   -- what it is asked for entries, the first of them at a place
   abbrev pub asked_entries : ℕ → List DraftEntry → List (Asked PlainSystem)
@@ -35,3 +36,8 @@ module _ {V : Type 0} (kinds : Kinds V) where
     pub list : List (Asked S)
     pub built : building ≡ built_from same nothing_built list
     pub asks : map (asked_as plain) list ≡ asked_entries 1 entries
+
+  -- so it is of what a builder holds beside: its local systems are those of the entries, in their order
+  pub record IsDraftedOf {S : Type 0} (same : ResourceId → ResourceId → Bool) (plain : S → PlainSystem) (entries : List DraftEntry) (draft : Drafting S S) : Type 0 where
+    pub building : IsBuiltOf same plain entries draft.building
+    pub locals : map plain draft.locals ≡ local_list 1 entries

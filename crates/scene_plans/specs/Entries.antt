@@ -1,5 +1,5 @@
 -- The systems of a document's entries: how they are named, which are staged, and their numbers.
-use Rattle.std.specs.Prelude.{◌≡◌, ℕ, zero, suc, Bool, true, false, not, List, [], ◌∷◌, take, count_by, Option, Some, None, is_none, slice_index_or, if◌then◌else◌}
+use Rattle.std.specs.Prelude.{◌≡◌, ℕ, zero, suc, Bool, true, false, not, List, [], ◌∷◌, take, count_by, Option, Some, None, is_none, slice_get, unwrap_or, if◌then◌else◌}
 use Rattle.std.specs.List.{All, filter_map, list_any}
 use Rattle.std.specs.Str.{bytes_eq}
 use Rattle.serde_json.specs.Data.{null}
@@ -54,9 +54,13 @@ number_named number (system one ∷ entries) name = if bytes_eq one.name name th
 abbrev pub staged_list : ℕ → List DraftEntry → List PlainSystem
 staged_list place entries = systems_at (λ one. not one.local) place entries
 
+-- the local ones
+abbrev pub local_list : ℕ → List DraftEntry → List PlainSystem
+local_list place entries = systems_at (λ one. one.local) place entries
+
 -- the system of an entry at a place, by what a document says of it
-abbrev pub plain_at : ℕ → DraftSystem → Facts → PlainSystem
-plain_at place one facts = record { position = place; kind = one.kind; config = one.config; access = facts.access }
+abbrev pub plain_system : ℕ → DraftSystem → Facts → PlainSystem
+plain_system place one facts = record { position = place; kind = one.kind; config = one.config; access = facts.access }
 
 -- a system that is none
 abbrev pub nobody : PlainSystem
@@ -64,4 +68,4 @@ nobody = record { position = 0; kind = []; config = null; access = record { read
 
 -- the staged system of a number
 abbrev pub meant_at : List DraftEntry → ℕ → PlainSystem
-meant_at entries number = slice_index_or (staged_list 1 entries) number nobody
+meant_at entries number = unwrap_or (slice_get (staged_list 1 entries) number) nobody

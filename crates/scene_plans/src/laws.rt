@@ -1,23 +1,24 @@
 //! Laws of plans that are made side by side. The functions have no code; each contract is the law.
-ghost use Rattle.std.specs.Prelude.{◌≡◌, ◌≢◌, ◌≤◌, ◌++◌, ◌∷◌, [], ℕ, suc, false, List, length, map, All, None, Some, Ok};
+ghost use Rattle.std.specs.Prelude.{◌≡◌, ◌≢◌, ◌≤◌, ◌++◌, ◌∷◌, [], ℕ, suc, true, false, List, length, map, All, None, Some, Ok};
 ghost use Rattle.shred_world.specs.declared.resource_id.ResourceId.{ResourceId as Id};
 ghost use Rattle.shred_plan.specs.Plan.{Placing, conflict, plan, order};
-ghost use Rattle.shred.specs.Building.{Building, Declared, nothing_built, built_with, fenced, refusal};
+ghost use Rattle.shred.specs.Building.{Declared, nothing_built, built_with, fenced, refusal};
+ghost use Rattle.shred.specs.Dispatchers.{Drafting, with_building, dispatcher_of};
 ghost use Rattle.shred.specs.Histories.{Asked, told};
 ghost use Rattle.scene_rules.specs.Parts.{Json};
 ghost use Rattle.scene_rules.specs.Rulebook.{Access, Facts};
 ghost use Rattle.scene_rules.specs.Scenes.{PlainSystem};
 ghost use Rattle.scene_draft.specs.Drafts.{Draft, DraftEntry, DraftSystem, barrier, system};
 ghost use Rattle.scene_document.specs.Documents.{document_from};
-ghost use Rattle.scene_document.specs.Openings.{Resource, same_resource, staged_systems};
+ghost use Rattle.scene_document.specs.Openings.{Resource, same_resource, staged_systems, frames_of};
 ghost use Rattle.scene_world.specs.Standing.{Kinds};
 ghost use Rattle.scene_world.specs.Lent.{StandApart, AreKnown};
 ghost use Rattle.scene_turns.specs.Chains.{plan_order, PlanIsLent, EachAt};
 ghost use Rattle.scene_plans.specs.Alike.{Beside, AreAlike, HaveOneShape, to_one, to_other};
 ghost use Rattle.scene_plans.specs.Declaring.{DeclareOne};
-ghost use Rattle.scene_plans.specs.Entries.{AreNamed, IsSaid, systems_among, is_staged, plain_at, staged_list, meant_at};
+ghost use Rattle.scene_plans.specs.Entries.{AreNamed, IsSaid, systems_among, plain_system, staged_list, meant_at};
 ghost use Rattle.scene_plans.specs.Told.{AllKnown, declared_of, told_entries};
-ghost use Rattle.scene_plans.specs.Asked.{asked_entries, asked_as, IsBuiltOf};
+ghost use Rattle.scene_plans.specs.Asked.{asked_entries, asked_as, IsDraftedOf};
 
 use scene_rules::DocumentRules;
 use shred_world::ResourceId;
@@ -60,56 +61,64 @@ pub fn a_builder_tells_what_it_is_asked<V, S>()
         → told ⟦<ResourceId as PartialEq>⟧.eq nothing_built list ≡ told_entries kinds entries }
 {}
 
-/// A builder is asked for entries one after the other: for a barrier, for a staged system, and for nothing where a
-/// system isn't staged.
+/// A builder goes on from entries to one more: to a barrier, to a staged system, and to a local one.
 pub fn a_builder_goes_on_with_entries<V, S>()
-    ensures begins { (kinds : Kinds V) (plain : S → PlainSystem)
-        → IsBuiltOf kinds ⟦<ResourceId as PartialEq>⟧.eq plain [] nothing_built }
-    ensures barrier { (kinds : Kinds V) (plain : S → PlainSystem) (early : List DraftEntry) (building : Building S)
-        → IsBuiltOf kinds ⟦<ResourceId as PartialEq>⟧.eq plain early building
-        → IsBuiltOf kinds ⟦<ResourceId as PartialEq>⟧.eq plain (early ++ barrier ∷ []) (record {
-          staging = fenced ⟦<ResourceId as PartialEq>⟧.eq building.staging;
-          names = building.names;
-        }) }
-    ensures staged { (kinds : Kinds V) (plain : S → PlainSystem) (early : List DraftEntry) (building : Building S)
+    ensures begins { (kinds : Kinds V) (plain : S → PlainSystem) (workers : ℕ)
+        → IsDraftedOf kinds ⟦<ResourceId as PartialEq>⟧.eq plain []
+        (record { building = nothing_built; locals = []; workers = workers }) }
+    ensures barrier { (kinds : Kinds V) (plain : S → PlainSystem) (early : List DraftEntry) (drafting : Drafting S S)
+        → IsDraftedOf kinds ⟦<ResourceId as PartialEq>⟧.eq plain early drafting
+        → IsDraftedOf kinds ⟦<ResourceId as PartialEq>⟧.eq plain (early ++ barrier ∷ [])
+        (with_building drafting (record {
+          staging = fenced ⟦<ResourceId as PartialEq>⟧.eq drafting.building.staging;
+          names = drafting.building.names;
+        })) }
+    ensures staged { (kinds : Kinds V) (plain : S → PlainSystem) (early : List DraftEntry) (drafting : Drafting S S)
         (one : DraftSystem) (facts : Facts) (taken : S) (declared : Declared)
-        → IsBuiltOf kinds ⟦<ResourceId as PartialEq>⟧.eq plain early building
-        → one.local ≡ false → one.facts ≡ Some facts → plain taken ≡ plain_at (suc (length early)) one facts
+        → IsDraftedOf kinds ⟦<ResourceId as PartialEq>⟧.eq plain early drafting
+        → one.local ≡ false → one.facts ≡ Some facts → plain taken ≡ plain_system (suc (length early)) one facts
         → declared ≡ declared_of kinds (suc (length early)) facts
-        → IsBuiltOf kinds ⟦<ResourceId as PartialEq>⟧.eq plain (early ++ system one ∷ [])
-        (built_with ⟦<ResourceId as PartialEq>⟧.eq building taken declared one.name one.after) }
-    ensures unstaged { (kinds : Kinds V) (plain : S → PlainSystem) (early : List DraftEntry) (building : Building S)
-        (one : DraftSystem) → IsBuiltOf kinds ⟦<ResourceId as PartialEq>⟧.eq plain early building
-        → is_staged (system one) ≡ false
-        → IsBuiltOf kinds ⟦<ResourceId as PartialEq>⟧.eq plain (early ++ system one ∷ []) building }
+        → IsDraftedOf kinds ⟦<ResourceId as PartialEq>⟧.eq plain (early ++ system one ∷ []) (with_building drafting
+        (built_with ⟦<ResourceId as PartialEq>⟧.eq drafting.building taken declared one.name one.after)) }
+    ensures local { (kinds : Kinds V) (plain : S → PlainSystem) (early : List DraftEntry) (drafting : Drafting S S)
+        (one : DraftSystem) (facts : Facts) (taken : S)
+        → IsDraftedOf kinds ⟦<ResourceId as PartialEq>⟧.eq plain early drafting
+        → one.local ≡ true → one.facts ≡ Some facts → plain taken ≡ plain_system (suc (length early)) one facts
+        → IsDraftedOf kinds ⟦<ResourceId as PartialEq>⟧.eq plain (early ++ system one ∷ []) (record {
+          building = drafting.building;
+          locals = drafting.locals ++ taken ∷ [];
+          workers = drafting.workers;
+        }) }
 {}
 
-/// Nothing but want of memory stands against a system of a document, once a builder was asked for the entries before
-/// it: its name is free, those that it comes after are there, and there is room.
+/// Nothing but want of memory stands against a system of a document, once a builder has the entries before it: its name
+/// is free, those that it comes after are there, and there is room.
 pub fn a_builder_takes_the_systems_of_a_document<V, S>()
     ensures { (kinds : Kinds V) (plain : S → PlainSystem) (entries early later : List DraftEntry) (one : DraftSystem)
-        (building : Building S) → AreNamed entries → length entries ≤ 65536 → entries ≡ early ++ system one ∷ later
-        → IsBuiltOf kinds ⟦<ResourceId as PartialEq>⟧.eq plain early building
-        → refusal building one.name one.after ≡ None }
+        (drafting : Drafting S S) → AreNamed entries → length entries ≤ 65536 → entries ≡ early ++ system one ∷ later
+        → IsDraftedOf kinds ⟦<ResourceId as PartialEq>⟧.eq plain early drafting
+        → refusal drafting.building one.name one.after ≡ None }
 {}
 
-/// The systems of what is built are the staged ones in their order, each the one that is meant by its number; they run
-/// in the order of the document, and each declares what it is lent.
-pub fn what_is_built_runs_as_the_document_says<V, S>()
-    ensures systems { (kinds : Kinds V) (plain : S → PlainSystem) (entries : List DraftEntry) (building : Building S)
-        → IsBuiltOf kinds ⟦<ResourceId as PartialEq>⟧.eq plain entries building
-        → map plain building.staging.systems ≡ staged_list 1 entries }
-    ensures meant { (kinds : Kinds V) (plain : S → PlainSystem) (entries : List DraftEntry) (building : Building S)
-        → IsBuiltOf kinds ⟦<ResourceId as PartialEq>⟧.eq plain entries building
-        → EachAt (λ number one. plain one ≡ meant_at entries number) building.staging.systems }
-    ensures order { (kinds : Kinds V) (plain : S → PlainSystem) (draft : Draft) (building : Building S)
+/// The systems of the dispatcher that is built are the staged ones in their order, each the one that is meant by its
+/// number. In the order of the plan, and then the local ones, they are those of each frame of the document; and each
+/// declares what it is lent.
+pub fn a_dispatcher_runs_as_the_document_says<V, S>()
+    ensures systems { (kinds : Kinds V) (plain : S → PlainSystem) (entries : List DraftEntry) (drafting : Drafting S S)
+        → IsDraftedOf kinds ⟦<ResourceId as PartialEq>⟧.eq plain entries drafting
+        → map plain (dispatcher_of drafting).staging.systems ≡ staged_list 1 entries }
+    ensures meant { (kinds : Kinds V) (plain : S → PlainSystem) (entries : List DraftEntry) (drafting : Drafting S S)
+        → IsDraftedOf kinds ⟦<ResourceId as PartialEq>⟧.eq plain entries drafting
+        → EachAt (λ number one. plain one ≡ meant_at entries number) (dispatcher_of drafting).staging.systems }
+    ensures order { (kinds : Kinds V) (plain : S → PlainSystem) (draft : Draft) (drafting : Drafting S S) (frame : ℕ)
         → StandApart kinds → AllKnown kinds draft.entries → AreNamed draft.entries
-        → IsBuiltOf kinds ⟦<ResourceId as PartialEq>⟧.eq plain draft.entries building
-        → plan_order (meant_at draft.entries) building.staging.planning.stages ≡ staged_systems draft }
-    ensures lent { (kinds : Kinds V) (plain : S → PlainSystem) (draft : Draft) (building : Building S)
+        → IsDraftedOf kinds ⟦<ResourceId as PartialEq>⟧.eq plain draft.entries drafting
+        → plan_order (meant_at draft.entries) (dispatcher_of drafting).staging.planning.stages
+        ++ map plain (dispatcher_of drafting).locals ≡ (frames_of draft frame).order }
+    ensures lent { (kinds : Kinds V) (plain : S → PlainSystem) (draft : Draft) (drafting : Drafting S S)
         → StandApart kinds → AllKnown kinds draft.entries → AreNamed draft.entries
-        → IsBuiltOf kinds ⟦<ResourceId as PartialEq>⟧.eq plain draft.entries building
-        → PlanIsLent kinds (meant_at draft.entries) building.staging.planning.stages }
+        → IsDraftedOf kinds ⟦<ResourceId as PartialEq>⟧.eq plain draft.entries drafting
+        → PlanIsLent kinds (meant_at draft.entries) (dispatcher_of drafting).staging.planning.stages }
 {}
 
 /// The entries of a document are named, there are no more than 4096, and what is known of its systems is what the rules
