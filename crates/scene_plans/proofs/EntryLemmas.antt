@@ -16,9 +16,9 @@ use Rattle.scene_world.specs.Standing.{Kinds}
 use Rattle.scene_world.specs.Lent.{AreKnown, StandApart}
 use Rattle.scene_plans.specs.Alike.{Beside, fences, both, to_one, to_other, partners_of, IsRenumbered, Agree}
 use Rattle.scene_plans.specs.Declaring.{DeclareOne}
-use Rattle.scene_plans.specs.Entries.{systems_among, AreNamed, number_at, number_named, next_number, meant_at}
+use Rattle.scene_plans.specs.Entries.{systems_among, AreNamed, number_named, next_number, meant_at}
 use Rattle.scene_plans.specs.Told.{FactsKnown, declared_of, told_at, told_from}
-use Rattle.scene_plans.proofs.NumberLemmas.{staged_count, next-counted, further, next-place, number-behind, IsStagedAt, staged-here, numbers-apart}
+use Rattle.scene_plans.proofs.NumberLemmas.{number_at, staged_count, next-counted, further, next-place, number-behind, IsStagedAt, staged-here, numbers-apart}
 use Rattle.scene_plans.proofs.NameLemmas.{Follows, AreFit, numbers-of-names, places-staged}
 use Rattle.scene_plans.proofs.FoundLemmas.{found-there, meant-there}
 use Rattle.scene_plans.proofs.ConflictLemmas.{conflicts-same}

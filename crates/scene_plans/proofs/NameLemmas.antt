@@ -11,8 +11,8 @@ use Rattle.scene_rules.specs.Rulebook.{Facts}
 use Rattle.scene_draft.specs.Drafts.{DraftEntry, DraftSystem, barrier, system}
 use Rattle.scene_document.specs.Documents.{has_unknown_dependency}
 use Rattle.scene_document.specs.Openings.{place_named}
-use Rattle.scene_plans.specs.Entries.{systems_among, AreNamed, is_staged, is_staged_as, number_at, next_number, number_named}
-use Rattle.scene_plans.proofs.NumberLemmas.{staged_count, next-counted, further, next-place, number-behind, IsStagedAt, staged-here}
+use Rattle.scene_plans.specs.Entries.{systems_among, AreNamed, is_staged, is_staged_as, next_number, number_named}
+use Rattle.scene_plans.proofs.NumberLemmas.{number_at, staged_count, next-counted, further, next-place, number-behind, IsStagedAt, staged-here}
 
 -- a system's kind is known, and it has no name if it is local
 abbrev pub IsFit : DraftSystem → Type 0

@@ -6,7 +6,7 @@ use Rattle.std.proofs.lemmas.Bool.{cases_lt}
 use Rattle.std.proofs.lemmas.List.{length_push}
 use Rattle.std.proofs.lemmas.List.Sums.{sum_by_push, sum_by-cons}
 use Rattle.scene_draft.specs.Drafts.{DraftEntry}
-use Rattle.scene_plans.specs.Entries.{is_staged, number_at, next_number}
+use Rattle.scene_plans.specs.Entries.{is_staged, next_number}
 
 -- how many of entries are staged systems
 abbrev pub staged_count : List DraftEntry → ℕ
@@ -16,6 +16,11 @@ staged_count entries = count_by is_staged entries
 next_by : (b : Bool) (number : ℕ) → number + cond b 1 0 ≡ (if b then suc number else number)
 next_by true number = omega arith
 next_by false number = omega arith
+
+-- how many systems are staged before a place among entries, the first of which is 1: the number of the system that is staged there
+abbrev pub number_at : List DraftEntry → ℕ → ℕ
+number_at entries zero = zero
+number_at entries (suc place) = staged_count (take place entries)
 
 -- with one entry more
 pub count-more : (early : List DraftEntry) (entry : DraftEntry) → staged_count (early ++ entry ∷ []) ≡ next_number (staged_count early) entry

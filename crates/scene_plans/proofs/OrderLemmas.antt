@@ -16,10 +16,11 @@ use Rattle.scene_world.specs.Lent.{StandApart, IsLent, id_of_place, read_places,
 use Rattle.scene_world.proofs.CallerLemmas.{lent-ids}
 use Rattle.scene_turns.specs.Chains.{group_order, stage_order, plan_order, GroupIsLent, StageIsLent, PlanIsLent}
 use Rattle.scene_plans.specs.Alike.{Beside, to_one, to_other, partners_of, IsRenumbered, AreAlike, ArePartners}
-use Rattle.scene_plans.specs.Entries.{systems_among, AreNamed, number_at, meant_at}
+use Rattle.scene_plans.specs.Entries.{systems_among, AreNamed, meant_at}
 use Rattle.scene_plans.specs.Told.{FactsKnown, AllKnown, told_entries}
 use Rattle.scene_plans.proofs.ShapeLemmas.{zip-order, weaker-plan, one-shape}
 use Rattle.scene_plans.proofs.AlikeLemmas.{ByGroup, ByStage}
+use Rattle.scene_plans.proofs.NumberLemmas.{number_at}
 use Rattle.scene_plans.proofs.NameLemmas.{named-fit}
 use Rattle.scene_plans.proofs.EntryLemmas.{each-weaker, beside_from, to-one, to-other, IsEntry, entries-told, entries-alike}
 

@@ -31,8 +31,9 @@ pub record IsRenumbered {I J : Type 0} (renumber : ℕ → ℕ) (pair : Placing 
   pub time : pair.1.time ≡ pair.0.time
 
 module _ {I J : Type 0} (same_one : I → I → Bool) (same_other : J → J → Bool) (renumber : ℕ → ℕ) where
-  -- the later of two pairs of partners is to the earlier in the one plan what it is in the other: the ones conflict just where
-  -- the others do, and of the numbers that the later comes after the renumbering takes only the earlier's own to the earlier's
+  -- the later of two pairs of partners is to the earlier in the one plan what it is in the other: the ones conflict
+  -- just where the others do, and of the numbers that the later comes after the renumbering takes only the earlier's
+  -- own to the earlier's
   pub record Agree (earlier later : Placing I × Placing J) : Type 0 where
     pub conflicts : conflict same_one later.0 earlier.0 ≡ conflict same_other later.1 earlier.1
     pub waits : All (λ number. renumber number ≡ renumber earlier.0.number → number ≡ earlier.0.number) later.0.after

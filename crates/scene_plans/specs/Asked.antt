@@ -18,7 +18,7 @@ asked_as plain (asked.system one declared name after) = asked.system (plain one)
 asked_as plain asked.barrier = asked.barrier
 
 module _ {V : Type 0} (kinds : Kinds V) where
-  -- what a builder is asked for an entry's system: to take it, where it is staged, under its name, after those that it names
+  -- what a builder is asked for an entry's system: to take it, where it is staged, under its name, after those it names
   abbrev pub asked_at : ℕ → DraftSystem → Bool → Option Facts → List (Asked PlainSystem)
   asked_at place one local None = []
   asked_at place one true (Some facts) = []

@@ -1,5 +1,5 @@
 -- The systems of a document's entries: how they are named, which are staged, and their numbers.
-use Rattle.std.specs.Prelude.{◌≡◌, ℕ, zero, suc, Bool, true, false, not, List, [], ◌∷◌, take, count_by, Option, Some, None, is_none, slice_get, unwrap_or, if◌then◌else◌}
+use Rattle.std.specs.Prelude.{◌≡◌, ℕ, suc, Bool, true, false, not, List, [], ◌∷◌, Option, Some, None, is_none, slice_get, unwrap_or, if◌then◌else◌}
 use Rattle.std.specs.List.{All, filter_map, list_any}
 use Rattle.std.specs.Str.{bytes_eq}
 use Rattle.serde_json.specs.Data.{null}
@@ -14,8 +14,8 @@ use Rattle.scene_document.specs.Openings.{systems_at}
 abbrev pub systems_among : List DraftEntry → List DraftSystem
 systems_among entries = filter_map system_of_entry entries
 
--- entries are named as a document's are: the kind of each system is known, a local system has no name, no two systems have one that isn't
--- empty, and each comes after systems that have their names before it
+-- entries are named as a document's are: the kind of each system is known, a local system has no name, no two systems have
+-- one that isn't empty, and each comes after systems that have their names before it
 pub record AreNamed (entries : List DraftEntry) : Type 0 where
   pub none_unknown : list_any (λ one. is_none one.facts) (systems_among entries) ≡ false
   pub unnamed : All (λ one. one.local ≡ true → one.name ≡ []) (systems_among entries)
@@ -34,11 +34,6 @@ is_staged_as local (Some facts) = not local
 abbrev pub is_staged : DraftEntry → Bool
 is_staged barrier = false
 is_staged (system one) = is_staged_as one.local one.facts
-
--- how many systems are staged before a place among entries, the first of which is 1: the number of the system that is staged there
-abbrev pub number_at : List DraftEntry → ℕ → ℕ
-number_at entries zero = zero
-number_at entries (suc place) = count_by is_staged (take place entries)
 
 -- the number after that of an entry
 abbrev pub next_number : ℕ → DraftEntry → ℕ

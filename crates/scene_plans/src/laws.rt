@@ -1,4 +1,4 @@
-//! Laws of plans that are made side by side. The functions have no code; each contract is the law.
+//! Laws of the plans of a scene's systems. The functions have no code; each contract is the law.
 ghost use Rattle.std.specs.Prelude.{◌≡◌, ◌≢◌, ◌≤◌, ◌++◌, ◌∷◌, [], ℕ, suc, true, false, List, length, map, All, None, Some, Ok};
 ghost use Rattle.shred_world.specs.declared.resource_id.ResourceId.{ResourceId as Id};
 ghost use Rattle.shred_plan.specs.Plan.{Placing, conflict, plan, order};
