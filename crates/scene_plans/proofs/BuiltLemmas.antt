@@ -48,11 +48,11 @@ module _ {V S : Type 0} (kinds : Kinds V) (plain : S → PlainSystem) where
   built-plan same entries building named is =
       ap (λ (b : Building S). b.staging.planning.stages) is.built ∙ ap (λ planning. planning.stages) (built-planned same is.list nothing_built) ∙ ap (plan same) (builder-told kinds same plain is.list entries named is.asks)
 
-  module _ (apart : StandApart kinds) (draft : Draft) (known : AllKnown kinds draft.entries) (named : AreNamed draft.entries) (drafting : Drafting S S) (is : IsDraftedOf kinds same_id plain draft.entries drafting) where
+  module _ {L : Type 0} (plain_local : L → PlainSystem) (apart : StandApart kinds) (draft : Draft) (known : AllKnown kinds draft.entries) (named : AreNamed draft.entries) (drafting : Drafting S L) (is : IsDraftedOf kinds same_id plain plain_local draft.entries drafting) where
     -- so its systems run in the order of the document, and then the local ones as they stand
-    pub built-order : (frame : ℕ) → plan_order (meant_at draft.entries) (dispatcher_of drafting).staging.planning.stages ++ map plain (dispatcher_of drafting).locals ≡ (frames_of draft frame).order
+    pub built-order : (frame : ℕ) → plan_order (meant_at draft.entries) (dispatcher_of drafting).staging.planning.stages ++ map plain_local (dispatcher_of drafting).locals ≡ (frames_of draft frame).order
     built-order frame =
-        ap (λ list. list ++ map plain drafting.locals) (ap (plan_order (meant_at draft.entries)) (built-plan same_id draft.entries drafting.building named is.building) ∙ staged-order kinds apart draft named known)
+        ap (λ list. list ++ map plain_local drafting.locals) (ap (plan_order (meant_at draft.entries)) (built-plan same_id draft.entries drafting.building named is.building) ∙ staged-order kinds apart draft named known)
         ∙ ap (λ list. staged_systems draft ++ list) is.locals
 
     -- and each declares what it is lent

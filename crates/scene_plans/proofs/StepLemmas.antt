@@ -83,34 +83,35 @@ module _ {V : Type 0} (kinds : Kinds V) where
     locals-more : (early : List DraftEntry) (entry : DraftEntry) → local_list 1 (early ++ entry ∷ []) ≡ local_list 1 early ++ local_list (suc (length early)) (entry ∷ [])
     locals-more early entry = systems-append (λ one. one.local) 1 (suc (length early)) early (entry ∷ []) (omega arith)
 
-    -- a builder that has nothing
-    pub none-drafted : (workers : ℕ) → IsDraftedOf kinds same plain [] (record { building = nothing_built; locals = []; workers = workers })
-    none-drafted workers = record { building = none-asked; locals = refl }
+    module _ {L : Type 0} (plain_local : L → PlainSystem) where
+      -- a builder that has nothing
+      pub none-drafted : (workers : ℕ) → IsDraftedOf kinds same plain plain_local [] (record { building = nothing_built; locals = []; workers = workers })
+      none-drafted workers = record { building = none-asked; locals = refl }
 
-    -- a barrier
-    pub barrier-drafted : (early : List DraftEntry) (draft : Drafting S S) → IsDraftedOf kinds same plain early draft
-        → IsDraftedOf kinds same plain (early ++ barrier ∷ []) (with_building draft (record { staging = fenced same draft.building.staging; names = draft.building.names }))
-    barrier-drafted early draft is = record {
-      building = barrier-asked early draft.building is.building;
-      locals = is.locals ∙ sym (locals-more early barrier ∙ append-nil (local_list 1 early));
-    }
+      -- a barrier
+      pub barrier-drafted : (early : List DraftEntry) (draft : Drafting S L) → IsDraftedOf kinds same plain plain_local early draft
+          → IsDraftedOf kinds same plain plain_local (early ++ barrier ∷ []) (with_building draft (record { staging = fenced same draft.building.staging; names = draft.building.names }))
+      barrier-drafted early draft is = record {
+        building = barrier-asked early draft.building is.building;
+        locals = is.locals ∙ sym (locals-more early barrier ∙ append-nil (local_list 1 early));
+      }
 
-    -- a staged system
-    pub system-drafted : (early : List DraftEntry) (draft : Drafting S S) (one : DraftSystem) (facts : Facts) (taken : S) (declared : Declared) → IsDraftedOf kinds same plain early draft
-        → one.local ≡ false → one.facts ≡ Some facts → plain taken ≡ plain_system (suc (length early)) one facts → declared ≡ declared_of kinds (suc (length early)) facts
-        → IsDraftedOf kinds same plain (early ++ system one ∷ []) (with_building draft (built_with same draft.building taken declared one.name one.after))
-    system-drafted early draft one facts taken declared is staged known means declares = record {
-      building = system-asked early draft.building one facts taken declared is.building staged known means declares;
-      locals = is.locals ∙ sym (locals-more early (system one) ∙ ap (λ b. local_list 1 early ++ ((if b then with_facts (suc (length early)) one one.facts else []) ++ [])) staged ∙ append-nil (local_list 1 early));
-    }
+      -- a staged system
+      pub system-drafted : (early : List DraftEntry) (draft : Drafting S L) (one : DraftSystem) (facts : Facts) (taken : S) (declared : Declared) → IsDraftedOf kinds same plain plain_local early draft
+          → one.local ≡ false → one.facts ≡ Some facts → plain taken ≡ plain_system (suc (length early)) one facts → declared ≡ declared_of kinds (suc (length early)) facts
+          → IsDraftedOf kinds same plain plain_local (early ++ system one ∷ []) (with_building draft (built_with same draft.building taken declared one.name one.after))
+      system-drafted early draft one facts taken declared is staged known means declares = record {
+        building = system-asked early draft.building one facts taken declared is.building staged known means declares;
+        locals = is.locals ∙ sym (locals-more early (system one) ∙ ap (λ b. local_list 1 early ++ ((if b then with_facts (suc (length early)) one one.facts else []) ++ [])) staged ∙ append-nil (local_list 1 early));
+      }
 
-    -- a local one
-    pub local-drafted : (early : List DraftEntry) (draft : Drafting S S) (one : DraftSystem) (facts : Facts) (taken : S) → IsDraftedOf kinds same plain early draft
-        → one.local ≡ true → one.facts ≡ Some facts → plain taken ≡ plain_system (suc (length early)) one facts
-        → IsDraftedOf kinds same plain (early ++ system one ∷ []) (record { building = draft.building; locals = draft.locals ++ taken ∷ []; workers = draft.workers })
-    local-drafted early draft one facts taken is local known means = record {
-      building = unstaged-asked early draft.building one is.building (ap (λ b. is_staged_as b one.facts) local ∙ ap (is_staged_as true) known);
-      locals = map-append plain draft.locals (taken ∷ []) ∙ ap (λ list. list ++ plain taken ∷ []) is.locals ∙ ap (λ last. local_list 1 early ++ last ∷ []) means
-          ∙ sym (locals-more early (system one) ∙ ap (λ b. local_list 1 early ++ ((if b then with_facts (suc (length early)) one one.facts else []) ++ [])) local
-          ∙ ap (λ found. local_list 1 early ++ (with_facts (suc (length early)) one found ++ [])) known);
-    }
+      -- a local one
+      pub local-drafted : (early : List DraftEntry) (draft : Drafting S L) (one : DraftSystem) (facts : Facts) (taken : L) → IsDraftedOf kinds same plain plain_local early draft
+          → one.local ≡ true → one.facts ≡ Some facts → plain_local taken ≡ plain_system (suc (length early)) one facts
+          → IsDraftedOf kinds same plain plain_local (early ++ system one ∷ []) (record { building = draft.building; locals = draft.locals ++ taken ∷ []; workers = draft.workers })
+      local-drafted early draft one facts taken is local known means = record {
+        building = unstaged-asked early draft.building one is.building (ap (λ b. is_staged_as b one.facts) local ∙ ap (is_staged_as true) known);
+        locals = map-append plain_local draft.locals (taken ∷ []) ∙ ap (λ list. list ++ plain_local taken ∷ []) is.locals ∙ ap (λ last. local_list 1 early ++ last ∷ []) means
+            ∙ sym (locals-more early (system one) ∙ ap (λ b. local_list 1 early ++ ((if b then with_facts (suc (length early)) one one.facts else []) ++ [])) local
+            ∙ ap (λ found. local_list 1 early ++ (with_facts (suc (length early)) one found ++ [])) known);
+      }

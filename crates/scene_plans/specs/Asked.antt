@@ -38,6 +38,6 @@ module _ {V : Type 0} (kinds : Kinds V) where
     pub asks : map (asked_as plain) list ≡ asked_entries 1 entries
 
   -- so it is of what a builder holds beside: its local systems are those of the entries, in their order
-  pub record IsDraftedOf {S : Type 0} (same : ResourceId → ResourceId → Bool) (plain : S → PlainSystem) (entries : List DraftEntry) (draft : Drafting S S) : Type 0 where
+  pub record IsDraftedOf {S L : Type 0} (same : ResourceId → ResourceId → Bool) (plain : S → PlainSystem) (plain_local : L → PlainSystem) (entries : List DraftEntry) (draft : Drafting S L) : Type 0 where
     pub building : IsBuiltOf same plain entries draft.building
-    pub locals : map plain draft.locals ≡ local_list 1 entries
+    pub locals : map plain_local draft.locals ≡ local_list 1 entries

@@ -62,29 +62,33 @@ pub fn a_builder_tells_what_it_is_asked<V, S>()
 {}
 
 /// A builder goes on from entries to one more: to a barrier, to a staged system, and to a local one.
-pub fn a_builder_goes_on_with_entries<V, S>()
-    ensures begins { (kinds : Kinds V) (plain : S → PlainSystem) (workers : ℕ)
-        → IsDraftedOf kinds ⟦<ResourceId as PartialEq>⟧.eq plain []
+pub fn a_builder_goes_on_with_entries<V, S, L>()
+    ensures begins { (kinds : Kinds V) (plain : S → PlainSystem) (plain_local : L → PlainSystem) (workers : ℕ)
+        → IsDraftedOf kinds ⟦<ResourceId as PartialEq>⟧.eq plain plain_local []
         (record { building = nothing_built; locals = []; workers = workers }) }
-    ensures barrier { (kinds : Kinds V) (plain : S → PlainSystem) (early : List DraftEntry) (drafting : Drafting S S)
-        → IsDraftedOf kinds ⟦<ResourceId as PartialEq>⟧.eq plain early drafting
-        → IsDraftedOf kinds ⟦<ResourceId as PartialEq>⟧.eq plain (early ++ barrier ∷ [])
+    ensures barrier { (kinds : Kinds V) (plain : S → PlainSystem) (plain_local : L → PlainSystem)
+        (early : List DraftEntry) (drafting : Drafting S L)
+        → IsDraftedOf kinds ⟦<ResourceId as PartialEq>⟧.eq plain plain_local early drafting
+        → IsDraftedOf kinds ⟦<ResourceId as PartialEq>⟧.eq plain plain_local (early ++ barrier ∷ [])
         (with_building drafting (record {
           staging = fenced ⟦<ResourceId as PartialEq>⟧.eq drafting.building.staging;
           names = drafting.building.names;
         })) }
-    ensures staged { (kinds : Kinds V) (plain : S → PlainSystem) (early : List DraftEntry) (drafting : Drafting S S)
+    ensures staged { (kinds : Kinds V) (plain : S → PlainSystem) (plain_local : L → PlainSystem)
+        (early : List DraftEntry) (drafting : Drafting S L)
         (one : DraftSystem) (facts : Facts) (taken : S) (declared : Declared)
-        → IsDraftedOf kinds ⟦<ResourceId as PartialEq>⟧.eq plain early drafting
+        → IsDraftedOf kinds ⟦<ResourceId as PartialEq>⟧.eq plain plain_local early drafting
         → one.local ≡ false → one.facts ≡ Some facts → plain taken ≡ plain_system (suc (length early)) one facts
         → declared ≡ declared_of kinds (suc (length early)) facts
-        → IsDraftedOf kinds ⟦<ResourceId as PartialEq>⟧.eq plain (early ++ system one ∷ []) (with_building drafting
+        → IsDraftedOf kinds ⟦<ResourceId as PartialEq>⟧.eq plain plain_local (early ++ system one ∷ [])
+        (with_building drafting
         (built_with ⟦<ResourceId as PartialEq>⟧.eq drafting.building taken declared one.name one.after)) }
-    ensures local { (kinds : Kinds V) (plain : S → PlainSystem) (early : List DraftEntry) (drafting : Drafting S S)
-        (one : DraftSystem) (facts : Facts) (taken : S)
-        → IsDraftedOf kinds ⟦<ResourceId as PartialEq>⟧.eq plain early drafting
-        → one.local ≡ true → one.facts ≡ Some facts → plain taken ≡ plain_system (suc (length early)) one facts
-        → IsDraftedOf kinds ⟦<ResourceId as PartialEq>⟧.eq plain (early ++ system one ∷ []) (record {
+    ensures local { (kinds : Kinds V) (plain : S → PlainSystem) (plain_local : L → PlainSystem)
+        (early : List DraftEntry) (drafting : Drafting S L)
+        (one : DraftSystem) (facts : Facts) (taken : L)
+        → IsDraftedOf kinds ⟦<ResourceId as PartialEq>⟧.eq plain plain_local early drafting
+        → one.local ≡ true → one.facts ≡ Some facts → plain_local taken ≡ plain_system (suc (length early)) one facts
+        → IsDraftedOf kinds ⟦<ResourceId as PartialEq>⟧.eq plain plain_local (early ++ system one ∷ []) (record {
           building = drafting.building;
           locals = drafting.locals ++ taken ∷ [];
           workers = drafting.workers;
@@ -93,31 +97,36 @@ pub fn a_builder_goes_on_with_entries<V, S>()
 
 /// Nothing but want of memory stands against a system of a document, once a builder has the entries before it: its name
 /// is free, those that it comes after are there, and there is room.
-pub fn a_builder_takes_the_systems_of_a_document<V, S>()
-    ensures { (kinds : Kinds V) (plain : S → PlainSystem) (entries early later : List DraftEntry) (one : DraftSystem)
-        (drafting : Drafting S S) → AreNamed entries → length entries ≤ 65536 → entries ≡ early ++ system one ∷ later
-        → IsDraftedOf kinds ⟦<ResourceId as PartialEq>⟧.eq plain early drafting
+pub fn a_builder_takes_the_systems_of_a_document<V, S, L>()
+    ensures { (kinds : Kinds V) (plain : S → PlainSystem) (plain_local : L → PlainSystem)
+        (entries early later : List DraftEntry) (one : DraftSystem)
+        (drafting : Drafting S L) → AreNamed entries → length entries ≤ 65536 → entries ≡ early ++ system one ∷ later
+        → IsDraftedOf kinds ⟦<ResourceId as PartialEq>⟧.eq plain plain_local early drafting
         → refusal drafting.building one.name one.after ≡ None }
 {}
 
 /// The systems of the dispatcher that is built are the staged ones in their order, each the one that is meant by its
 /// number. In the order of the plan, and then the local ones, they are those of each frame of the document; and each
 /// declares what it is lent.
-pub fn a_dispatcher_runs_as_the_document_says<V, S>()
-    ensures systems { (kinds : Kinds V) (plain : S → PlainSystem) (entries : List DraftEntry) (drafting : Drafting S S)
-        → IsDraftedOf kinds ⟦<ResourceId as PartialEq>⟧.eq plain entries drafting
+pub fn a_dispatcher_runs_as_the_document_says<V, S, L>()
+    ensures systems { (kinds : Kinds V) (plain : S → PlainSystem) (plain_local : L → PlainSystem)
+        (entries : List DraftEntry) (drafting : Drafting S L)
+        → IsDraftedOf kinds ⟦<ResourceId as PartialEq>⟧.eq plain plain_local entries drafting
         → map plain (dispatcher_of drafting).staging.systems ≡ staged_list 1 entries }
-    ensures meant { (kinds : Kinds V) (plain : S → PlainSystem) (entries : List DraftEntry) (drafting : Drafting S S)
-        → IsDraftedOf kinds ⟦<ResourceId as PartialEq>⟧.eq plain entries drafting
+    ensures meant { (kinds : Kinds V) (plain : S → PlainSystem) (plain_local : L → PlainSystem)
+        (entries : List DraftEntry) (drafting : Drafting S L)
+        → IsDraftedOf kinds ⟦<ResourceId as PartialEq>⟧.eq plain plain_local entries drafting
         → EachAt (λ number one. plain one ≡ meant_at entries number) (dispatcher_of drafting).staging.systems }
-    ensures order { (kinds : Kinds V) (plain : S → PlainSystem) (draft : Draft) (drafting : Drafting S S) (frame : ℕ)
+    ensures order { (kinds : Kinds V) (plain : S → PlainSystem) (plain_local : L → PlainSystem)
+        (draft : Draft) (drafting : Drafting S L) (frame : ℕ)
         → StandApart kinds → AllKnown kinds draft.entries → AreNamed draft.entries
-        → IsDraftedOf kinds ⟦<ResourceId as PartialEq>⟧.eq plain draft.entries drafting
+        → IsDraftedOf kinds ⟦<ResourceId as PartialEq>⟧.eq plain plain_local draft.entries drafting
         → plan_order (meant_at draft.entries) (dispatcher_of drafting).staging.planning.stages
-        ++ map plain (dispatcher_of drafting).locals ≡ (frames_of draft frame).order }
-    ensures lent { (kinds : Kinds V) (plain : S → PlainSystem) (draft : Draft) (drafting : Drafting S S)
+        ++ map plain_local (dispatcher_of drafting).locals ≡ (frames_of draft frame).order }
+    ensures lent { (kinds : Kinds V) (plain : S → PlainSystem) (plain_local : L → PlainSystem)
+        (draft : Draft) (drafting : Drafting S L)
         → StandApart kinds → AllKnown kinds draft.entries → AreNamed draft.entries
-        → IsDraftedOf kinds ⟦<ResourceId as PartialEq>⟧.eq plain draft.entries drafting
+        → IsDraftedOf kinds ⟦<ResourceId as PartialEq>⟧.eq plain plain_local draft.entries drafting
         → PlanIsLent kinds (meant_at draft.entries) (dispatcher_of drafting).staging.planning.stages }
 {}
 
