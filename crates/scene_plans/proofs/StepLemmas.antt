@@ -1,8 +1,9 @@
 -- A builder that is asked for entries, one more at a time.
-use Rattle.std.proofs.Common.{◌≡◌, ℕ, suc, ◌+◌, Bool, true, false, List, [], ◌∷◌, ◌++◌, length, Option, Some, None, refl, ap, sym, ◌∙◌, append_assoc, append-nil, arith}
+use Rattle.std.proofs.Common.{◌≡◌, ℕ, suc, ◌+◌, Bool, true, false, List, [], ◌∷◌, ◌++◌, length, Option, Some, None, refl, ap, sym, ◌∙◌, append_assoc, append-nil, arith, subst₂}
 use Rattle.std.specs.Prelude.{if◌then◌else◌}
 use Rattle.std.proofs.lemmas.List.{map-append}
 use Rattle.shred_world.specs.declared.resource_id.ResourceId.{ResourceId}
+use Rattle.scene_rules.specs.Parts.{Name}
 use Rattle.scene_rules.specs.Rulebook.{Facts}
 use Rattle.scene_rules.specs.Scenes.{PlainSystem}
 use Rattle.scene_draft.specs.Drafts.{DraftEntry, DraftSystem, barrier, system}
@@ -97,13 +98,15 @@ module _ {V : Type 0} (kinds : Kinds V) where
       }
 
       -- a staged system
-      pub system-drafted : (early : List DraftEntry) (draft : Drafting S L) (one : DraftSystem) (facts : Facts) (taken : S) (declared : Declared) → IsDraftedOf kinds same plain plain_local early draft
-          → one.local ≡ false → one.facts ≡ Some facts → plain taken ≡ plain_system (suc (length early)) one facts → declared ≡ declared_of kinds (suc (length early)) facts
-          → IsDraftedOf kinds same plain plain_local (early ++ system one ∷ []) (with_building draft (built_with same draft.building taken declared one.name one.after))
-      system-drafted early draft one facts taken declared is staged known means declares = record {
-        building = system-asked early draft.building one facts taken declared is.building staged known means declares;
-        locals = is.locals ∙ sym (locals-more early (system one) ∙ ap (λ b. local_list 1 early ++ ((if b then with_facts (suc (length early)) one one.facts else []) ++ [])) staged ∙ append-nil (local_list 1 early));
-      }
+      pub system-drafted : (early : List DraftEntry) (draft : Drafting S L) (one : DraftSystem) (facts : Facts) (taken : S) (declared : Declared) (name : Name) (after : List Name) → IsDraftedOf kinds same plain plain_local early draft
+          → one.local ≡ false → one.facts ≡ Some facts → plain taken ≡ plain_system (suc (length early)) one facts → declared ≡ declared_of kinds (suc (length early)) facts → name ≡ one.name → after ≡ one.after
+          → IsDraftedOf kinds same plain plain_local (early ++ system one ∷ []) (with_building draft (built_with same draft.building taken declared name after))
+      system-drafted early draft one facts taken declared name after is staged known means declares called follows =
+          subst₂ (λ name after. IsDraftedOf kinds same plain plain_local (early ++ system one ∷ []) (with_building draft (built_with same draft.building taken declared name after))) (sym called) (sym follows)
+          (record {
+            building = system-asked early draft.building one facts taken declared is.building staged known means declares;
+            locals = is.locals ∙ sym (locals-more early (system one) ∙ ap (λ b. local_list 1 early ++ ((if b then with_facts (suc (length early)) one one.facts else []) ++ [])) staged ∙ append-nil (local_list 1 early));
+          })
 
       -- a local one
       pub local-drafted : (early : List DraftEntry) (draft : Drafting S L) (one : DraftSystem) (facts : Facts) (taken : L) → IsDraftedOf kinds same plain plain_local early draft

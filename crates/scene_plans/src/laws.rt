@@ -5,7 +5,7 @@ ghost use Rattle.shred_plan.specs.Plan.{Placing, conflict, plan, order};
 ghost use Rattle.shred.specs.Building.{Declared, nothing_built, built_with, fenced, refusal};
 ghost use Rattle.shred.specs.Dispatchers.{Drafting, with_building, dispatcher_of};
 ghost use Rattle.shred.specs.Histories.{Asked, told};
-ghost use Rattle.scene_rules.specs.Parts.{Json};
+ghost use Rattle.scene_rules.specs.Parts.{Json, Name};
 ghost use Rattle.scene_rules.specs.Rulebook.{Access, Facts};
 ghost use Rattle.scene_rules.specs.Scenes.{PlainSystem};
 ghost use Rattle.scene_draft.specs.Drafts.{Draft, DraftEntry, DraftSystem, barrier, system};
@@ -76,13 +76,13 @@ pub fn a_builder_goes_on_with_entries<V, S, L>()
         })) }
     ensures staged { (kinds : Kinds V) (plain : S → PlainSystem) (plain_local : L → PlainSystem)
         (early : List DraftEntry) (drafting : Drafting S L)
-        (one : DraftSystem) (facts : Facts) (taken : S) (declared : Declared)
+        (one : DraftSystem) (facts : Facts) (taken : S) (declared : Declared) (name : Name) (after : List Name)
         → IsDraftedOf kinds ⟦<ResourceId as PartialEq>⟧.eq plain plain_local early drafting
         → one.local ≡ false → one.facts ≡ Some facts → plain taken ≡ plain_system (suc (length early)) one facts
-        → declared ≡ declared_of kinds (suc (length early)) facts
+        → declared ≡ declared_of kinds (suc (length early)) facts → name ≡ one.name → after ≡ one.after
         → IsDraftedOf kinds ⟦<ResourceId as PartialEq>⟧.eq plain plain_local (early ++ system one ∷ [])
         (with_building drafting
-        (built_with ⟦<ResourceId as PartialEq>⟧.eq drafting.building taken declared one.name one.after)) }
+        (built_with ⟦<ResourceId as PartialEq>⟧.eq drafting.building taken declared name after)) }
     ensures local { (kinds : Kinds V) (plain : S → PlainSystem) (plain_local : L → PlainSystem)
         (early : List DraftEntry) (drafting : Drafting S L)
         (one : DraftSystem) (facts : Facts) (taken : L)

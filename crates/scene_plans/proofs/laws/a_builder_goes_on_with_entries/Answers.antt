@@ -8,7 +8,8 @@ pub returns-clause-barrier : goal.returns-clause-barrier
 returns-clause-barrier g c kinds plain plain_local early drafting is = barrier-drafted kinds _ plain plain_local early drafting is
 
 pub returns-clause-staged : goal.returns-clause-staged
-returns-clause-staged g c kinds plain plain_local early drafting one facts taken declared is staged known means declares = system-drafted kinds _ plain plain_local early drafting one facts taken declared is staged known means declares
+returns-clause-staged g c kinds plain plain_local early drafting one facts taken declared name after is staged known means declares called follows =
+    system-drafted kinds _ plain plain_local early drafting one facts taken declared name after is staged known means declares called follows
 
 pub returns-clause-local : goal.returns-clause-local
 returns-clause-local g c kinds plain plain_local early drafting one facts taken is local known means = local-drafted kinds _ plain plain_local early drafting one facts taken is local known means
