@@ -8,4 +8,5 @@ pub mod PlacingLemmas
 pub mod ComeLemmas
 pub mod AnswerLemmas
 pub mod BuildLemmas
+pub mod LawLemmas
 pub mod AloneLemmas

@@ -47,6 +47,17 @@ AreRefused book order scene TooManyCommands = SystemsFill book order scene
 AreRefused book order scene Memory = Unit {0}
 AreRefused book order scene Threads = Unit {0}
 
+-- the cause is want of a thread
+abbrev pub WantsThread : FrameRefusal → Type 0
+WantsThread (System position text) = ⊥
+WantsThread (GoneReference id) = ⊥
+WantsThread IdsSpent = ⊥
+WantsThread IndicesSpent = ⊥
+WantsThread GenerationsSpent = ⊥
+WantsThread TooManyCommands = ⊥
+WantsThread Memory = ⊥
+WantsThread Threads = Unit {0}
+
 module _ {V P : Type 0} (kinds : Kinds V) (meaning : Meaning P) (book : Book) where
   -- a scene stands in the world, and the systems are the rules' own
   pub record AreReady (systems : Dispatching P P) (w : Holding V) : Type 0 where

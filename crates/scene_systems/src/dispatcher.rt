@@ -1,12 +1,12 @@
 //! The dispatcher of a scene's systems.
-ghost use Rattle.std.specs.Prelude.{◌≡◌, map};
+ghost use Rattle.std.specs.Prelude.{◌≡◌, ◌<◌, map, IfErr};
 ghost use Rattle.shred_world.specs.Bundles.{holding_of};
 ghost use Rattle.shred_stages.specs.Views.{Leaves};
 ghost use Rattle.scene_turns.specs.Places.{kinds_of};
 ghost use Rattle.scene_turns.specs.Turns.{placed_as};
 ghost use Rattle.scene_systems.specs.Orders.{turn_order};
 ghost use Rattle.scene_systems.specs.Held.{dispatching_in, AreHeld};
-ghost use Rattle.scene_systems.specs.Frames.{AreReady, Come};
+ghost use Rattle.scene_systems.specs.Frames.{AreReady, Come, WantsThread};
 
 use crate::cause::cause_of;
 use crate::local::PlacedLocal;
@@ -78,7 +78,15 @@ where
     R::Data: Send + Sync,
     R::System: Send + Sync,
 {
-    /// Runs all systems over the world.
+    /// Runs the staged systems in the stages of their plan, and then the local ones.
+    ///
+    /// Where a scene stands in the world and the systems are the rules' own, it is the chain of their turns over the scene,
+    /// in the order of the plan and then that of adding, whatever the number of workers. The queue of each position then
+    /// has the commands of its system, and they may run again.
+    ///
+    /// Errors: `System`, with the position and the text of the first system in that order that refuses; `TooManyCommands`,
+    /// where the first that stops has a full queue; `Memory`; `Threads`, only with two workers or more, where a thread
+    /// couldn't be started. What systems wrote before stays in the world.
     pub fn run_systems<H: AllocGlobal + Threads + Wait + Sync>(
         &mut self,
         rt: &H,
@@ -96,6 +104,9 @@ where
             R.config_of R.declared R.sense R.does).plain self.new
             ≡ turn_order (placed_as (λ placed. placed.position) (λ placed. placed.system) R.kind_of
             R.config_of R.declared R.sense R.does).plain self.old }
+
+        ensures workers { self.new.workers ≡ self.old.workers }
+        ensures threads { self.old.workers < 2 → IfErr result (λ cause. ¬ (WantsThread cause)) }
 
         // The same ids have values as before.
         ensures leaves { Leaves (holding_of world.old) (holding_of world.new) }

@@ -5,6 +5,7 @@
 mod builder;
 mod cause;
 mod dispatcher;
+pub mod laws;
 mod local;
 
 pub use builder::SceneDispatcherBuilder;
