@@ -1,1 +1,2 @@
 pub mod TwiceLemmas
+pub mod BareLemmas
