@@ -1,0 +1,12 @@
+pub mod PlaceLemmas
+pub mod AlikeLemmas
+pub mod WorkLemmas
+pub mod LocalLemmas
+pub mod DispatchLemmas
+pub mod LentLemmas
+pub mod PlacingLemmas
+pub mod ComeLemmas
+pub mod AnswerLemmas
+pub mod BuildLemmas
+pub mod LawLemmas
+pub mod AloneLemmas

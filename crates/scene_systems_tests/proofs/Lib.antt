@@ -1,0 +1,2 @@
+pub mod TwiceLemmas
+pub mod BareLemmas

@@ -1,0 +1,66 @@
+//! A world in which a scene without entities stands.
+ghost use Rattle.std.specs.Prelude.{◌≡◌, IfOk, OnOk, Some};
+ghost use Rattle.std.specs.FinMap as map;
+ghost use Rattle.shred_world.specs.ResourceIds.{id_of};
+ghost use Rattle.shred_world.specs.Bundles.{holding_of};
+ghost use Rattle.specs_layouts.specs.Parts.{HasNone};
+ghost use Rattle.scene_stores.specs.Markers.{marker_at};
+ghost use Rattle.scene_world.specs.Standing.{seen_in, IsSceneWorld};
+ghost use Rattle.scene_turns_tests.specs.Drifting.{drifting_book};
+ghost use Rattle.scene_systems.specs.Frames.{AreReady};
+ghost use Rattle.scene_systems_tests.specs.Twice.{drifting_kinds, drift_meaning};
+
+use crate::frames::drift_twice;
+use scene_stores::{SceneMarker, SceneMarkerAllocator};
+use scene_systems::SceneDispatcher;
+use scene_turns_tests::{Drifting, Value};
+use shred_world::{Resource, World};
+use specs_entity::EntitiesRes;
+use specs_flagged::FlaggedStorage;
+use specs_layouts::{MaskedStorage, TryDefault};
+use std::alloc::{AllocError, Global};
+
+/// Puts a resource into a world. Errors: want of memory.
+fn put<R: Resource<Value> + Drop>(world: &mut World<Value>, resource: R) -> Result<(), AllocError>
+    ensures { OnOk result (world.new ≡ map.insert world.old (id_of R.kind_number 0) (Some (R.wrapped resource))) }
+{
+    match world.insert(resource) {
+        Ok(()) => Ok(()),
+        Err(_) => Err(AllocError),
+    }
+}
+
+/// The markers of no entity.
+fn no_markers(alloc: Global) -> MaskedStorage<SceneMarker>
+    ensures { HasNone (marker_at result) }
+{
+    MaskedStorage::new(alloc, FlaggedStorage::unwrap_default(alloc))
+}
+
+/// The world.
+///
+/// Errors: want of memory.
+pub fn bare_world(alloc: Global) -> Result<World<Value>, AllocError>
+    ensures { IfOk result (λ world. IsSceneWorld drifting_kinds drifting_book (seen_in (holding_of world))) }
+{
+    let mut world = World::empty(alloc);
+    put(&mut world, EntitiesRes::new(alloc))?;
+    put(&mut world, no_markers(alloc))?;
+    put(&mut world, SceneMarkerAllocator::new(alloc, 0))?;
+    Ok(world)
+}
+
+/// Drift at two positions over such a world: all stand ready.
+///
+/// Errors: want of memory.
+pub fn bare_frames(
+    alloc: Global,
+    workers: usize,
+) -> Result<(SceneDispatcher<Drifting>, World<Value>), AllocError>
+    ensures { IfOk result (λ both. AreReady drifting_kinds (drift_meaning (λ placed. placed.position)) drifting_book
+        both.0 (holding_of both.1)) }
+{
+    let world = bare_world(alloc)?;
+    let systems = drift_twice(alloc, workers)?;
+    Ok((systems, world))
+}

@@ -1,0 +1,49 @@
+//! Frames of drift over a small world, with any number of workers.
+use crate::world::{Failure, position_at, small_world};
+use crate::{drift_twice, run_frame};
+use scene_systems::SceneDispatcher;
+use scene_turns_tests::{Drifting, Value};
+use shred_world::World;
+use std::alloc::Global;
+use std::sync::Wait;
+use std::thread::Threads;
+
+/// Some frames of drift over a world.
+fn frames<H: AllocGlobal + Threads + Wait + Sync>(
+    rt: &H,
+    systems: &mut SceneDispatcher<Drifting>,
+    world: &mut World<Value>,
+    count: u8,
+) -> Result<(), Failure> {
+    for _ in 0..count {
+        match run_frame(rt, systems, world) {
+            Ok(()) => {}
+            Err(_) => return Err(Failure::Refused),
+        }
+    }
+    Ok(())
+}
+
+/// The positions of both entities after two frames: the first went on by 2 at each turn.
+fn drifted<H: AllocGlobal + Threads + Wait + Sync>(
+    rt: &H,
+    alloc: Global,
+    workers: usize,
+) -> Result<(Option<u64>, Option<u64>), Failure> {
+    let mut world = small_world(alloc)?;
+    let mut systems = drift_twice(alloc, workers)?;
+    let outcome = frames(rt, &mut systems, &mut world, 2);
+    drop(systems);
+    outcome?;
+    Ok((position_at(&world, 0), position_at(&world, 1)))
+}
+
+#[test]
+fn each_turn_moves_the_first(rt: HostRuntime) {
+    assert_eq!(rt; drifted(&rt, rt.alloc(), 0), Ok((Some(13), Some(1))));
+}
+
+#[test]
+fn with_two_workers_it_is_the_same(rt: HostRuntime) {
+    assert_eq!(rt; drifted(&rt, rt.alloc(), 2), Ok((Some(13), Some(1))));
+}
