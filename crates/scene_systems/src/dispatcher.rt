@@ -76,6 +76,7 @@ impl<R: Rules + Send + Sync> SceneDispatcher<R>
 where
     R::Value: Drop + Send + Sync,
     R::Data: Send + Sync,
+    R::Global: Send + Sync,
     R::System: Send + Sync,
 {
     /// Runs the staged systems in the stages of their plan, and then the local ones.
