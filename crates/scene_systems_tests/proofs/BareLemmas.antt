@@ -12,7 +12,7 @@ use Rattle.shred_world.specs.Worlds.{Slots}
 use Rattle.shred_world.specs.Bundles.{readable, slot_of, holding_of}
 use Rattle.shred_world.proofs.CallerLemmas.{ids_total}
 use Rattle.specs_entity.specs.Births.{Births, living_of, living, none_born}
-use Rattle.specs_markers.specs.Simple.{Noting, none_noted}
+use Rattle.specs_markers.specs.Simple.{none_noted}
 use Rattle.specs_layouts.specs.Masked.{Masked}
 use Rattle.specs_layouts.specs.Parts.{HasNone}
 use Rattle.specs_layouts.specs.declared.storages.vec.VecStorage.{VecStorage}
@@ -103,21 +103,27 @@ read-there s q v is = ap (λ slot. readable (slot_of slot)) is
 read-none : (s : Slots Value) (q : ResourceId) → map.get s q ≡ None → seen_in (holding_of s) q ≡ None
 read-none s q is = ap (λ slot. readable (slot_of slot)) is
 
--- entities, markers and the allocator, put into an empty world one after another
-pub put-scene : (indices generations : ℕ) (markers : Masked (Flagged (VecStorage ℕ))) → HasNone (marker_at markers) → (one two three : Slots Value)
+-- a queue that is put in stands elsewhere
+kept : (s more : Slots Value) (position : ℕ) (queue : Value) (q : ResourceId) → more ≡ map.insert s (id_of 3 position) (Some queue) → eq_by_cmp id_cmp q (id_of 3 position) ≡ false → map.get more q ≡ map.get s q
+kept s more position queue q is apart = ap (λ m. map.get m q) is ∙ map.get-insert ids_total s (id_of 3 position) (Some queue) q ∙ ap (λ b. cond b (Some (Some queue)) (map.get s q)) apart
+
+-- entities, markers, the allocator and two queues, put into an empty world one after another
+pub put-scene : (indices generations : ℕ) (markers : Masked (Flagged (VecStorage ℕ))) → HasNone (marker_at markers) → (one two three four five : Slots Value) (queue other : Value)
     → one ≡ map.insert map.empty (id_of 0 0) (Some (EntitiesValue (none_born indices generations))) → two ≡ map.insert one (id_of 1 0) (Some (MarkersValue markers)) → three ≡ map.insert two (id_of 2 0) (Some (AllocatorValue none_noted))
-    → IsSceneWorld drifting_kinds drifting_book (seen_in (holding_of three))
-put-scene indices generations markers unmarked one two three first second third =
-    bare-scene (seen_in (holding_of three)) indices generations markers unmarked
-    (read-there three (id_of 0 0) _ (by (id_of 0 0))) (read-there three (id_of 1 0) _ (by (id_of 1 0))) (read-there three (id_of 2 0) _ (by (id_of 2 0)))
-    (read-none three (id_of 4 0) (by (id_of 4 0) ∙ map.get-empty id_cmp (id_of 4 0))) (read-none three (id_of 5 0) (by (id_of 5 0) ∙ map.get-empty id_cmp (id_of 5 0)))
+    → four ≡ map.insert three (id_of 3 1) (Some queue) → five ≡ map.insert four (id_of 3 2) (Some other) → IsSceneWorld drifting_kinds drifting_book (seen_in (holding_of five))
+put-scene indices generations markers unmarked one two three four five queue other first second third fourth fifth =
+    bare-scene (seen_in (holding_of five)) indices generations markers unmarked
+    (read-there five (id_of 0 0) _ (by (id_of 0 0) refl refl)) (read-there five (id_of 1 0) _ (by (id_of 1 0) refl refl)) (read-there five (id_of 2 0) _ (by (id_of 2 0) refl refl))
+    (read-none five (id_of 4 0) (by (id_of 4 0) refl refl ∙ map.get-empty id_cmp (id_of 4 0))) (read-none five (id_of 5 0) (by (id_of 5 0) refl refl ∙ map.get-empty id_cmp (id_of 5 0)))
   where
     nothing : Slots Value
     nothing = map.empty
 
-    by : (q : ResourceId) → map.get three q ≡ cond (eq_by_cmp id_cmp q (id_of 2 0)) (Some (Some (AllocatorValue none_noted))) (cond (eq_by_cmp id_cmp q (id_of 1 0)) (Some (Some (MarkersValue markers)))
+    by : (q : ResourceId) → eq_by_cmp id_cmp q (id_of 3 1) ≡ false → eq_by_cmp id_cmp q (id_of 3 2) ≡ false
+        → map.get five q ≡ cond (eq_by_cmp id_cmp q (id_of 2 0)) (Some (Some (AllocatorValue none_noted))) (cond (eq_by_cmp id_cmp q (id_of 1 0)) (Some (Some (MarkersValue markers)))
         (cond (eq_by_cmp id_cmp q (id_of 0 0)) (Some (Some (EntitiesValue (none_born indices generations)))) (map.get nothing q)))
-    by q =
-        ap (λ m. map.get m q) third ∙ map.get-insert ids_total two (id_of 2 0) _ q
+    by q apart away =
+        kept four five 2 other q fifth away ∙ kept three four 1 queue q fourth apart
+        ∙ ap (λ m. map.get m q) third ∙ map.get-insert ids_total two (id_of 2 0) _ q
         ∙ ap (cond (eq_by_cmp id_cmp q (id_of 2 0)) _) (ap (λ m. map.get m q) second ∙ map.get-insert ids_total one (id_of 1 0) _ q
         ∙ ap (cond (eq_by_cmp id_cmp q (id_of 1 0)) _) (ap (λ m. map.get m q) first ∙ map.get-insert ids_total nothing (id_of 0 0) _ q))

@@ -1,4 +1,4 @@
-//! A world in which a scene without entities stands.
+//! A world in which a scene without entities stands, and no storage of parts.
 ghost use Rattle.std.specs.Prelude.{◌≡◌, IfOk, OnOk, Some};
 ghost use Rattle.std.specs.FinMap as map;
 ghost use Rattle.shred_world.specs.ResourceIds.{id_of};
@@ -8,11 +8,14 @@ ghost use Rattle.scene_stores.specs.Markers.{marker_at};
 ghost use Rattle.scene_world.specs.Standing.{seen_in, IsSceneWorld};
 ghost use Rattle.scene_turns_tests.specs.Drifting.{drifting_book};
 ghost use Rattle.scene_systems.specs.Frames.{AreReady};
+ghost use Rattle.scene_turns_tests.specs.declared.values.Value.{Value as Values};
 ghost use Rattle.scene_systems_tests.specs.Twice.{drifting_kinds, drift_meaning};
 
 use crate::frames::drift_twice;
+use scene_rules::Queue;
 use scene_stores::{SceneMarker, SceneMarkerAllocator};
 use scene_systems::SceneDispatcher;
+use scene_turns::SceneValue;
 use scene_turns_tests::{Drifting, Value};
 use shred_world::{Resource, World};
 use specs_entity::EntitiesRes;
@@ -30,6 +33,18 @@ fn put<R: Resource<Value> + Drop>(world: &mut World<Value>, resource: R) -> Resu
     }
 }
 
+/// Puts an empty queue for the system at a position into a world. Errors: want of memory.
+fn put_queue(world: &mut World<Value>, alloc: Global, position: u32) -> Result<(), AllocError>
+    ensures { OnOk result ((queue : Values) × (world.new ≡ map.insert world.old (id_of 3 position) (Some queue))) }
+{
+    let id = <Value as SceneValue<u64>>::queue_id(position);
+    let queue = <Value as SceneValue<u64>>::wrap_queue(Queue::new(alloc));
+    match world.insert_raw(id, queue) {
+        Ok(_) => Ok(()),
+        Err(_) => Err(AllocError),
+    }
+}
+
 /// The markers of no entity.
 fn no_markers(alloc: Global) -> MaskedStorage<SceneMarker>
     ensures { HasNone (marker_at result) }
@@ -37,7 +52,7 @@ fn no_markers(alloc: Global) -> MaskedStorage<SceneMarker>
     MaskedStorage::new(alloc, FlaggedStorage::unwrap_default(alloc))
 }
 
-/// The world.
+/// The world, with queues for the systems at the positions 1 and 2.
 ///
 /// Errors: want of memory.
 pub fn bare_world(alloc: Global) -> Result<World<Value>, AllocError>
@@ -47,6 +62,8 @@ pub fn bare_world(alloc: Global) -> Result<World<Value>, AllocError>
     put(&mut world, EntitiesRes::new(alloc))?;
     put(&mut world, no_markers(alloc))?;
     put(&mut world, SceneMarkerAllocator::new(alloc, 0))?;
+    put_queue(&mut world, alloc, 1)?;
+    put_queue(&mut world, alloc, 2)?;
     Ok(world)
 }
 

@@ -1,6 +1,7 @@
 //! Frames of drift over a small world, with any number of workers.
 use crate::world::{Failure, position_at, small_world};
-use crate::{drift_twice, run_frame};
+use crate::{bare_frames, drift_twice, run_frame};
+use scene_rules::FrameRefusal;
 use scene_systems::SceneDispatcher;
 use scene_turns_tests::{Drifting, Value};
 use shred_world::World;
@@ -38,6 +39,18 @@ fn drifted<H: AllocGlobal + Threads + Wait + Sync>(
     Ok((position_at(&world, 0), position_at(&world, 1)))
 }
 
+/// Whether a frame over a world without storages wants memory.
+fn wants_memory<H: AllocGlobal + Threads + Wait + Sync>(
+    rt: &H,
+    alloc: Global,
+    workers: usize,
+) -> Result<bool, Failure> {
+    let (mut systems, mut world) = bare_frames(alloc, workers)?;
+    let outcome = run_frame(rt, &mut systems, &mut world);
+    drop(systems);
+    Ok(matches!(outcome, Err(FrameRefusal::Memory)))
+}
+
 #[test]
 fn each_turn_moves_the_first(rt: HostRuntime) {
     assert_eq!(rt; drifted(&rt, rt.alloc(), 0), Ok((Some(13), Some(1))));
@@ -46,4 +59,10 @@ fn each_turn_moves_the_first(rt: HostRuntime) {
 #[test]
 fn with_two_workers_it_is_the_same(rt: HostRuntime) {
     assert_eq!(rt; drifted(&rt, rt.alloc(), 2), Ok((Some(13), Some(1))));
+}
+
+#[test]
+fn a_frame_without_storages_wants_memory(rt: HostRuntime) {
+    assert_eq!(rt; wants_memory(&rt, rt.alloc(), 0), Ok(true));
+    assert_eq!(rt; wants_memory(&rt, rt.alloc(), 2), Ok(true));
 }
