@@ -10,3 +10,4 @@ pub mod GiveLemmas
 pub mod SpawnLemmas
 pub mod ListLemmas
 pub mod StandLemmas
+pub mod GoneLemmas

@@ -6,3 +6,4 @@ pub mod Acts
 pub mod Deaths
 pub mod Newborns
 pub mod Lists
+pub mod Gone

@@ -3,6 +3,7 @@
 
 mod births;
 mod deaths;
+mod gone;
 pub mod laws;
 mod lists;
 mod looking;
@@ -10,6 +11,7 @@ mod parts;
 
 pub use births::spawn_entity;
 pub use deaths::kill_entity;
+pub use gone::find_gone;
 pub use lists::{act, act_all};
 pub use looking::{entities_under, entity_under};
 pub use parts::{put_part, take_part};

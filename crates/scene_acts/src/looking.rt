@@ -24,7 +24,7 @@ fn noted_entity<R: Rules>(world: &World<R::Value>, id: u64) -> Option<Entity>
 }
 
 /// Whether an entity is alive in a world.
-fn is_living<R: Rules>(world: &World<R::Value>, entity: Entity) -> bool
+pub(crate) fn is_living<R: Rules>(world: &World<R::Value>, entity: Entity) -> bool
     ensures value { result ≡ is_life entity.generation
         (living (roll_of (kinds_of ⟦<R::Value as SceneValue<R::Data>>⟧.places R.part_of R.columns)
         (seen_of world.now)).births entity.id) }

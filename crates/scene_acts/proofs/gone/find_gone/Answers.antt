@@ -1,0 +1,37 @@
+use Rattle.std.proofs.Common.{ℕ, Bool, List, None, ap, sym, ◌∙◌, subst, cond}
+use Rattle.std.specs.Prelude.{option_map}
+use Rattle.std.specs.List.{list_any}
+use Rattle.std.proofs.lemmas.List.{take_all}
+use Rattle.scene_rules.specs.Parts.{Name, is_among}
+use Rattle.scene_rules.specs.Commands.{holds_gone}
+use Rattle.scene_rules.specs.Lent.{texts}
+use Rattle.scene_turns.specs.Places.{kinds_of}
+use Rattle.scene_world.specs.Rolls.{Roll, part_in, ref_to}
+use Rattle.scene_world.specs.Standing.{column_of, roll_of}
+use Rattle.scene_world.specs.Stored.{part_under}
+use Rattle.scene_acts.specs.Acts.{seen_of}
+use Rattle.scene_acts.specs.Gone.{AreLiving}
+use Rattle.scene_acts.proofs.GoneLemmas.{IsLeast, living-at, least-next, least-found, test-at}
+use Rattle.scene_acts.proofs.gone.find_gone.Goals as goal
+
+pub loop-entity-preserved : goal.loop-entity-preserved
+loop-entity-preserved g c =
+    let roll : Roll = roll_of (kinds_of g.R.Value.SceneValue.places g.R.DocumentRules.part_of g.R.Rules.columns) (seen_of c.args.world.now) in
+    let holds : ℕ → List Name → Bool = λ index. list_any (λ kind. holds_gone (option_map (part_under (ref_to roll)) (column_of (kinds_of g.R.Value.SceneValue.places g.R.DocumentRules.part_of g.R.Rules.columns) (seen_of c.args.world.now) kind index))) in
+    least-next roll (λ index. holds index (g.R.DocumentRules.book c.args.rules.now).part_names)
+    c.as_slice-entity-items.result.now c.loop-entity.entity-index c.entity-item.result c.loop-entity-test.true c.entity-item.is c.requires.may.roll c.in_ok-gone.gone c.loop-entity.least c.lesser-least.result c.in-Some.id
+    (living-at roll c.as_slice-entity-items.result.now c.loop-entity.entity-index c.entity-item.result c.loop-entity-test.true c.entity-item.is (subst (λ items. AreLiving roll.births items) (sym c.as_slice-entity-items.ensures.value) c.in_ok-entities.ensures))
+    (sym (ap roll.marker c.id.ensures) ∙ sym c.id_marked.ensures ∙ c.in-Some.is)
+    (c.in_ok-gone.ensures ∙ ap (λ index. holds index (texts c.part_names-names.result.now)) c.id-in-loop-entity.ensures ∙ ap (holds c.entity-item.result.id) c.part_names-names.ensures)
+    c.lesser-least.ensures c.loop-entity.invariant
+
+pub returns : goal.returns
+returns g c =
+    let roll : Roll = roll_of (kinds_of g.R.Value.SceneValue.places g.R.DocumentRules.part_of g.R.Rules.columns) (seen_of c.args.world.now) in
+    let names : List Name = (g.R.DocumentRules.book c.args.rules.now).part_names in
+    let holds : ℕ → Bool = λ index. list_any (λ kind. holds_gone (option_map (part_under (ref_to roll)) (column_of (kinds_of g.R.Value.SceneValue.places g.R.DocumentRules.part_of g.R.Rules.columns) (seen_of c.args.world.now) kind index))) names in
+    let test : List Name → ℕ → Bool = λ known id. list_any (λ kind. holds_gone (cond (is_among kind known) (part_in roll (column_of (kinds_of g.R.Value.SceneValue.places g.R.DocumentRules.part_of g.R.Rules.columns) (seen_of c.args.world.now) kind) id) None)) names in
+    least-found roll holds (test g.R.Rules.columns.part_names)
+    (λ id index at. ap (λ known. test known id) (g.met.R.Rules.named_so c.args.rules.now).parts ∙ test-at roll names (column_of (kinds_of g.R.Value.SceneValue.places g.R.DocumentRules.part_of g.R.Rules.columns) (seen_of c.args.world.now)) id index at)
+    c.as_slice-entity-items.result.now c.loop-entity.least (subst (λ items. AreLiving roll.births items) (sym c.as_slice-entity-items.ensures.value) c.in_ok-entities.ensures)
+    (subst (λ front. IsLeast roll holds front c.loop-entity.least) (take_all c.loop-entity.entity-index c.as_slice-entity-items.result.now c.loop-entity-test.false) c.loop-entity.invariant)
