@@ -1,0 +1,4 @@
+pub mod Holdings
+pub mod Owning
+pub mod OwningLaws
+pub mod Apart
