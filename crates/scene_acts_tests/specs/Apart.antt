@@ -7,9 +7,8 @@ use Rattle.shred_world.specs.declared.resource_id.ResourceId.{ResourceId}
 use Rattle.shred_world.specs.ResourceIds.{id_of, same_id}
 use Rattle.scene_rules.specs.Parts.{Name, is_among}
 use Rattle.scene_world.specs.Lent.{Place, entities, markers, allocator, parts, value, queue, id_of_place, is_known, same_place, StandApart}
-use Rattle.scene_turns.specs.Places.{kinds_of}
 use Rattle.scene_acts_tests.specs.Holdings.{owner_id, rank_id, era_id}
-use Rattle.scene_acts_tests.specs.Owning.{owner_name, rank_name, era_name, part_of, owning_columns, owning_places}
+use Rattle.scene_acts_tests.specs.Owning.{owner_name, rank_name, era_name, owning_kinds}
 
 or-right : (b : Bool) → (b || false) ≡ true → b ≡ true
 or-right true e = refl
@@ -56,12 +55,12 @@ eras-same : (name other : Name) → is_among name (era_name ∷ []) ≡ true →
 eras-same name other one two = sym ((bytes_eq-Decides name other).1 (only name era_name one ∙ sym (only other era_name two)))
 
 -- no two of what a world of these rules holds stand under one id
-pub owning-apart : StandApart (kinds_of owning_places part_of owning_columns)
+pub owning-apart : StandApart owning_kinds
 unfolding stand
 owning-apart one other known_one known_other =
-    ap (λ id. same_id id (id_of_place (kinds_of owning_places part_of owning_columns) other)) (stands one) ∙ ap (same_id (stand one)) (stands other) ∙ by one other known_one known_other
+    ap (λ id. same_id id (id_of_place owning_kinds other)) (stands one) ∙ ap (same_id (stand one)) (stands other) ∙ by one other known_one known_other
   where
-    stands : (place : Place) → id_of_place (kinds_of owning_places part_of owning_columns) place ≡ stand place
+    stands : (place : Place) → id_of_place owning_kinds place ≡ stand place
     stands entities = refl
     stands markers = refl
     stands allocator = refl
@@ -69,7 +68,7 @@ owning-apart one other known_one known_other =
     stands (parts kind) = refl
     stands (value name) = refl
 
-    by : (one other : Place) → is_known (kinds_of owning_places part_of owning_columns) one ≡ true → is_known (kinds_of owning_places part_of owning_columns) other ≡ true → same_id (stand one) (stand other) ≡ same_place one other
+    by : (one other : Place) → is_known owning_kinds one ≡ true → is_known owning_kinds other ≡ true → same_id (stand one) (stand other) ≡ same_place one other
     by entities entities k l = refl
     by entities markers k l = refl
     by entities allocator k l = refl

@@ -1,5 +1,5 @@
--- The rules of the test: an entity belongs to another, and has a rank; a world has an era; there is no system.
-use Rattle.std.specs.Prelude.{ℕ, ◌==◌, Bool, true, false, List, [], ◌∷◌, codes, Option, Some, None, option_map, option_and_then, if◌then◌else◌}
+-- The rules of the test: an entity belongs to another, and has a rank; a world has an era; documents have no system.
+use Rattle.std.specs.Prelude.{◌≡◌, ℕ, ◌==◌, Bool, true, false, List, [], ◌∷◌, codes, Option, Some, None, option_map, option_and_then, if◌then◌else◌}
 use Rattle.std.specs.List.{slice_index_or}
 use Rattle.std.specs.Option.{option_map_or}
 use Rattle.std.specs.Str.{bytes_eq}
@@ -14,9 +14,10 @@ use Rattle.specs_markers.specs.Simple.{Noting}
 use Rattle.scene_rules.specs.declared.command.Queue.{Queue}
 use Rattle.scene_stores.specs.Markers.{marker_at}
 use Rattle.scene_rules.specs.Parts.{Json, Name, Ref, living, gone, Part}
-use Rattle.scene_rules.specs.Rulebook.{Access, Book, unknown}
+use Rattle.scene_rules.specs.Rulebook.{Access, Book, Fragment, Outcome, leaves, refuses, fills, unknown}
 use Rattle.scene_world.specs.Stored.{Stored}
-use Rattle.scene_turns.specs.Places.{Places, Columns}
+use Rattle.scene_world.specs.Standing.{Kinds}
+use Rattle.scene_turns.specs.Places.{Places, Columns, kinds_of}
 use Rattle.scene_acts_tests.specs.Holdings.{owners_in, ranks_in, era_in, owner_at, rank_at, owner_id, rank_id, era_id}
 use Rattle.scene_acts_tests.specs.declared.datum.Datum.{Datum}
 use Rattle.scene_acts_tests.specs.declared.datum.Datum.TheVariants.{OwnedBy, Ranked}
@@ -86,7 +87,13 @@ is_rank None refs = false
 is_rank (Some n) [] = true
 is_rank (Some n) (ref ∷ refs) = false
 
--- no system declares anything
+-- what a system that rests may do: it leaves all as it is, and asks for nothing
+abbrev pub Rests : Fragment → Outcome → Type 0
+Rests seen (leaves left commands) = (left ≡ seen) × (commands ≡ [])
+Rests seen (refuses text) = ⊥
+Rests seen (fills commands) = ⊥
+
+-- and it declares nothing
 abbrev pub no_access : Access
 no_access = record { reads = []; writes = []; read_globals = []; written_globals = []; reserved = false }
 
@@ -171,3 +178,7 @@ owning_places = record {
   queue = queue_in;
   queue_value = QueueValue;
 }
+
+-- where all that a world of these rules holds stands, and what is read there
+abbrev pub owning_kinds : Kinds Value
+owning_kinds = kinds_of owning_places part_of owning_columns

@@ -1,4 +1,4 @@
-//! What the rules of the test say of documents: parts that refer to an entity, parts that are numbers, one global, and no system.
+//! What the rules of the test say of documents: parts that refer to an entity, parts that are numbers, one global, and no system of a document.
 ghost use Rattle.std.specs.Prelude.{◌≡◌, []};
 ghost use Rattle.serde_json.specs.Data.{null};
 ghost use Rattle.std.proofs.Common.{rules};
@@ -91,12 +91,18 @@ impl DocumentRules for Owning {
         Ok(None)
     }
 
-    fn accessor(system: &Idle, _alloc: Global) -> Result<Accessor, AllocError> {
-        match *system {}
+    fn accessor(_system: &Idle, alloc: Global) -> Result<Accessor, AllocError> {
+        Ok(Accessor {
+            reads: Vec::new(alloc),
+            writes: Vec::new(alloc),
+            read_globals: Vec::new(alloc),
+            written_globals: Vec::new(alloc),
+            writes_reserved: false,
+        })
     }
 
-    fn running_time(system: &Idle) -> RunningTime {
-        match *system {}
+    fn running_time(_system: &Idle) -> RunningTime {
+        RunningTime::Average
     }
 
     ghost kinds_ascend = { λ _. law-kinds_ascend };

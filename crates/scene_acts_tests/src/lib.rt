@@ -2,8 +2,12 @@
 #![tactic(auto)]
 
 mod columns;
+pub mod course;
 mod datum;
 mod documents;
+pub mod opening;
+#[cfg(test)]
+mod rows;
 mod rules;
 mod values;
 

@@ -1,7 +1,7 @@
 //! Rules under which entities belong to others.
 ghost use Rattle.std.specs.Prelude.{◌≡◌, refl};
 ghost use Rattle.scene_turns.specs.Turns.{sense_of};
-ghost use Rattle.scene_acts_tests.specs.Owning.{owning_book, owning_columns};
+ghost use Rattle.scene_acts_tests.specs.Owning.{owning_book, owning_columns, Rests};
 ghost use Rattle.scene_acts_tests.specs.Apart.{owning-apart};
 
 use crate::columns::{
@@ -20,9 +20,9 @@ use std::alloc::{AllocError, Global};
 /// Rules under which an entity belongs to another and has a rank, and a world has an era.
 pub struct Owning;
 
-/// A system of these rules: there is none.
+/// A system that rests. No document has one: these rules make none.
 #[derive(Drop)]
-pub enum Idle {}
+pub struct Idle;
 
 impl Rules for Owning {
     type Value = Value;
@@ -31,7 +31,7 @@ impl Rules for Owning {
 
     ghost sense = { λ _. sense_of owning_book };
 
-    ghost does = { λ _ _ _. ⊥ };
+    ghost does = { λ _. Rests };
 
     ghost named_so = { λ _. record { parts = refl; globals = refl } };
 
@@ -116,10 +116,10 @@ impl Rules for Owning {
 
     fn run<H: AllocGlobal, W: Holder<Value>>(
         _rt: &H,
-        system: &mut Idle,
+        _system: &mut Idle,
         _view: &mut W,
         _queue: &mut Queue<Datum>,
     ) -> Result<(), Stop> {
-        match *system {}
+        Ok(())
     }
 }
