@@ -2,10 +2,15 @@
 use Rattle.std.specs.Prelude.{ℕ, Option, Some, None}
 use Rattle.shred_world.specs.declared.resource_id.ResourceId.{ResourceId}
 use Rattle.shred_world.specs.ResourceIds.{id_of}
+use Rattle.specs_entity.specs.Births.{Births}
 use Rattle.specs_flagged.specs.Flagged.{Flagged}
 use Rattle.specs_layouts.specs.Masked.{Masked}
+use Rattle.specs_layouts.specs.declared.storages.vec.VecStorage.{VecStorage}
+use Rattle.specs_markers.specs.Simple.{Noting}
+use Rattle.scene_rules.specs.declared.command.Queue.{Queue}
 use Rattle.scene_stores.specs.declared.any_store.AnyStore.{AnyStore}
 use Rattle.scene_stores.specs.Stores.{store_part}
+use Rattle.scene_acts_tests.specs.declared.datum.Datum.{Datum}
 use Rattle.scene_acts_tests.specs.declared.values.Owner.{Owner}
 use Rattle.scene_acts_tests.specs.declared.values.Rank.{Rank}
 use Rattle.scene_acts_tests.specs.declared.values.Value.{Value}
@@ -27,7 +32,44 @@ rank_id = id_of 5 0
 abbrev pub era_id : ResourceId
 era_id = id_of 6 0
 
--- what a value holds of each
+-- what a value holds of a scene's own
+abbrev pub births_in : Value → Option Births
+births_in (EntitiesValue x) = Some x
+births_in (MarkersValue x) = None
+births_in (AllocatorValue x) = None
+births_in (QueueValue x) = None
+births_in (OwnerValue x) = None
+births_in (RankValue x) = None
+births_in (EraValue x) = None
+
+abbrev pub markers_in : Value → Option (Masked (Flagged (VecStorage ℕ)))
+markers_in (EntitiesValue x) = None
+markers_in (MarkersValue x) = Some x
+markers_in (AllocatorValue x) = None
+markers_in (QueueValue x) = None
+markers_in (OwnerValue x) = None
+markers_in (RankValue x) = None
+markers_in (EraValue x) = None
+
+abbrev pub noting_in : Value → Option Noting
+noting_in (EntitiesValue x) = None
+noting_in (MarkersValue x) = None
+noting_in (AllocatorValue x) = Some x
+noting_in (QueueValue x) = None
+noting_in (OwnerValue x) = None
+noting_in (RankValue x) = None
+noting_in (EraValue x) = None
+
+abbrev pub queue_in : Value → Option (Queue Datum)
+queue_in (EntitiesValue x) = None
+queue_in (MarkersValue x) = None
+queue_in (AllocatorValue x) = None
+queue_in (QueueValue x) = Some x
+queue_in (OwnerValue x) = None
+queue_in (RankValue x) = None
+queue_in (EraValue x) = None
+
+-- and of the kinds and the global
 abbrev pub owners_in : Value → Option Owners
 owners_in (EntitiesValue x) = None
 owners_in (MarkersValue x) = None

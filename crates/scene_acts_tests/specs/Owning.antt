@@ -5,26 +5,21 @@ use Rattle.std.specs.Option.{option_map_or}
 use Rattle.std.specs.Str.{bytes_eq}
 use Rattle.serde_json.specs.Data.{null, number, unsigned, negative, float, boolean, string, array, object}
 use Rattle.shred_world.specs.ResourceIds.{id_of}
-use Rattle.specs_entity.specs.Births.{Births}
 use Rattle.specs_events.specs.Channels.{log_of, no_log}
-use Rattle.specs_flagged.specs.Flagged.{Flagged, tells}
-use Rattle.specs_layouts.specs.Masked.{Masked}
-use Rattle.specs_layouts.specs.declared.storages.vec.VecStorage.{VecStorage}
-use Rattle.specs_markers.specs.Simple.{Noting}
-use Rattle.scene_rules.specs.declared.command.Queue.{Queue}
+use Rattle.specs_flagged.specs.Flagged.{tells}
 use Rattle.scene_stores.specs.Markers.{marker_at}
 use Rattle.scene_rules.specs.Parts.{Json, Name, Ref, living, gone, Part}
 use Rattle.scene_rules.specs.Rulebook.{Access, Book, Fragment, Outcome, leaves, refuses, fills, unknown}
 use Rattle.scene_world.specs.Stored.{Stored}
 use Rattle.scene_world.specs.Standing.{Kinds}
 use Rattle.scene_turns.specs.Places.{Places, Columns, kinds_of}
-use Rattle.scene_acts_tests.specs.Holdings.{owners_in, ranks_in, era_in, owner_at, rank_at, owner_id, rank_id, era_id}
+use Rattle.scene_acts_tests.specs.Holdings.{births_in, markers_in, noting_in, queue_in, owners_in, ranks_in, era_in, owner_at, rank_at, owner_id, rank_id, era_id}
 use Rattle.scene_acts_tests.specs.declared.datum.Datum.{Datum}
 use Rattle.scene_acts_tests.specs.declared.datum.Datum.TheVariants.{OwnedBy, Ranked}
 use Rattle.scene_acts_tests.specs.declared.values.Owner.{Owner}
 use Rattle.scene_acts_tests.specs.declared.values.Rank.{Rank}
 use Rattle.scene_acts_tests.specs.declared.values.Value.{Value}
-use Rattle.scene_acts_tests.specs.declared.values.Value.TheVariants.{EntitiesValue, MarkersValue, AllocatorValue, QueueValue, OwnerValue, RankValue, EraValue}
+use Rattle.scene_acts_tests.specs.declared.values.Value.TheVariants.{QueueValue}
 
 -- the names of the two kinds, and of the global
 abbrev pub owner_name : Name
@@ -128,44 +123,7 @@ owning_columns = record {
   value = λ name v. option_map counted (era_in v);
 }
 
--- what a value holds of a scene's own
-abbrev pub births_in : Value → Option Births
-births_in (EntitiesValue x) = Some x
-births_in (MarkersValue x) = None
-births_in (AllocatorValue x) = None
-births_in (QueueValue x) = None
-births_in (OwnerValue x) = None
-births_in (RankValue x) = None
-births_in (EraValue x) = None
-
-abbrev pub markers_in : Value → Option (Masked (Flagged (VecStorage ℕ)))
-markers_in (EntitiesValue x) = None
-markers_in (MarkersValue x) = Some x
-markers_in (AllocatorValue x) = None
-markers_in (QueueValue x) = None
-markers_in (OwnerValue x) = None
-markers_in (RankValue x) = None
-markers_in (EraValue x) = None
-
-abbrev pub noting_in : Value → Option Noting
-noting_in (EntitiesValue x) = None
-noting_in (MarkersValue x) = None
-noting_in (AllocatorValue x) = Some x
-noting_in (QueueValue x) = None
-noting_in (OwnerValue x) = None
-noting_in (RankValue x) = None
-noting_in (EraValue x) = None
-
-abbrev pub queue_in : Value → Option (Queue Datum)
-queue_in (EntitiesValue x) = None
-queue_in (MarkersValue x) = None
-queue_in (AllocatorValue x) = None
-queue_in (QueueValue x) = Some x
-queue_in (OwnerValue x) = None
-queue_in (RankValue x) = None
-queue_in (EraValue x) = None
-
--- where these stand
+-- where a scene's own stand
 abbrev pub owning_places : Places Value Datum
 owning_places = record {
   entities_id = id_of 0 0;

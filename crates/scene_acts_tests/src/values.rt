@@ -1,7 +1,8 @@
 //! What a world of the test's scene holds: entities, their markers, the allocator of ids, queues, the parts of two kinds, and a global.
-ghost use Rattle.std.specs.Prelude.{◌≡◌, Some, None, refl};
+ghost use Rattle.std.specs.Prelude.{◌≡◌, refl};
 ghost use Rattle.std.proofs.Common.{rules};
-ghost use Rattle.scene_acts_tests.specs.declared.values.Value.TheVariants.{EntitiesValue, MarkersValue, AllocatorValue, QueueValue, OwnerValue, RankValue, EraValue};
+ghost use Rattle.scene_acts_tests.specs.Holdings.{births_in, markers_in, noting_in, queue_in, owners_in, ranks_in};
+ghost use Rattle.scene_acts_tests.specs.declared.values.Value.TheVariants.{EntitiesValue, MarkersValue, AllocatorValue, QueueValue, OwnerValue, RankValue};
 
 use crate::datum::Datum;
 use scene_rules::Queue;
@@ -44,15 +45,7 @@ impl Resource<Value> for EntitiesRes {
 
     ghost wrapped = { EntitiesValue };
 
-    ghost part = { elim [
-      | EntitiesValue x ↦ Some x
-      | MarkersValue x ↦ None
-      | AllocatorValue x ↦ None
-      | QueueValue x ↦ None
-      | OwnerValue x ↦ None
-      | RankValue x ↦ None
-      | EraValue x ↦ None
-    ] };
+    ghost part = { births_in };
 
     ghost seen = { λ _. refl };
 
@@ -93,15 +86,7 @@ impl Resource<Value> for MaskedStorage<SceneMarker> {
 
     ghost wrapped = { MarkersValue };
 
-    ghost part = { elim [
-      | EntitiesValue x ↦ None
-      | MarkersValue x ↦ Some x
-      | AllocatorValue x ↦ None
-      | QueueValue x ↦ None
-      | OwnerValue x ↦ None
-      | RankValue x ↦ None
-      | EraValue x ↦ None
-    ] };
+    ghost part = { markers_in };
 
     ghost seen = { λ _. refl };
 
@@ -142,15 +127,7 @@ impl Resource<Value> for SceneMarkerAllocator {
 
     ghost wrapped = { AllocatorValue };
 
-    ghost part = { elim [
-      | EntitiesValue x ↦ None
-      | MarkersValue x ↦ None
-      | AllocatorValue x ↦ Some x
-      | QueueValue x ↦ None
-      | OwnerValue x ↦ None
-      | RankValue x ↦ None
-      | EraValue x ↦ None
-    ] };
+    ghost part = { noting_in };
 
     ghost seen = { λ _. refl };
 
@@ -191,15 +168,7 @@ impl QueueValue<Datum> for Value {
 
     ghost wrapped = { QueueValue };
 
-    ghost part = { elim [
-      | EntitiesValue x ↦ None
-      | MarkersValue x ↦ None
-      | AllocatorValue x ↦ None
-      | QueueValue x ↦ Some x
-      | OwnerValue x ↦ None
-      | RankValue x ↦ None
-      | EraValue x ↦ None
-    ] };
+    ghost part = { queue_in };
 
     ghost seen = { λ _. refl };
 
@@ -226,15 +195,7 @@ impl Resource<Value> for MaskedStorage<Owner> {
 
     ghost wrapped = { OwnerValue };
 
-    ghost part = { elim [
-      | EntitiesValue x ↦ None
-      | MarkersValue x ↦ None
-      | AllocatorValue x ↦ None
-      | QueueValue x ↦ None
-      | OwnerValue x ↦ Some x
-      | RankValue x ↦ None
-      | EraValue x ↦ None
-    ] };
+    ghost part = { owners_in };
 
     ghost seen = { λ _. refl };
 
@@ -275,15 +236,7 @@ impl Resource<Value> for MaskedStorage<Rank> {
 
     ghost wrapped = { RankValue };
 
-    ghost part = { elim [
-      | EntitiesValue x ↦ None
-      | MarkersValue x ↦ None
-      | AllocatorValue x ↦ None
-      | QueueValue x ↦ None
-      | OwnerValue x ↦ None
-      | RankValue x ↦ Some x
-      | EraValue x ↦ None
-    ] };
+    ghost part = { ranks_in };
 
     ghost seen = { λ _. refl };
 
