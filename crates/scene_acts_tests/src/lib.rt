@@ -7,6 +7,8 @@ mod datum;
 mod documents;
 pub mod opening;
 #[cfg(test)]
+mod readings;
+#[cfg(test)]
 mod rows;
 mod rules;
 mod values;
