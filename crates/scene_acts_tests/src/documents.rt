@@ -1,4 +1,6 @@
-//! What the rules of the test say of documents: parts that refer to an entity, parts that are numbers, one global, and no system of a document.
+//! What the rules of the test say of documents: owners, ranks and the era.
+//!
+//! Documents have no system of these rules.
 ghost use Rattle.std.specs.Prelude.{◌≡◌, []};
 ghost use Rattle.serde_json.specs.Data.{null};
 ghost use Rattle.std.proofs.Common.{rules};

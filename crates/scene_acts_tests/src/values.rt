@@ -1,4 +1,4 @@
-//! What a world of the test's scene holds: entities, their markers, the allocator of ids, queues, the parts of two kinds, and a global.
+//! What a world of the test's scene holds, and the parts of its two kinds.
 ghost use Rattle.std.specs.Prelude.{◌≡◌, refl};
 ghost use Rattle.std.proofs.Common.{rules};
 ghost use Rattle.scene_acts_tests.specs.Holdings.{births_in, markers_in, noting_in, queue_in, owners_in, ranks_in};
