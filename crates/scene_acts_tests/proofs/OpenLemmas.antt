@@ -1,10 +1,11 @@
 -- Worlds in which nobody lives yet are ones in which commands may be carried out.
 use Rattle.std.proofs.Common.{◌≡◌, ◌<◌, ℕ, Bool, true, false, cond, List, [], ◌∷◌, filter, Option, Some, None, is_some, refl, ap, sym, ◌∙◌, subst}
-use Rattle.std.specs.Prelude.{IsSome, All, option_and_then}
+use Rattle.std.specs.Prelude.{option_map, IsSome, All, option_and_then}
 use Rattle.std.specs.Option.{option_flatten, unwrap_or}
 use Rattle.std.specs.FinMap as slots
 use Rattle.std.specs.FinSet as set
 use Rattle.std.specs.Ordering.{nat_cmp}
+use Rattle.std.proofs.Math.Path.{fun_ext}
 use Rattle.std.proofs.lemmas.Bool.{false≢true}
 use Rattle.std.proofs.lemmas.Option.{none-some}
 use Rattle.std.proofs.lemmas.List.Elements.{All-nil}
@@ -16,13 +17,16 @@ use Rattle.shred_world.proofs.CallerLemmas.{ids_total, get-insert_here}
 use Rattle.specs_entity.specs.Births.{living, living_of, persistent_at, none_born}
 use Rattle.specs_markers.specs.Simple.{noted_under, none_noted}
 use Rattle.scene_rules.specs.Ids.{ascending}
-use Rattle.scene_rules.specs.Parts.{Name, Part, is_among}
-use Rattle.scene_world.specs.Rolls.{IsRoll, index_of, index_if, ids_in}
-use Rattle.scene_world.specs.Standing.{Sight, Kinds, roll_of, column_of}
-use Rattle.scene_world.specs.Lent.{entities, markers, allocator, parts, StandApart}
+use Rattle.scene_rules.specs.Parts.{Json, Name, Part, is_among}
+use Rattle.scene_rules.specs.Scenes.{PlainScene}
+use Rattle.scene_world.specs.Stored.{part_under}
+use Rattle.scene_world.specs.Rolls.{IsRoll, part_in, ref_to, index_of, index_if, ids_in}
+use Rattle.scene_world.specs.Standing.{Sight, Kinds, roll_of, column_of, value_of, plain_of}
+use Rattle.scene_world.specs.Lent.{entities, markers, allocator, parts, value, StandApart}
 use Rattle.scene_turns.specs.Places.{Places, Columns, kinds_of}
 use Rattle.scene_turns.specs.Putting.{Registers}
 use Rattle.scene_acts.specs.Acts.{seen_of, MayAct}
+use Rattle.scene_acts_tests.specs.Openings.{without_entities}
 
 -- what can be read of a world is what it holds
 seen-value : {V : Type 0} (w : Slots V) (id : ResourceId) → seen_of w id ≡ value_at w id
@@ -133,3 +137,41 @@ module _ {V D : Type 0} (places : Places V D) (part_of : D → Part) (columns : 
     within = λ kind known index some. absurd (false≢true (sym (ap is_some (no-part registers kind known index)) ∙ some));
     born = λ kind known index stored e. absurd (none-some stored (sym (no-part registers kind known index) ∙ e));
   }
+
+  -- no global has a value, where nothing stood before
+  no-value : Registers columns seated later → ((id : ResourceId) → value_at w id ≡ None) → (name : Name) → is_among name columns.global_names ≡ true → seen_of later (columns.global_id name) ≡ None
+  no-value registers bare name known =
+      passes registers (columns.global_id name) (λ kind is. apart (value name) (parts kind) known is)
+      ∙ ap option_flatten (kept _ places.allocator_id (columns.global_id name) noting (apart (value name) allocator known refl)
+      ∙ kept _ places.markers_id (columns.global_id name) marked (apart (value name) markers known refl)
+      ∙ kept w places.entities_id (columns.global_id name) born (apart (value name) entities known refl))
+      ∙ bare (columns.global_id name)
+
+  -- the scene that stands in such a world is the one in which nobody lives
+  pub open-scene : Registers columns seated later → ((id : ResourceId) → value_at w id ≡ None) → (indices generations next : ℕ) → places.births born ≡ Some (none_born indices generations)
+      → ((index : ℕ) → places.marker marked index ≡ None) → places.noting noting ≡ Some (record { next = next; noted = slots.empty })
+      → plain_of (kinds_of places part_of columns) (seen_of later) ≡ without_entities next
+  open-scene registers bare indices generations next births unmarked notes =
+      ap (λ n. scene n (ids_in (roll_of (kinds_of places part_of columns) (seen_of later))) (plain_of (kinds_of places part_of columns) (seen_of later)).part (plain_of (kinds_of places part_of columns) (seen_of later)).global) next-is
+      ∙ ap (λ ids. scene next ids (plain_of (kinds_of places part_of columns) (seen_of later)).part (plain_of (kinds_of places part_of columns) (seen_of later)).global) ids-are
+      ∙ ap (λ parts_of. scene next [] parts_of (plain_of (kinds_of places part_of columns) (seen_of later)).global) (fun_ext (λ id. fun_ext (λ kind. no-part-of id kind (is_among kind columns.part_names))))
+      ∙ ap (λ values. scene next [] (λ id kind. None) values) (fun_ext (λ name. no-global name (is_among name columns.global_names) refl))
+    where
+      scene : ℕ → List ℕ → (ℕ → Name → Option Part) → (Name → Option Json) → PlainScene
+      scene n ids parts_of values = record { next = n; ids = ids; part = parts_of; global = values }
+
+      next-is : (roll_of (kinds_of places part_of columns) (seen_of later)).noting.next ≡ next
+      next-is = ap (λ held. (unwrap_or (option_and_then places.noting held) none_noted).next) (at-allocator registers) ∙ ap (λ o. (unwrap_or o none_noted).next) notes
+
+      ids-are : ids_in (roll_of (kinds_of places part_of columns) (seen_of later)) ≡ []
+      ids-are = no-ids (kinds_of places part_of columns) (seen_of later) born marked noting (at-entities registers) (at-markers registers) (at-allocator registers) indices generations next births unmarked notes
+
+      no-part-of : (id : ℕ) (kind : Name) (b : Bool) → cond b (part_in (roll_of (kinds_of places part_of columns) (seen_of later)) (column_of (kinds_of places part_of columns) (seen_of later) kind) id) None ≡ None
+      no-part-of id kind true =
+          ap (λ o. option_and_then (λ index. option_map (part_under (ref_to (roll_of (kinds_of places part_of columns) (seen_of later)))) (column_of (kinds_of places part_of columns) (seen_of later) kind index)) (option_and_then (index_if (roll_of (kinds_of places part_of columns) (seen_of later)) id) o))
+          (no-note (kinds_of places part_of columns) (seen_of later) born marked noting (at-entities registers) (at-markers registers) (at-allocator registers) indices generations next births unmarked notes id)
+      no-part-of id kind false = refl
+
+      no-global : (name : Name) (b : Bool) → is_among name columns.global_names ≡ b → cond b (value_of (kinds_of places part_of columns) (seen_of later) name) None ≡ None
+      no-global name true known = ap (option_and_then (columns.value name)) (no-value registers bare name known)
+      no-global name false unknown = refl

@@ -2,3 +2,4 @@ pub mod Holdings
 pub mod Owning
 pub mod OwningLaws
 pub mod Apart
+pub mod Openings

@@ -1,7 +1,9 @@
 //! Worlds in which nobody lives yet.
-ghost use Rattle.std.specs.Prelude.{IfOk};
+ghost use Rattle.std.specs.Prelude.{◌≡◌, IfOk};
+ghost use Rattle.scene_world.specs.Standing.{plain_of};
 ghost use Rattle.scene_turns.specs.Places.{kinds_of};
-ghost use Rattle.scene_acts.specs.Acts.{MayAct};
+ghost use Rattle.scene_acts.specs.Acts.{MayAct, seen_of};
+ghost use Rattle.scene_acts_tests.specs.Openings.{without_entities};
 
 use scene_stores::{SceneMarkerAllocator, Store, no_markers};
 use scene_turns::{Rules, SceneValue};
@@ -19,7 +21,10 @@ pub fn open_world<R: Rules>(
 ) -> Result<World<R::Value>, AllocError>
 where
     R::Value: Drop,
-    ensures { IfOk result (MayAct (kinds_of ⟦<R::Value as SceneValue<R::Data>>⟧.places R.part_of R.columns)) }
+    ensures may { IfOk result (MayAct (kinds_of ⟦<R::Value as SceneValue<R::Data>>⟧.places R.part_of R.columns)) }
+    ensures scene { IfOk result (λ world. plain_of
+        (kinds_of ⟦<R::Value as SceneValue<R::Data>>⟧.places R.part_of R.columns) (seen_of world)
+        ≡ without_entities next) }
 {
     let mut world = World::empty(alloc);
     let entities = EntitiesRes::with_limits(alloc, limits.0, limits.1);
