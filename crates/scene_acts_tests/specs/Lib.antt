@@ -1,0 +1,5 @@
+pub mod Holdings
+pub mod Owning
+pub mod OwningLaws
+pub mod Apart
+pub mod Openings

@@ -1,0 +1,51 @@
+//! Worlds in which nobody lives yet.
+ghost use Rattle.std.specs.Prelude.{◌≡◌, IfOk};
+ghost use Rattle.scene_world.specs.Standing.{plain_of};
+ghost use Rattle.scene_turns.specs.Places.{kinds_of};
+ghost use Rattle.scene_acts.specs.Acts.{MayAct, seen_of};
+ghost use Rattle.scene_acts_tests.specs.Openings.{without_entities};
+
+use scene_stores::{SceneMarkerAllocator, Store, no_markers};
+use scene_turns::{Rules, SceneValue};
+use shred_world::World;
+use specs_entity::EntitiesRes;
+use std::alloc::{AllocError, Global};
+
+/// A world of some rules in which nobody lives, with these limits of its entities and this next id. Errors: want of
+/// memory.
+pub fn open_world<R: Rules>(
+    store: Store,
+    limits: (u32, u32),
+    next: u64,
+    alloc: Global,
+) -> Result<World<R::Value>, AllocError>
+where
+    R::Value: Drop,
+    ensures may { IfOk result (MayAct (kinds_of ⟦<R::Value as SceneValue<R::Data>>⟧.places R.part_of R.columns)) }
+    ensures scene { IfOk result (λ world. plain_of
+        (kinds_of ⟦<R::Value as SceneValue<R::Data>>⟧.places R.part_of R.columns) (seen_of world)
+        ≡ without_entities next) }
+{
+    let mut world = World::empty(alloc);
+    let entities = EntitiesRes::with_limits(alloc, limits.0, limits.1);
+    let Ok(_) = world.insert_raw(
+        <R::Value as SceneValue<R::Data>>::entities_id(),
+        <R::Value as SceneValue<R::Data>>::wrap_entities(entities),
+    ) else {
+        return Err(AllocError);
+    };
+    let Ok(_) = world.insert_raw(
+        <R::Value as SceneValue<R::Data>>::markers_id(),
+        <R::Value as SceneValue<R::Data>>::wrap_markers(no_markers(alloc)),
+    ) else {
+        return Err(AllocError);
+    };
+    let Ok(_) = world.insert_raw(
+        <R::Value as SceneValue<R::Data>>::allocator_id(),
+        <R::Value as SceneValue<R::Data>>::wrap_allocator(SceneMarkerAllocator::new(alloc, next)),
+    ) else {
+        return Err(AllocError);
+    };
+    R::register(&mut world, store, alloc)?;
+    Ok(world)
+}
