@@ -1,5 +1,8 @@
 -- Lemmas on what is loaded of a draft that no refusal stands against.
-use Rattle.std.proofs.Common.{◌≡◌, ℕ, zero, suc, ◌+◌, ◌<◌, ◌≤◌, Bool, true, false, not, cond, eqb, ltb, List, [], ◌∷◌, ◌++◌, map, length, find, Option, Some, None, AllPairs, option_map, option_and_then, slice_get, vec_len, refl, ap, sym, subst, ◌∙◌, ⊎_elim, arith}
+use Rattle.scene_rules.specs.declared.refusals.DocRefusal.TheVariants.{NotWhole}
+use Rattle.scene_rules.specs.declared.refusals.DocRefusal.{DocRefusal}
+use Rattle.serde_json.specs.Written.{has_float}
+use Rattle.std.proofs.Common.{◌≡◌, ℕ, zero, suc, ◌+◌, ◌<◌, ◌≤◌, Bool, true, false, not, cond, eqb, ltb, List, [], ◌∷◌, ◌++◌, map, length, find, Option, Some, None, AllPairs, option_map, option_and_then, slice_get, vec_len, refl, ap, sym, subst, ◌∙◌, ⊎_elim, arith, Result, Ok, Err}
 use Rattle.std.specs.List.{All, AllByRecursion, list_any, filter_map, cons_option}
 use Rattle.std.specs.List.Sorted.{IsStrictlySortedBy}
 use Rattle.std.specs.BTreeMap.{BTreeMap}
@@ -40,8 +43,8 @@ use Rattle.scene_rules.proofs.CallerLemmas.{same_scene}
 use Rattle.scene_rules.specs.Commands.{ref_lives}
 use Rattle.scene_rules.specs.Laws.{Ascend}
 use Rattle.scene_rules.specs.Lawful.{IsKnownPart, IsLawful}
-use Rattle.scene_draft.specs.Drafts.{Draft, DraftPart, DraftEntity, DraftEntry, DraftCommand, spawn, kill, put, take}
-use Rattle.scene_document.specs.Documents.{listed_ids, systems_of, has_unknown_kind, has_double, has_id_past_next, dangles, part_dangles, has_unknown_system, has_taken_name, has_unknown_dependency, lacks_global, writes_reserved, refusal_of}
+use Rattle.scene_draft.specs.Drafts.{Draft, DraftPart, DraftEntity, DraftEntry, DraftCommand, spawn, kill, put, take, draft_from}
+use Rattle.scene_document.specs.Documents.{listed_ids, systems_of, has_unknown_kind, has_double, has_id_past_next, dangles, part_dangles, has_unknown_system, has_taken_name, has_unknown_dependency, lacks_global, writes_reserved, refusal_of, document_from, of_shape, unless_refused}
 use Rattle.scene_draft.specs.DraftViews.{named, plain_entity, plain_system, plain_draft, plain_asked, plain_list, facts_of, seen, config_seen, IsPlaced, IsAdmitted, IsReadable, IsDraft, IsMadeOf, IsMadeAs, IsOfBook, IsKnownDraft, Differ, AreApart, IsLawfulDraft}
 use Rattle.scene_rules.specs.Ids.{ascending}
 use Rattle.scene_document.specs.Openings.{part_in, part_among, global_among, first_scene, Resource, same_resource, staged, with_facts, systems_at, staged_systems, local_systems, command_of, commands_in, commands_for, frames_of}
@@ -483,6 +486,22 @@ module _ {D G S : Type 0} (part_of : D → Part) (global_of : G → Json) (kind_
           lawful = lawful-loaded draft loaded is.lawful commands;
         };
       }
+
+-- against a document no refusal stands
+pub unrefused : (book : Book) (indices : ℕ) (json : Json) (draft : Draft) → document_from book indices json ≡ Ok draft → refusal_of indices draft ≡ None
+unrefused book indices json draft made = whole (has_float json) (draft_from book json) made
+  where
+    kept : (some : Draft) (refusal : Option DocRefusal) → refusal_of indices some ≡ refusal → unless_refused some refusal ≡ Ok draft → refusal_of indices draft ≡ None
+    kept some None none is = let same : some ≡ draft = (let h : ◌≡◌ {A = Result Draft DocRefusal} (Ok some) (Ok draft) = is in cc) in subst (λ one. refusal_of indices one ≡ None) same none
+    kept some (Some refusal) stands is = absurd (cc)
+
+    shaped : (o : Option Draft) → of_shape indices o ≡ Ok draft → refusal_of indices draft ≡ None
+    shaped None is = absurd (cc)
+    shaped (Some some) is = kept some (refusal_of indices some) refl is
+
+    whole : (b : Bool) (o : Option Draft) → cond b (Err NotWhole) (of_shape indices o) ≡ Ok draft → refusal_of indices draft ≡ None
+    whole true o is = absurd (cc)
+    whole false o is = shaped o is
 
 -- a document that is not refused has few entries
 pub few-entries : {D G S : Type 0} (part_of : D → Part) (global_of : G → Json) (kind_of : S → Name) (config_of : S → Json) (book : Book) (indices : ℕ) (plain : Draft) (draft : DocumentDraft D G S) → IsDraft part_of global_of kind_of config_of book plain draft → refusal_of indices plain ≡ None → vec_len draft.entries ≤ 4096

@@ -250,8 +250,8 @@ module _ {D G S : Type 0} (part_of : D → Part) (global_of : G → Json) (kind_
       let reserved : writes_reserved plain ≡ list_any (entry_that (λ accessor. accessor.writes_reserved)) entries =
       ap (list_any (λ one. declares_that (λ access. access.reserved) one.facts)) systems ∙ that-plain (λ access. access.reserved) entries in
       alike_tests _ _ _ _ _ _ _ _ _ _ _ _ _ _ _ _ _ _ kinds (ap has_double listed) next dangling unknown (ap has_taken_name systems) (ap (has_unknown_dependency []) systems) lacking reserved _ _
-      (sizes plain.workers draft.workers (length plain.entries) (length entries) (length plain.entities) (length entities) indices (is_among plain.store stores) draft.store_is_known
-      is.workers (ap length is.entries ∙ length-map entries plain_draft) is.store (ap length is.entities ∙ length-map entities (plain_entity part_of names)))
+      (sizes plain.workers draft.workers (length plain.entries) (length entries) (length plain.entities) (length entities) indices (is_among plain.store stores) (is_among draft.store.now stores)
+      is.workers (ap length is.entries ∙ length-map entries plain_draft) (ap (λ name. is_among name stores) is.store) (ap length is.entities ∙ length-map entities (plain_entity part_of names)))
       ∙ in_parts (has_unknown draft) (has_double (map (λ entity. entity.id) entities)) (list_any (λ entity. not (ltb entity.id draft.next)) entities)
       (list_any (entity_dangles part_of (ascending (map (λ entity. entity.id) entities))) entities) (list_any is_unmade entries) (has_taken_name (systems_in entries)) (has_unknown_dependency [] (systems_in entries))
       (list_any (entry_that (λ accessor. lacks_declared book.global_names globals (access_of accessor))) entries) (list_any (entry_that (λ accessor. accessor.writes_reserved)) entries) (number_refusal indices draft)

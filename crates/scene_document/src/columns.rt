@@ -146,7 +146,7 @@ pub fn into_loaded<R: DocumentRules>(
         frames,
         commands,
         workers: _,
-        store_is_known: _,
+        store: _,
     } = draft;
     let ids = in_order(alloc, ids_of(alloc, &entities)?)?;
     let parts = columns_of(alloc, rules.part_names().len(), entities)?;

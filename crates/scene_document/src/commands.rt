@@ -69,7 +69,7 @@ fn commands_of_list<R: DocumentRules>(
 /// The lists of commands, where their kinds are known.
 ///
 /// Errors: for want of memory.
-pub(crate) fn commands_of<R: DocumentRules>(
+pub fn commands_of<R: DocumentRules>(
     alloc: Global,
     lists: Vec<Vec<CommandDraft<R::Data>>>,
 ) -> Result<Vec<Vec<Command<R::Data>>>, AllocError>

@@ -11,5 +11,6 @@ mod order;
 mod refusal;
 mod resource;
 
-pub use load::load_document;
+pub use commands::commands_of;
+pub use load::{load_document, read_document};
 pub use loaded::{Limits, LoadError, Loaded};

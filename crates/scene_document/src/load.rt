@@ -2,16 +2,46 @@
 ghost use Rattle.std.specs.Prelude.{◌≡◌, Ok, MatchResult};
 ghost use Rattle.serde_json.specs.View.{view};
 ghost use Rattle.scene_draft.specs.Drafts.{Draft};
+ghost use Rattle.scene_draft.specs.DraftViews.{IsDraft};
 ghost use Rattle.scene_document.specs.Documents.{document_from};
 ghost use Rattle.scene_document.specs.Loading.{IsLoaded, IsNotLoaded};
 
 use crate::columns::into_loaded;
 use crate::loaded::{Limits, LoadError, Loaded};
 use crate::refusal::refusal;
-use scene_draft::{has_float, read_draft};
+use scene_draft::{DocumentDraft, has_float, read_draft};
 use scene_rules::{DocRefusal, DocumentRules, ReadError};
 use serde_json::Value;
 use std::alloc::Global;
+
+/// The draft of the document that a JSON is, where no refusal stands.
+///
+/// Errors: `Document` with the least refusal that stands; `Memory`.
+pub fn read_document<'a, R: DocumentRules>(
+    alloc: Global,
+    rules: &R,
+    limits: Limits,
+    value: &'a Value,
+) -> Result<DocumentDraft<'a, R::Data, R::Global, R::System>, LoadError>
+    ensures { MatchResult result
+        (λ draft. (plain : Draft)
+        × (document_from (R.book rules.now) limits.indices (view value.now) ≡ Ok plain)
+        × IsDraft R.part_of R.global_of R.kind_of R.config_of (R.book rules.now) plain draft)
+        (IsNotLoaded (R.book rules.now) limits.indices (view value.now)) }
+{
+    if has_float(value) {
+        return Err(LoadError::Document(DocRefusal::NotWhole));
+    }
+    let draft = match read_draft(alloc, rules, value) {
+        Ok(draft) => draft,
+        Err(ReadError::Shape) => return Err(LoadError::Document(DocRefusal::WrongShape)),
+        Err(ReadError::Memory) => return Err(LoadError::Memory),
+    };
+    match refusal(alloc, rules, limits, &draft)? {
+        Some(found) => Err(LoadError::Document(found)),
+        None => Ok(draft),
+    }
+}
 
 /// Loads the document that a JSON is, where no refusal stands.
 ///
@@ -28,16 +58,10 @@ pub fn load_document<R: DocumentRules>(
         × IsLoaded R.part_of R.global_of R.kind_of R.config_of (R.book rules.now) draft loaded)
         (IsNotLoaded (R.book rules.now) limits.indices (view value.now)) }
 {
-    if has_float(value) {
-        return Err(LoadError::Document(DocRefusal::NotWhole));
-    }
-    let draft = match read_draft(alloc, rules, value) {
+    let draft = match read_document(alloc, rules, limits, value) {
         Ok(draft) => draft,
-        Err(ReadError::Shape) => return Err(LoadError::Document(DocRefusal::WrongShape)),
-        Err(ReadError::Memory) => return Err(LoadError::Memory),
+        Err(error) => return Err(error),
     };
-    match refusal(alloc, rules, limits, &draft)? {
-        Some(found) => Err(LoadError::Document(found)),
-        None => Ok(into_loaded(alloc, rules, draft)?),
-    }
+    let loaded = into_loaded(alloc, rules, draft)?;
+    Ok(loaded)
 }

@@ -13,7 +13,7 @@ ghost use Rattle.scene_document.specs.Refusals.{datum_dangles, entity_dangles, a
 use crate::columns::ids_of;
 use crate::loaded::Limits;
 use crate::names::{has_taken_name, has_unknown_dependency};
-use scene_draft::{CommandDraft, DocumentDraft, EntityDraft, EntryDraft};
+use scene_draft::{CommandDraft, DocumentDraft, EntityDraft, EntryDraft, is_store};
 use scene_rules::{Accessor, DocRefusal, DocumentRules};
 use std::alloc::{AllocError, Global};
 use std::collections::BTreeSet;
@@ -290,7 +290,7 @@ fn number_refusal<D: Drop, G: Drop, S: Drop>(
     if draft.entries.len() > 4_096 {
         return Some(DocRefusal::TooManySystems);
     }
-    if !draft.store_is_known {
+    if !is_store(draft.store) {
         return Some(DocRefusal::UnknownStore);
     }
     if draft.entities.len() > limits.indices as usize {

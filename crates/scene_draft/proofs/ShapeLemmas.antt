@@ -290,14 +290,6 @@ module _ (book : Book) (next entities globals systems frames commands workers st
   pub no_store : read_or (codes "vec") as_str store ≡ None → draft_found book next entities globals systems frames commands workers store ≡ None
   no_store is = none_store (option_and_then whole next) (option_and_then (entities_from book) entities) (read_or [] (globals_from book) globals) (read_or [] (entries_from book) systems) (read_or 0 whole_32 frames) (read_or [] (commands_from book) commands) (read_or 1 whole workers) (read_or (codes "vec") as_str store) is
 
-pub some_of_map : {X Y : Type 0} (f : X → Y) (o : Option X) (y : Y) → Some y ≡ option_map f o → (x : X) × (o ≡ Some x) × (y ≡ f x)
-some_of_map f None y is = cc
-some_of_map f (Some x) y is = (x, refl, cc)
-
-pub none_of_map : {X Y : Type 0} (f : X → Y) (o : Option X) → None ≡ option_map f o → o ≡ None
-none_of_map f None is = refl
-none_of_map f (Some x) is = cc
-
 -- what is read for a global is readable, where what was read is read back as it was
 global_readable : (book : Book) → ((name : Name) (json value : Json) → book.read_global name json ≡ Some value → book.read_global name value ≡ Some value) → (entry : Name × Json) (one : Option (Name × Json)) → global_under book entry ≡ Some one → IsReadable book one
 global_readable book back entry None is = tt
@@ -340,13 +332,12 @@ module _ {D G S : Type 0} (part_of : D → Part) (global_of : G → Json) (kind_
       → Some draft.frames ≡ read_or 0 whole_32 frames
       → ((read_or [] (commands_from book) commands ≡ Some (map (plain_list part_of) draft.commands.items)) × All (λ list. All (IsAsked part_of book) list.items) draft.commands.items)
       → Some draft.workers ≡ read_or 1 whole workers
-      → Some draft.store_is_known ≡ option_map (λ kind. is_among kind stores) (read_or (codes "vec") as_str store)
+      → Some draft.store.now ≡ read_or (codes "vec") as_str store
       → (plain : Draft) × (draft_found book next entities globals systems frames commands workers store ≡ Some plain) × IsDraft part_of global_of kind_of config_of book plain draft
   draft_made next entities globals systems frames commands workers store draft is_next are_entities are_globals are_entries are_frames are_commands are_workers is_store =
-      let kept = some_of_map (λ kind. is_among kind stores) (read_or (codes "vec") as_str store) draft.store_is_known is_store in
-      let plain : Draft = record { next = draft.next; entities = map (plain_entity part_of book.part_names) draft.entities.items; globals = map (named global_of book.global_names) draft.globals.items; entries = map plain_draft draft.entries.items; frames = draft.frames; commands = map (plain_list part_of) draft.commands.items; workers = draft.workers; store = kept.0 } in (
+      let plain : Draft = record { next = draft.next; entities = map (plain_entity part_of book.part_names) draft.entities.items; globals = map (named global_of book.global_names) draft.globals.items; entries = map plain_draft draft.entries.items; frames = draft.frames; commands = map (plain_list part_of) draft.commands.items; workers = draft.workers; store = draft.store.now } in (
         plain,
-        reads_draft book next entities globals systems frames commands workers store _ _ _ _ _ _ _ _ is_next are_entities.0 are_globals.0 are_entries.0 are_frames are_commands.0 are_workers kept.1,
+        reads_draft book next entities globals systems frames commands workers store _ _ _ _ _ _ _ _ is_next are_entities.0 are_globals.0 are_entries.0 are_frames are_commands.0 are_workers (sym is_store),
         record {
           next = refl;
           entities = refl;
@@ -355,7 +346,7 @@ module _ {D G S : Type 0} (part_of : D → Part) (global_of : G → Json) (kind_
           frames = refl;
           commands = refl;
           workers = refl;
-          store = sym kept.2;
+          store = refl;
           kinds_placed = All-weaker (IsEntity part_of book) (λ entity. All (IsPlaced (length book.part_names)) entity.parts.items) (λ entity parts. All-weaker (IsPart part_of book) (IsPlaced (length book.part_names)) (λ part is. is.placed) entity.parts.items parts) draft.entities.items are_entities.1;
           globals_placed = are_globals.1;
           admitted = All-weaker (IsEntity part_of book) (λ entity. All (IsAdmitted part_of book) entity.parts.items) (λ entity parts. All-weaker (IsPart part_of book) (IsAdmitted part_of book) (λ part is. is.admitted) entity.parts.items parts) draft.entities.items are_entities.1;

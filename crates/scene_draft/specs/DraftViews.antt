@@ -21,7 +21,7 @@ use Rattle.scene_rules.specs.Lawful.{IsKnownPart}
 use Rattle.scene_rules.specs.Queues.{plain_entry}
 use Rattle.scene_rules.specs.Lent.{texts, access_of}
 use Rattle.shred_plan.specs.Plan.{units_of}
-use Rattle.scene_draft.specs.Drafts.{Draft, DraftPart, DraftEntity, DraftSystem, DraftEntry, barrier, system, system_of_entry, DraftCommand, spawn, kill, put, take, stores}
+use Rattle.scene_draft.specs.Drafts.{Draft, DraftPart, DraftEntity, DraftSystem, DraftEntry, barrier, system, system_of_entry, DraftCommand, spawn, kill, put, take}
 
 -- the JSON of what was found
 abbrev pub seen : Option (Bor Value) → Option Json
@@ -139,7 +139,7 @@ pub record IsDraft {D G S : Type 0} (part_of : D → Part) (global_of : G → Js
   pub frames : plain.frames ≡ draft.frames
   pub commands : plain.commands ≡ map (plain_list part_of) draft.commands.items
   pub workers : plain.workers ≡ draft.workers
-  pub store : is_among plain.store stores ≡ draft.store_is_known
+  pub store : plain.store ≡ draft.store.now
   pub kinds_placed : All (λ entity. All (IsPlaced (length book.part_names)) entity.parts.items) draft.entities.items
   pub globals_placed : All (IsPlaced (length book.global_names)) draft.globals.items
   pub admitted : All (λ entity. All (IsAdmitted part_of book) entity.parts.items) draft.entities.items

@@ -57,6 +57,6 @@ pub struct DocumentDraft<'a, D, G, S> {
     pub frames: u32,
     pub commands: Vec<Vec<CommandDraft<D>>>,
     pub workers: u64,
-    /// Whether the kind of store is one of the four.
-    pub store_is_known: bool,
+    /// The kind of store, by its name.
+    pub store: &'a str,
 }

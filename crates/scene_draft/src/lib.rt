@@ -7,5 +7,5 @@ mod shape;
 mod text;
 
 pub use draft::{CommandDraft, DocumentDraft, EntityDraft, EntryDraft, MadeDraft, SystemDraft};
-pub use shape::read_draft;
+pub use shape::{is_store, read_draft};
 pub use text::{JsonError, has_float, read_json, scene_text};

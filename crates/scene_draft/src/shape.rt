@@ -19,6 +19,7 @@ mod fields;
 use crate::shape::commands::read_commands;
 use crate::shape::entities::{read_entities, read_globals};
 use crate::shape::entries::read_entries;
+pub use crate::shape::fields::is_store;
 use crate::shape::fields::{has_only_keys, read_frames, read_store, read_whole, read_whole_or};
 
 /// The draft that a JSON is, where its shape is right.
@@ -53,7 +54,7 @@ pub fn read_draft<'a, R: DocumentRules>(
     let Some(workers) = read_whole_or(1, value.get("workers")) else {
         return Err(ReadError::Shape);
     };
-    let Some(store_is_known) = read_store(value.get("store")) else {
+    let Some(store) = read_store(value.get("store")) else {
         return Err(ReadError::Shape);
     };
     Ok(DocumentDraft {
@@ -64,7 +65,7 @@ pub fn read_draft<'a, R: DocumentRules>(
         frames,
         commands,
         workers,
-        store_is_known,
+        store,
     })
 }
 

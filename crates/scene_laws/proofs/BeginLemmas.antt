@@ -20,24 +20,8 @@ use Rattle.scene_document.specs.Documents.{listed_ids, document_from, document_o
 use Rattle.scene_rules.specs.Ids.{ascending}
 use Rattle.scene_document.specs.Openings.{first_scene}
 use Rattle.scene_rules.proofs.CallerLemmas.{in_order-ascends}
-use Rattle.scene_document.proofs.CallerLemmas.{ids-below, no_past}
+use Rattle.scene_document.proofs.CallerLemmas.{ids-below, no_past, unrefused}
 use Rattle.scene_laws.proofs.ReadyLemmas.{from_bytes}
-
--- against a document no refusal stands
-unrefused : (book : Book) (indices : ℕ) (json : Json) (draft : Draft) → document_from book indices json ≡ Ok draft → refusal_of indices draft ≡ None
-unrefused book indices json draft made = whole (has_float json) (draft_from book json) made
-  where
-    kept : (some : Draft) (refusal : Option DocRefusal) → refusal_of indices some ≡ refusal → unless_refused some refusal ≡ Ok draft → refusal_of indices draft ≡ None
-    kept some None none is = let same : some ≡ draft = (let h : ◌≡◌ {A = Result Draft DocRefusal} (Ok some) (Ok draft) = is in cc) in subst (λ one. refusal_of indices one ≡ None) same none
-    kept some (Some refusal) stands is = absurd (cc)
-
-    shaped : (o : Option Draft) → of_shape indices o ≡ Ok draft → refusal_of indices draft ≡ None
-    shaped None is = absurd (cc)
-    shaped (Some some) is = kept some (refusal_of indices some) refl is
-
-    whole : (b : Bool) (o : Option Draft) → cond b (Err NotWhole) (of_shape indices o) ≡ Ok draft → refusal_of indices draft ≡ None
-    whole true o is = absurd (cc)
-    whole false o is = shaped o is
 
 -- the ids of the scene that a document gives fit
 pub first-fits : (book : Book) (indices : ℕ) (input : List ℕ) (draft : Draft) → document_of book indices input ≡ Ok draft → IdsFit (first_scene draft).next (first_scene draft).ids

@@ -13,34 +13,13 @@ use Rattle.scene_rules.specs.Rulebook.{Book, Command, spawn, kill, put, take}
 use Rattle.scene_rules.specs.Scenes.{PlainScene, PlainSystem, PlainFrame, IdsFit, lives}
 use Rattle.scene_rules.specs.Commands.{Applied, changed, skipped, ids_spent, apply, refs_live, last_next, Played, played, spent, behind, go_on, play}
 use Rattle.scene_rules.specs.Frames.{Queues, SystemsRun, all_commands, Accepts, Reaches}
+use Rattle.scene_rules.proofs.CallerLemmas.{spawned, spawn-makes, tested-makes, play-keeps, lives-last}
 use Rattle.scene_laws.specs.Ids.{IdsGoOn, Gives, TakesAway}
-
--- the scene that a command made, or another where it made none
-abbrev pub made : PlainScene → Applied → PlainScene
-made other (changed scene) = scene
-made other skipped = other
-made other ids_spent = other
-
--- whether a command changed the scene
-abbrev pub is_changed : Applied → Bool
-is_changed (changed scene) = true
-is_changed skipped = false
-is_changed ids_spent = false
-
--- the scene where commands led, or another where they led nowhere
-abbrev pub led_to : PlainScene → Played → PlainScene
-led_to other (played scene places) = scene
-led_to other spent = other
 
 -- the places that were skipped
 abbrev pub skipped_in : Played → List ℕ
 skipped_in (played scene places) = places
 skipped_in spent = []
-
--- whether commands led to a scene
-abbrev pub is_played : Played → Bool
-is_played (played scene places) = true
-is_played spent = false
 
 -- what is all below the next id and lives is below it
 pub lives-below : (ids : List ℕ) (next id : ℕ) → All (λ other. other < next) ids → lives id ids ≡ true → id < next
@@ -82,27 +61,9 @@ go_on-then scene mid after early late = record {
   fresh = λ id alive dead. ⊎_elim (λ t. early.fresh id t dead) (λ f. omega (arith, late.fresh id alive f, early.next)) (cases_Bool (lives id mid.ids));
 }
 
--- the last id lives
-pub lives-last : (ids : List ℕ) (next : ℕ) → lives next (ids ++ next ∷ []) ≡ true
-lives-last ids next = list_any-append (λ other. eqb other next) ids (next ∷ []) ∙ here (lives next ids) (eqb next next) ((Decides-eqb next next).1 refl)
-  where
-    here : (a b : Bool) → b ≡ true → (a || (b || false)) ≡ true
-    here true b is = refl
-    here false true is = refl
-    here false false is = absurd (false≢true is)
-
 -- one more id behind others
 lives-push : (id next : ℕ) (ids : List ℕ) → lives id (ids ++ next ∷ []) ≡ (lives id ids || (eqb next id || false))
 lives-push id next ids = list_any-append (λ other. eqb other id) ids (next ∷ [])
-
--- the scene after a spawn
-abbrev pub spawned : List (Name × Part) → PlainScene → PlainScene
-spawned parts scene = record {
-  next = scene.next + 1;
-  ids = scene.ids ++ scene.next ∷ [];
-  part = λ id kind. cond (eqb id scene.next) (under kind parts) (scene.part id kind);
-  global = scene.global;
-}
 
 -- all ids are below the one after the next, where the next is one of them
 below-push : (ids : List ℕ) (next : ℕ) → All (λ id. id < next) ids → All (λ id. id < next + 1) (ids ++ next ∷ [])
@@ -136,40 +97,12 @@ killed-goes-on id scene after fit next ids = record {
   fresh = λ one alive dead. absurd (false≢true (sym (lives-filter (λ other. not (eqb other id)) one scene.ids dead) ∙ (sym (ap (lives one) ids) ∙ alive)));
 }
 
--- what a spawn that is carried out makes of a scene
-pub spawn-makes : (parts : List (Name × Part)) (scene after : PlainScene) → apply (spawn parts) scene ≡ changed after → (list_all (λ entry. refs_live scene.ids entry.1) parts ≡ true) × (spawned parts scene ≡ after)
-spawn-makes parts scene after made_it = here (list_all (λ entry. refs_live scene.ids entry.1) parts) (eqb scene.next last_next) made_it
-  where
-    here : (b c : Bool) → cond b (cond c ids_spent (changed (spawned parts scene))) skipped ≡ changed after → (b ≡ true) × (spawned parts scene ≡ after)
-    here true true e = absurd (false≢true (ap is_changed e))
-    here true false e = (refl, ap (made scene) e)
-    here false c e = absurd (false≢true (ap is_changed e))
-
--- what a command that is carried out under a test makes of a scene
-pub tested-makes : (b : Bool) (scene made_one after : PlainScene) → cond b (changed made_one) skipped ≡ changed after → (b ≡ true) × (made_one ≡ after)
-tested-makes true scene made_one after e = (refl, ap (made scene) e)
-tested-makes false scene made_one after e = absurd (false≢true (ap is_changed e))
-
 -- ids go on over a command
 pub apply-goes-on : (command : Command) (scene after : PlainScene) → IdsFit scene.next scene.ids → apply command scene ≡ changed after → IdsGoOn scene after
 apply-goes-on (spawn parts) scene after fit e = subst (λ s. IdsGoOn scene s) (spawn-makes parts scene after e).1 (spawned-goes-on parts scene fit)
 apply-goes-on (kill id) scene after fit e = subst (λ s. IdsGoOn scene s) (tested-makes (lives id scene.ids) scene _ after e).1 (killed-goes-on id scene _ fit refl refl)
 apply-goes-on (put id kind part) scene after fit e = subst (λ s. IdsGoOn scene s) (tested-makes _ scene _ after e).1 (stays scene _ fit refl refl)
 apply-goes-on (take id kind) scene after fit e = subst (λ s. IdsGoOn scene s) (tested-makes (lives id scene.ids) scene _ after e).1 (stays scene _ fit refl refl)
-
--- what holds of a scene and goes on over each command of a kind goes on over all
-pub play-keeps : (R : PlainScene → PlainScene → Type 0) → ((scene : PlainScene) → R scene scene) → ((scene mid after : PlainScene) → R scene mid → R mid after → R scene after) → (Kind : Command → Type 0) (Good : PlainScene → Type 0) → ((command : Command) (scene after : PlainScene) → Kind command → Good scene → apply command scene ≡ changed after → R scene after × Good after) → (place : ℕ) (commands : List Command) (scene after : PlainScene) (places : List ℕ) → All Kind commands → Good scene → play place commands scene ≡ played after places → R scene after × Good after
-play-keeps R same then Kind Good step place [] scene after places kinds good e = subst (λ s. R scene s × Good s) (ap (led_to scene) e) (same scene, good)
-play-keeps R same then Kind Good step place (command ∷ commands) scene after places kinds good e = here (λ mid some. play-keeps R same then Kind Good step (place + 1) commands mid after some (All-tail Kind command commands kinds)) (apply command scene) refl e
-  where
-    behind-one : ((mid : PlainScene) (some : List ℕ) → Good mid → play (place + 1) commands mid ≡ played after some → R mid after × Good after) → (p : Played) → play (place + 1) commands scene ≡ p → behind place p ≡ played after places → R scene after × Good after
-    behind-one later (played s some) is e = later scene some good (is ∙ ap (λ end. played end some) (ap (led_to scene) e))
-    behind-one later spent is e = absurd (false≢true (ap is_played e))
-
-    here : ((mid : PlainScene) (some : List ℕ) → Good mid → play (place + 1) commands mid ≡ played after some → R mid after × Good after) → (a : Applied) → apply command scene ≡ a → go_on place (play (place + 1) commands) scene a ≡ played after places → R scene after × Good after
-    here later (changed mid) is e = let one = step command scene mid (All-head Kind command commands kinds) good is in let rest = later mid places one.1 e in (then scene mid after one.0 rest.0, rest.1)
-    here later skipped is e = behind-one later (play (place + 1) commands scene) refl e
-    here later ids_spent is e = absurd (false≢true (ap is_played e))
 
 -- all commands are commands
 pub any-command : (commands : List Command) → All (λ command. Unit {0}) commands

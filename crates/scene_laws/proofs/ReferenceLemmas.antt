@@ -15,7 +15,8 @@ use Rattle.scene_rules.specs.Scenes.{PlainScene, PlainSystem, PlainFrame, RefLiv
 use Rattle.scene_rules.specs.Commands.{apply, changed, ref_lives, refs_live, without_ref, part_without, is_gone, holds_gone, first_gone}
 use Rattle.scene_rules.specs.Frames.{Queues, SystemsRun, all_commands, Accepts, Reaches}
 use Rattle.scene_laws.specs.References.{RefsLiveUnder}
-use Rattle.scene_laws.proofs.IdLemmas.{spawn-makes, tested-makes, lives-filter, play-keeps, any-command}
+use Rattle.scene_rules.proofs.CallerLemmas.{spawn-makes, tested-makes, play-keeps, lives-longer, lives-passed, find-none, none-of-ids, none-of-names}
+use Rattle.scene_laws.proofs.IdLemmas.{lives-filter, any-command}
 
 -- a reference names a living id, or is gone
 abbrev pub LivesOrGone : List ℕ → Ref → Type 0
@@ -63,10 +64,6 @@ under-live ids (entry ∷ parts) kind held test found = let tests = and_parts (r
     here later first true e = subst (λ part. refs_live ids part ≡ true) (some-one e) first
     here later first false e = later e
 
--- what lives in a list lives in it with one more
-pub lives-longer : (ids : List ℕ) (next id : ℕ) → lives id ids ≡ true → lives id (ids ++ next ∷ []) ≡ true
-lives-longer ids next id alive = list_any-append (λ other. eqb other id) ids (next ∷ []) ∙ ap (λ b. b || (eqb next id || false)) alive
-
 -- what lives in a list with one more, and is not the one, lives in the list
 lives-shorter : (ids : List ℕ) (next id : ℕ) → eqb id next ≡ false → lives id (ids ++ next ∷ []) ≡ true → lives id ids ≡ true
 lives-shorter ids next id apart alive = here (lives id ids) (eqb next id) refl (sym (list_any-append (λ other. eqb other id) ids (next ∷ [])) ∙ alive)
@@ -75,17 +72,6 @@ lives-shorter ids next id apart alive = here (lives id ids) (eqb next id) refl (
     here true n same e = refl
     here false true same e = absurd (false≢true (sym apart ∙ (Decides-eqb id next).1 (sym ((Decides-eqb next id).0 same))))
     here false false same e = absurd (false≢true e)
-
--- an id that passes a test lives where others were taken out
-pub lives-kept : (test : ℕ → Bool) (id : ℕ) (ids : List ℕ) → test id ≡ true → lives id ids ≡ true → lives id (filter test ids) ≡ true
-lives-kept test id [] passes alive = absurd (false≢true alive)
-lives-kept test id (x ∷ ids) passes alive = here (lives-kept test id ids passes) (eqb x id) refl (test x) refl alive
-  where
-    here : (lives id ids ≡ true → lives id (filter test ids) ≡ true) → (b : Bool) → eqb x id ≡ b → (c : Bool) → test x ≡ c → (b || lives id ids) ≡ true → lives id (cond c (x ∷ filter test ids) (filter test ids)) ≡ true
-    here later true same true is e = ap (λ b. b || lives id (filter test ids)) same
-    here later true same false is e = absurd (false≢true (sym is ∙ (ap test ((Decides-eqb x id).0 same) ∙ passes)))
-    here later false same true is e = ap (λ b. b || lives id (filter test ids)) same ∙ later e
-    here later false same false is e = later e
 
 -- and one that lives there lived before
 lives-back : (test : ℕ → Bool) (id : ℕ) (ids : List ℕ) → lives id (filter test ids) ≡ true → lives id ids ≡ true
@@ -111,7 +97,7 @@ module _ (names : List Name) where
         where
           one : (b : Bool) → eqb x id ≡ b → LivesOrGone (filter (λ other. not (eqb other id)) scene.ids) (cond b gone (living x))
           one true same = tt
-          one false same = lives-kept (λ other. not (eqb other id)) x scene.ids (ap not same) alive
+          one false same = lives-passed (λ other. not (eqb other id)) x scene.ids (ap not same) alive
 
       part-stays : (other : ℕ) (kind : Name) (held : Part) → is_among kind names ≡ true → lives other scene.ids ≡ true → (o : Option Part) → scene.part other kind ≡ o → option_map (part_without id) o ≡ Some held → All (LivesOrGone (filter (λ other. not (eqb other id)) scene.ids)) held.refs
       part-stays other kind held known alive None is found = absurd (none-some held found)
@@ -130,33 +116,6 @@ module _ (names : List Name) where
       here : (other : ℕ) (name : Name) (held : Part) → is_among name names ≡ true → lives other scene.ids ≡ true → (b : Bool) → cond b None (scene.part other name) ≡ Some held → All (LivesOrGone scene.ids) held.refs
       here other name held known alive true found = absurd (none-some held found)
       here other name held known alive false found = good other name held known alive found
-
--- what no element passes, none of them passes
-pub find-none : {X : Type 0} (test : X → Bool) (xs : List X) → find test xs ≡ None → list_any test xs ≡ false
-find-none test [] none = refl
-find-none test (x ∷ xs) none = here (find-none test xs) (test x) none
-  where
-    here : (find test xs ≡ None → list_any test xs ≡ false) → (b : Bool) → cond b (Some x) (find test xs) ≡ None → (b || list_any test xs) ≡ false
-    here later true e = absurd (none-some x (sym e))
-    here later false e = later e
-
--- a test that no id passes is not passed by one that lives
-pub none-of-ids : (test : ℕ → Bool) (ids : List ℕ) (id : ℕ) → list_any test ids ≡ false → lives id ids ≡ true → test id ≡ false
-none-of-ids test [] id none alive = absurd (false≢true alive)
-none-of-ids test (x ∷ ids) id none alive = let parts = or_parts (test x) (list_any test ids) none in here (none-of-ids test ids id parts.1) parts.0 (eqb x id) refl alive
-  where
-    here : (lives id ids ≡ true → test id ≡ false) → test x ≡ false → (b : Bool) → eqb x id ≡ b → (b || lives id ids) ≡ true → test id ≡ false
-    here later first true same e = ap test (sym ((Decides-eqb x id).0 same)) ∙ first
-    here later first false same e = later e
-
--- nor one that no name passes by one of the names
-pub none-of-names : (test : Name → Bool) (names : List Name) (name : Name) → list_any test names ≡ false → is_among name names ≡ true → test name ≡ false
-none-of-names test [] name none known = absurd (false≢true known)
-none-of-names test (x ∷ names) name none known = let parts = or_parts (test x) (list_any test names) none in here (none-of-names test names name parts.1) parts.0 (bytes_eq name x) refl known
-  where
-    here : (is_among name names ≡ true → test name ≡ false) → test x ≡ false → (b : Bool) → bytes_eq name x ≡ b → (b || is_among name names) ≡ true → test name ≡ false
-    here later first true same e = ap test ((bytes_eq-Decides name x).0 same) ∙ first
-    here later first false same e = later e
 
 -- references that live or are gone, and of which none is gone, live
 none-gone : (ids : List ℕ) (refs : List Ref) → list_any is_gone refs ≡ false → All (LivesOrGone ids) refs → All (RefLives ids) refs

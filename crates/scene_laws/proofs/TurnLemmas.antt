@@ -16,7 +16,8 @@ use Rattle.scene_rules.specs.Scenes.{PlainScene, PlainSystem, PlainFrame, Steps,
 use Rattle.scene_rules.specs.Commands.{Played, played, spent, play, first_gone, CommandsAccepted, CommandsRefused, skips_of}
 use Rattle.scene_rules.specs.Frames.{Queues, SystemsRun, SystemsRefuse, SystemsFill, all_commands, Accepts, Refuses, Reaches, Ended}
 use Rattle.scene_laws.specs.OneOutcome.{SameLeft, SameOutcome}
-use Rattle.scene_laws.proofs.IdLemmas.{led_to, skipped_in}
+use Rattle.scene_rules.proofs.CallerLemmas.{led_to}
+use Rattle.scene_laws.proofs.IdLemmas.{skipped_in}
 
 -- a scene that one of two leavings is put into is that of the other, where they are one under what is written
 same-put : (access : Access) (one other : Fragment) (scene : PlainScene) → SameLeft access one other → with_left access one scene ≡ with_left access other scene

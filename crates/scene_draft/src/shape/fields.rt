@@ -93,18 +93,21 @@ fn narrow(number: Option<u64>) -> Option<u32>
     }
 }
 
-/// Whether a kind of store is one of the four; nothing is the first of them.
-pub(crate) fn read_store(found: Option<&Value>) -> Option<bool>
-    ensures { result ≡ option_map (λ store. is_among store stores)
-        (read_or (codes "vec") as_str (seen found.entry)) }
+/// The name of a kind of store; where there is nothing, that of the first.
+pub(crate) fn read_store<'a>(found: Option<&'a Value>) -> Option<&'a str>
+    ensures { option_map (λ store. store.now) result ≡ read_or (codes "vec") as_str (seen found.entry) }
 {
     match found {
-        None => Some(true),
-        Some(value) => {
-            let store = value.as_str()?;
-            Some(is_one_of(&["vec", "dense", "hash", "btree"], store))
-        }
+        None => Some("vec"),
+        Some(value) => value.as_str(),
     }
+}
+
+/// Whether a kind of store is one of the four.
+pub fn is_store(name: &str) -> bool
+    ensures { result ≡ is_among name.now stores }
+{
+    is_one_of(&["vec", "dense", "hash", "btree"], name)
 }
 
 /// A text.

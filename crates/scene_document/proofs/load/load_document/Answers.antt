@@ -1,28 +1,18 @@
-use Rattle.std.proofs.Common.{◌≡◌, false, None, ap, sym, ◌∙◌, if◌then◌else◌, Err}
+use Rattle.std.proofs.Common.{◌≡◌, None}
 use Rattle.serde_json.specs.View.{view}
-use Rattle.serde_json.specs.Written.{has_float}
-use Rattle.scene_rules.specs.declared.refusals.DocRefusal.TheVariants.{NotWhole}
-use Rattle.scene_draft.specs.Drafts.{draft_from}
-use Rattle.scene_document.specs.Documents.{of_shape, unless_refused, refusal_of}
-use Rattle.scene_document.proofs.LoadedLemmas.{few-entries}
+use Rattle.scene_document.specs.Documents.{refusal_of}
+use Rattle.scene_document.proofs.LoadedLemmas.{few-entries, unrefused}
 use Rattle.scene_document.proofs.load.load_document.Goals as goal
 
--- the value reads as a draft that no refusal stands against
-pub returns-in_ok-into_loaded-in-None : goal.returns-in_ok-into_loaded-in-None
-returns-in_ok-into_loaded-in-None g c =
-    let book = g.R.DocumentRules.book c.args.rules.now in
-    let json = view c.args.value.now in
-    let indices = c.args.limits.indices in
+-- what is loaded is what the draft says
+pub returns : goal.returns
+returns g c =
     let plain = c.in-Ok.ensures.0 in
-    let passed : refusal_of indices plain ≡ None = sym (c.in_ok-found.ensures plain c.in-Ok.ensures.2) ∙ c.in-None.is in
-    let whole : has_float json ≡ false = sym c.has_float.ensures ∙ c.if-has_float.false in (
-      plain,
-      ap (λ b. if b then Err NotWhole else of_shape indices (draft_from book json)) whole ∙ ap (of_shape indices) c.in-Ok.ensures.1 ∙ ap (unless_refused plain) passed,
-      c.in_ok-into_loaded-in-None.ensures plain indices c.in-Ok.ensures.2 passed,
-    )
+    let passed = unrefused (g.R.DocumentRules.book c.args.rules.now) c.args.limits.indices (view c.args.value.now) plain c.in-Ok.ensures.1 in
+    (plain, c.in-Ok.ensures.1, c.in_ok-loaded.ensures plain c.args.limits.indices c.in-Ok.ensures.2 passed)
 
 pub into_loaded-requires : goal.into_loaded-requires
 into_loaded-requires g c =
     let plain = c.in-Ok.ensures.0 in
     few-entries g.R.DocumentRules.part_of g.R.DocumentRules.global_of g.R.DocumentRules.kind_of g.R.DocumentRules.config_of (g.R.DocumentRules.book c.args.rules.now) c.args.limits.indices plain c.in-Ok.draft c.in-Ok.ensures.2
-    (sym (c.in_ok-found.ensures plain c.in-Ok.ensures.2) ∙ c.in-None.is)
+    (unrefused (g.R.DocumentRules.book c.args.rules.now) c.args.limits.indices (view c.args.value.now) plain c.in-Ok.ensures.1)

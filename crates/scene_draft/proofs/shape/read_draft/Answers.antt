@@ -1,4 +1,4 @@
-use Rattle.std.proofs.Common.{◌≡◌, codes, ap, ◌∙◌, [], Some, Err, Option, map, length, option_map, option_and_then, sym, subst, arith}
+use Rattle.std.proofs.Common.{None, ◌≡◌, codes, ap, ◌∙◌, [], Some, Err, Option, map, length, option_map, option_and_then, sym, subst, arith}
 use Rattle.std.specs.List.{All}
 use Rattle.serde_json.specs.Find.{get, as_str}
 use Rattle.serde_json.specs.View.{view, members_view}
@@ -6,7 +6,7 @@ use Rattle.scene_rules.specs.Parts.{Json, is_among}
 use Rattle.scene_draft.specs.Drafts.{read_or, whole, whole_32, entities_from, globals_from, entries_from, commands_from, stores, draft_from}
 use Rattle.scene_draft.specs.DraftViews.{named, plain_entity, plain_draft, plain_list, IsPlaced, IsOfBook}
 use Rattle.scene_draft.specs.ShapeWords.{IsEntity, IsAsked, draft_in}
-use Rattle.scene_draft.proofs.ShapeLemmas.{draft_from-in, no_entries, no_frames, no_commands, no_workers, no_store, none_of_map, draft_made}
+use Rattle.scene_draft.proofs.ShapeLemmas.{draft_from-in, no_entries, no_frames, no_commands, no_workers, no_store, draft_made}
 use Rattle.scene_draft.proofs.shape.read_draft.Goals as goal
 
 pub returns-in_err-entries : goal.returns-in_err-entries
@@ -44,7 +44,7 @@ returns-in_default-read_store g c =
     let book = g.R.DocumentRules.book c.args.rules.now in
     let json = view c.args.value.now in
     let whole_document : draft_from book json ≡ draft_in book json = draft_from-in book json (members_view c.in-Some.members.now.entries) c.in-Some.ensures (sym c.has_document_keys.ensures ∙ c.if-not-has_document_keys.false) in
-    let no_text = none_of_map (λ kind. is_among kind stores) (read_or (codes "vec") as_str (get (codes "store") json)) (c.in_default-read_store.ensures ∙ ap (λ found. option_map (λ kind. is_among kind stores) (read_or (codes "vec") as_str found)) {y = get (codes "store") json} c.get-8.ensures) in
+    let no_text : read_or (codes "vec") as_str (get (codes "store") json) ≡ None = sym (c.in_default-read_store.ensures ∙ ap (λ found. read_or (codes "vec") as_str found) {y = get (codes "store") json} c.get-8.ensures) in
     λ shape. whole_document ∙ no_store book (get (codes "next") json) (get (codes "entities") json) (get (codes "globals") json) (get (codes "systems") json) (get (codes "frames") json) (get (codes "commands") json) (get (codes "workers") json) (get (codes "store") json) no_text
 
 pub returns : goal.returns
@@ -60,6 +60,6 @@ returns g c =
     let are_frames : Some c.in-Some-read_frames.frames ≡ read_or 0 whole_32 (get (codes "frames") json) = c.in-Some-read_frames.ensures ∙ ap (λ found. read_or 0 whole_32 found) {y = get (codes "frames") json} c.get-5.ensures in
     let are_commands = subst (λ (found : Option Json). (read_or [] (commands_from book) found ≡ Some (map (plain_list part_of) c.in_ok-commands.commands.items)) × All (λ list. All (IsAsked part_of book) list.items) c.in_ok-commands.commands.items) {y = get (codes "commands") json} c.get-6.ensures c.in_ok-commands.ensures in
     let are_workers : Some c.in-Some-read_whole_or.workers ≡ read_or 1 whole (get (codes "workers") json) = c.in-Some-read_whole_or.ensures ∙ ap (λ found. read_or 1 whole found) {y = get (codes "workers") json} c.get-7.ensures in
-    let is_store = c.in-Some-read_store.ensures ∙ ap (λ found. option_map (λ kind. is_among kind stores) (read_or (codes "vec") as_str found)) {y = get (codes "store") json} c.get-8.ensures in
-    let made = draft_made part_of g.R.DocumentRules.global_of g.R.DocumentRules.kind_of g.R.DocumentRules.config_of book (g.met.R.DocumentRules.global_reads_back c.args.rules.now) (get (codes "next") json) (get (codes "entities") json) (get (codes "globals") json) (get (codes "systems") json) (get (codes "frames") json) (get (codes "commands") json) (get (codes "workers") json) (get (codes "store") json) (record { next = c.in-Some-read_whole.next; entities = c.in_ok-entities.entities; globals = c.in_ok-globals.globals; entries = c.in_ok-entries.entries; frames = c.in-Some-read_frames.frames; commands = c.in_ok-commands.commands; workers = c.in-Some-read_whole_or.workers; store_is_known = c.in-Some-read_store.store_is_known }) is_next are_entities are_globals are_entries are_frames are_commands are_workers is_store in
+    let is_store : Some c.in-Some-read_store.store.now ≡ read_or (codes "vec") as_str (get (codes "store") json) = c.in-Some-read_store.ensures ∙ ap (λ found. read_or (codes "vec") as_str found) {y = get (codes "store") json} c.get-8.ensures in
+    let made = draft_made part_of g.R.DocumentRules.global_of g.R.DocumentRules.kind_of g.R.DocumentRules.config_of book (g.met.R.DocumentRules.global_reads_back c.args.rules.now) (get (codes "next") json) (get (codes "entities") json) (get (codes "globals") json) (get (codes "systems") json) (get (codes "frames") json) (get (codes "commands") json) (get (codes "workers") json) (get (codes "store") json) (record { next = c.in-Some-read_whole.next; entities = c.in_ok-entities.entities; globals = c.in_ok-globals.globals; entries = c.in_ok-entries.entries; frames = c.in-Some-read_frames.frames; commands = c.in_ok-commands.commands; workers = c.in-Some-read_whole_or.workers; store = c.in-Some-read_store.store }) is_next are_entities are_globals are_entries are_frames are_commands are_workers is_store in
     (made.0, whole_document ∙ made.1, made.2)
