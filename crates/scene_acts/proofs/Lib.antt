@@ -11,3 +11,4 @@ pub mod SpawnLemmas
 pub mod ListLemmas
 pub mod StandLemmas
 pub mod GoneLemmas
+pub mod ElsewhereLemmas

@@ -60,6 +60,11 @@ module _ {V : Type 0} (kinds : Kinds V) where
     pub within : (kind : Name) → is_among kind kinds.part_names ≡ true → IsWithin kinds (roll_of kinds (seen_of w)) (column_of kinds (seen_of w) kind)
     pub born : NamesBorn (seen_of w)
 
+  -- where neither the entities nor their markers, the allocator or the parts of a kind stand, is what was there
+  abbrev pub StaysElsewhere : (w later : Slots V) → Type 0
+  StaysElsewhere w later = (id : ResourceId) → same_id id kinds.entities_id ≡ false → same_id id kinds.markers_id ≡ false → same_id id kinds.allocator_id ≡ false
+      → ((kind : Name) → is_among kind kinds.part_names ≡ true → same_id id (kinds.part_id kind) ≡ false) → seen_of later id ≡ seen_of w id
+
   -- a command was carried out: the scene that stands in the world is the one that it makes; or it was skipped, and the world is as it was
   abbrev pub Acts : Command → Bool → (w later : Slots V) → Type 0
   Acts command true w later = apply command (plain_of kinds (seen_of w)) ≡ changed (plain_of kinds (seen_of later))

@@ -10,7 +10,8 @@ use Rattle.scene_rules.specs.declared.refusals.FrameRefusal.{FrameRefusal}
 use Rattle.scene_rules.specs.declared.refusals.FrameRefusal.TheVariants.{System, GoneReference, IdsSpent, IndicesSpent, GenerationsSpent, TooManyCommands, Memory, Threads}
 use Rattle.scene_rules.specs.Parts.{Name, Part, is_among, under}
 use Rattle.scene_rules.specs.Rulebook.{spawn}
-use Rattle.scene_rules.specs.Commands.{apply, ids_spent}
+use Rattle.scene_rules.specs.Scenes.{PlainScene}
+use Rattle.scene_rules.specs.Commands.{apply, changed, ids_spent}
 use Rattle.scene_rules.specs.Laws.{refs_to}
 use Rattle.scene_world.specs.Stored.{Stored}
 use Rattle.scene_world.specs.Rolls.{Roll}
@@ -19,13 +20,18 @@ use Rattle.scene_world.specs.Changes.{but_at}
 use Rattle.scene_turns.specs.Putting.{StoresAs}
 use Rattle.scene_acts.specs.Acts.{seen_of, AreUnder, PutsPart}
 
--- why a spawn is refused: no id is left, and then the definition says so too; no index is left, or an index has had its births; want of memory says nothing
+-- a spawn is to be done: an id is left for it, and its references live
+pub record IsToBeDone {V : Type 0} (kinds : Kinds V) (parts : List (Name × Part)) (w : Slots V) : Type 0 where
+  pub after : PlainScene
+  pub is : apply (spawn parts) (plain_of kinds (seen_of w)) ≡ changed after
+
+-- why a spawn is refused: no id is left, and then the definition says so too; it is to be done, but no index is left, or the index that comes next has had its births; want of memory says nothing
 abbrev pub RefusesSpawn : {V : Type 0} → Kinds V → List (Name × Part) → Slots V → FrameRefusal → Type 0
 RefusesSpawn kinds parts w (System position text) = ⊥
 RefusesSpawn kinds parts w (GoneReference id) = ⊥
 RefusesSpawn kinds parts w IdsSpent = apply (spawn parts) (plain_of kinds (seen_of w)) ≡ ids_spent
-RefusesSpawn kinds parts w IndicesSpent = IndicesAreSpent (roll_of kinds (seen_of w)).births
-RefusesSpawn kinds parts w GenerationsSpent = GenerationsAreSpent (roll_of kinds (seen_of w)).births
+RefusesSpawn kinds parts w IndicesSpent = IndicesAreSpent (roll_of kinds (seen_of w)).births × IsToBeDone kinds parts w
+RefusesSpawn kinds parts w GenerationsSpent = GenerationsAreSpent (roll_of kinds (seen_of w)).births × IsToBeDone kinds parts w
 RefusesSpawn kinds parts w TooManyCommands = ⊥
 RefusesSpawn kinds parts w Memory = Unit {0}
 RefusesSpawn kinds parts w Threads = ⊥

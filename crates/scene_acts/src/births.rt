@@ -10,7 +10,7 @@ ghost use Rattle.scene_rules.specs.Queues.{plain_entry};
 ghost use Rattle.scene_world.specs.Standing.{roll_of};
 ghost use Rattle.scene_world.specs.Rolls.{ids_in};
 ghost use Rattle.scene_turns.specs.Places.{kinds_of};
-ghost use Rattle.scene_acts.specs.Acts.{seen_of, MayAct, Acts};
+ghost use Rattle.scene_acts.specs.Acts.{seen_of, MayAct, Acts, StaysElsewhere};
 ghost use Rattle.scene_acts.specs.Newborns.{RefusesLife, RefusesSpawn, ComesToLife, GetsId, Marks, GivesPart, GivesParts, Settles};
 
 use crate::looking::entities_under;
@@ -254,6 +254,8 @@ pub fn spawn_entity<R: Rules>(
         (spawn (map (plain_entry R.part_of) parts.now)) done world.old world.new) }
     ensures may { OnOk result (MayAct
         (kinds_of ⟦<R::Value as SceneValue<R::Data>>⟧.places R.part_of R.columns) world.new) }
+    ensures elsewhere { OnOk result (StaysElsewhere
+        (kinds_of ⟦<R::Value as SceneValue<R::Data>>⟧.places R.part_of R.columns) world.old world.new) }
     ensures refused { IfErr result (RefusesSpawn
         (kinds_of ⟦<R::Value as SceneValue<R::Data>>⟧.places R.part_of R.columns)
         (map (plain_entry R.part_of) parts.now) world.old) }

@@ -3,7 +3,7 @@ ghost use Rattle.std.specs.Prelude.{◌≡◌, true, IsTrue, IfOk, OnOk};
 ghost use Rattle.scene_rules.specs.Rulebook.{kill};
 ghost use Rattle.scene_rules.specs.Lent.{texts};
 ghost use Rattle.scene_turns.specs.Places.{kinds_of};
-ghost use Rattle.scene_acts.specs.Acts.{seen_of, MayAct, Acts};
+ghost use Rattle.scene_acts.specs.Acts.{seen_of, MayAct, Acts, StaysElsewhere};
 ghost use Rattle.scene_acts.specs.Deaths.{DropsParts, Unmarks, LetsDie};
 
 use crate::looking::entity_under;
@@ -98,6 +98,8 @@ pub fn kill_entity<R: Rules>(
         (kinds_of ⟦<R::Value as SceneValue<R::Data>>⟧.places R.part_of R.columns) (kill id) done world.old world.new) }
     ensures may { OnOk result (MayAct
         (kinds_of ⟦<R::Value as SceneValue<R::Data>>⟧.places R.part_of R.columns) world.new) }
+    ensures elsewhere { OnOk result (StaysElsewhere
+        (kinds_of ⟦<R::Value as SceneValue<R::Data>>⟧.places R.part_of R.columns) world.old world.new) }
 {
     let Some(entity) = entity_under::<R>(world, id) else {
         return Ok(false);

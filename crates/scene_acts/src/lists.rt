@@ -6,7 +6,7 @@ ghost use Rattle.scene_rules.specs.Leads.{RunsTo};
 ghost use Rattle.scene_rules.specs.Queues.{plain_command, plain_commands};
 ghost use Rattle.scene_world.specs.Standing.{plain_of};
 ghost use Rattle.scene_turns.specs.Places.{kinds_of};
-ghost use Rattle.scene_acts.specs.Acts.{seen_of, MayAct, Acts};
+ghost use Rattle.scene_acts.specs.Acts.{seen_of, MayAct, Acts, StaysElsewhere};
 ghost use Rattle.scene_acts.specs.Lists.{Notes, RefusesAct, RefusesActs};
 
 use crate::births::spawn_entity;
@@ -47,6 +47,8 @@ pub fn act<R: Rules>(
         (plain_command R.part_of command.now) done world.old world.new) }
     ensures may { OnOk result (MayAct
         (kinds_of ⟦<R::Value as SceneValue<R::Data>>⟧.places R.part_of R.columns) world.new) }
+    ensures elsewhere { OnOk result (StaysElsewhere
+        (kinds_of ⟦<R::Value as SceneValue<R::Data>>⟧.places R.part_of R.columns) world.old world.new) }
     ensures refused { IfErr result (RefusesAct
         (kinds_of ⟦<R::Value as SceneValue<R::Data>>⟧.places R.part_of R.columns)
         (plain_command R.part_of command.now) world.old) }
@@ -97,6 +99,8 @@ pub fn act_all<R: Rules>(
         skips.old.items skips.new.items) }
     ensures may { OnOk result (MayAct
         (kinds_of ⟦<R::Value as SceneValue<R::Data>>⟧.places R.part_of R.columns) world.new) }
+    ensures elsewhere { OnOk result (StaysElsewhere
+        (kinds_of ⟦<R::Value as SceneValue<R::Data>>⟧.places R.part_of R.columns) world.old world.new) }
     ensures refused { IfErr result (RefusesActs
         (kinds_of ⟦<R::Value as SceneValue<R::Data>>⟧.places R.part_of R.columns) (earlier + 1)
         (plain_commands R.part_of commands.now) world.old) }

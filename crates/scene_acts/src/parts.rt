@@ -3,7 +3,7 @@ ghost use Rattle.std.specs.Prelude.{◌≡◌, ◌<◌, length, None, IsTrue, If
 ghost use Rattle.scene_rules.specs.Parts.{is_among};
 ghost use Rattle.scene_rules.specs.Rulebook.{put, take};
 ghost use Rattle.scene_turns.specs.Places.{kinds_of};
-ghost use Rattle.scene_acts.specs.Acts.{seen_of, MayAct, Acts, PutsPart, SetsColumn};
+ghost use Rattle.scene_acts.specs.Acts.{seen_of, MayAct, Acts, StaysElsewhere, PutsPart, SetsColumn};
 
 use crate::looking::{entities_under, entity_under};
 use scene_turns::{Rules, SceneValue};
@@ -69,6 +69,8 @@ pub fn put_part<R: Rules>(
         (put id kind.now (R.part_of datum.now)) done world.old world.new) }
     ensures may { OnOk result (MayAct
         (kinds_of ⟦<R::Value as SceneValue<R::Data>>⟧.places R.part_of R.columns) world.new) }
+    ensures elsewhere { OnOk result (StaysElsewhere
+        (kinds_of ⟦<R::Value as SceneValue<R::Data>>⟧.places R.part_of R.columns) world.old world.new) }
 {
     let Some(entity) = entity_under::<R>(world, id) else {
         return Ok(false);
@@ -98,6 +100,8 @@ pub fn take_part<R: Rules>(
         world.old world.new) }
     ensures may { OnOk result (MayAct
         (kinds_of ⟦<R::Value as SceneValue<R::Data>>⟧.places R.part_of R.columns) world.new) }
+    ensures elsewhere { OnOk result (StaysElsewhere
+        (kinds_of ⟦<R::Value as SceneValue<R::Data>>⟧.places R.part_of R.columns) world.old world.new) }
 {
     let Some(entity) = entity_under::<R>(world, id) else {
         return Ok(false);

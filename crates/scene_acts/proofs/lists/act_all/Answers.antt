@@ -29,6 +29,7 @@ loop-command-preserved g c =
       ran = subst (λ commands. RunsTo c.args.frame (c.args.earlier + 1) commands (plain_of (kinds_of g.R.Value.SceneValue.places g.R.DocumentRules.part_of g.R.Rules.columns) (seen_of c.args.world.now)) (plain_of (kinds_of g.R.Value.SceneValue.places g.R.DocumentRules.part_of g.R.Rules.columns) (seen_of c.act.new.world)) c.args.skips.now.items c.note.new.skips.items) (sym front)
           (ran-more (kinds_of g.R.Value.SceneValue.places g.R.DocumentRules.part_of g.R.Rules.columns) c.args.frame (c.args.earlier + 1) (plain_commands g.R.DocumentRules.part_of (take c.loop-command.command-index c.args.commands.now)) c.args.world.now c.loop-command.world c.args.skips.now.items c.loop-command.skips.items c.loop-command.invariant.ran (plain_command g.R.DocumentRules.part_of c.command-item.result) c.in-Ok.done c.act.new.world c.note.new.skips.items (c.loop-command.place + 1) (omega (arith, c.loop-command.invariant.place, count)) c.in-Ok.ensures.acts c.in-Ok-note.ensures.ok);
       may = c.in-Ok.ensures.may;
+      elsewhere = λ id e m a p. c.in-Ok.ensures.elsewhere id e m a p ∙ c.loop-command.invariant.elsewhere id e m a p;
       kept = kept-more c.args.frame (c.loop-command.place + 1) c.in-Ok.done c.args.skips.now.items c.loop-command.skips.items c.note.new.skips.items c.loop-command.invariant.kept c.in-Ok-note.ensures.ok;
     }
 

@@ -1,10 +1,11 @@
-use Rattle.std.proofs.Common.{length, refl, ap, sym, ◌∙◌, subst}
+use Rattle.std.proofs.Common.{Some, length, refl, ap, sym, ◌∙◌, subst}
 use Rattle.std.specs.Prelude.{option_map}
 use Rattle.scene_turns.specs.Places.{kinds_of}
 use Rattle.scene_rules.specs.Laws.{refs_to}
 use Rattle.scene_world.specs.Standing.{roll_of}
 use Rattle.scene_acts.specs.Acts.{seen_of, AreUnder, PutsPart}
 use Rattle.scene_acts.proofs.ActLemmas.{put-acts, put-may, put-lacks, put-skips, as-many}
+use Rattle.scene_acts.proofs.ElsewhereLemmas.{column-elsewhere}
 use Rattle.scene_acts.proofs.parts.put_part.Given.{Over}
 use Rattle.scene_acts.proofs.parts.put_part.Goals.{After-drop-refs-2}
 use Rattle.scene_acts.proofs.parts.put_part.Goals as goal
@@ -49,3 +50,14 @@ returns-clause-may g c =
     c.in-Some.entity (sym c.entity_under.ensures.value ∙ c.in-Some.is) (g.R.DocumentRules.part_of c.args.datum.now) c.as_slice.result.now (ap refs_to c.as_slice.ensures.value ∙ c.in_ok-refs.ensures)
     c.in-Some-2.named.items (subst (λ found. AreUnder (roll_of (kinds_of g.R.Value.SceneValue.places g.R.DocumentRules.part_of g.R.Rules.columns) (seen_of c.args.world.now)) c.as_slice.result.now (option_map (λ entities. entities.items) found)) c.in-Some-2.is c.in_ok-named.ensures)
     c.put_at.new.world (put g c)
+
+pub returns-in_default-clause-elsewhere : goal.returns-in_default-clause-elsewhere
+returns-in_default-clause-elsewhere g c = λ id e m a p. refl
+
+pub returns-in_default-2-clause-elsewhere : goal.returns-in_default-2-clause-elsewhere
+returns-in_default-2-clause-elsewhere g c = λ id e m a p. refl
+
+pub returns-clause-elsewhere : goal.returns-clause-elsewhere
+returns-clause-elsewhere g c =
+    let puts = put g c in
+    column-elsewhere (kinds_of g.R.Value.SceneValue.places g.R.DocumentRules.part_of g.R.Rules.columns) c.args.kind.now c.in-Some.entity.id (Some puts.one) c.args.world.now c.put_at.new.world puts.sets c.requires.known

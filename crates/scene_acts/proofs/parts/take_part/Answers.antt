@@ -2,6 +2,7 @@ use Rattle.std.proofs.Common.{None, refl, sym, ◌∙◌, subst}
 use Rattle.scene_turns.specs.Places.{kinds_of}
 use Rattle.scene_acts.specs.Acts.{seen_of, SetsColumn}
 use Rattle.scene_acts.proofs.ActLemmas.{take-acts, take-may, take-skips}
+use Rattle.scene_acts.proofs.ElsewhereLemmas.{column-elsewhere}
 use Rattle.scene_acts.proofs.parts.take_part.Given.{Over}
 use Rattle.scene_acts.proofs.parts.take_part.Goals.{In_ok-take_at}
 use Rattle.scene_acts.proofs.parts.take_part.Goals as goal
@@ -26,3 +27,9 @@ pub returns-clause-may : goal.returns-clause-may
 returns-clause-may g c =
     take-may (kinds_of g.R.Value.SceneValue.places g.R.DocumentRules.part_of g.R.Rules.columns) g.met.R.Rules.apart c.args.kind.now c.requires.known c.args.id c.args.world.now c.requires.may c.in-Some.entity
     (sym c.entity_under.ensures.value ∙ c.in-Some.is) c.take_at.new.world (taken g c)
+
+pub returns-in_default-clause-elsewhere : goal.returns-in_default-clause-elsewhere
+returns-in_default-clause-elsewhere g c = λ id e m a p. refl
+
+pub returns-clause-elsewhere : goal.returns-clause-elsewhere
+returns-clause-elsewhere g c = column-elsewhere (kinds_of g.R.Value.SceneValue.places g.R.DocumentRules.part_of g.R.Rules.columns) c.args.kind.now c.in-Some.entity.id None c.args.world.now c.take_at.new.world (taken g c) c.requires.known
