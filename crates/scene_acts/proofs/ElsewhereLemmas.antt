@@ -13,7 +13,7 @@ use Rattle.scene_rules.specs.Commands.{changed, skipped, ids_spent, last_next, r
 use Rattle.scene_world.specs.Rolls.{ids_in}
 use Rattle.scene_rules.specs.Rulebook.{spawn}
 use Rattle.scene_world.specs.Stored.{Stored}
-use Rattle.scene_world.specs.Standing.{Sight, Kinds, roll_of}
+use Rattle.scene_world.specs.Standing.{Kinds, roll_of, plain_of}
 use Rattle.scene_acts.specs.Acts.{seen_of, SetsColumn, StaysElsewhere}
 use Rattle.scene_acts.specs.Deaths.{DropsParts, Unmarks, LetsDie}
 use Rattle.scene_acts.specs.Newborns.{ComesToLife, Settles, IsToBeDone, RefusesLife, RefusesSpawn}

@@ -12,3 +12,4 @@ pub mod ListLemmas
 pub mod StandLemmas
 pub mod GoneLemmas
 pub mod ElsewhereLemmas
+pub mod CallerLemmas

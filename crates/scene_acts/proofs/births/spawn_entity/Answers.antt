@@ -24,8 +24,8 @@ pub returns-in-Ok-settle-clause-elsewhere : goal.returns-in-Ok-settle-clause-els
 returns-in-Ok-settle-clause-elsewhere g c =
     birth-elsewhere (kinds_of g.R.Value.SceneValue.places g.R.DocumentRules.part_of g.R.Rules.columns) c.args.world.now c.bring_to_life.new.world c.settle.new.world c.in-Ok.entity (map (plain_entry g.R.DocumentRules.part_of) c.args.parts.now) c.in-Ok.ensures.ok c.in-Ok-settle.ensures
 
-pub returns-in-Err-2-clause-refused : goal.returns-in-Err-2-clause-refused
-returns-in-Err-2-clause-refused g c =
+pub returns-in-Err-bring_to_life-clause-refused : goal.returns-in-Err-bring_to_life-clause-refused
+returns-in-Err-bring_to_life-clause-refused g c =
     life-refused (kinds_of g.R.Value.SceneValue.places g.R.DocumentRules.part_of g.R.Rules.columns) (map (plain_entry g.R.DocumentRules.part_of) c.args.parts.now) c.args.world.now
     (to-be-done (kinds_of g.R.Value.SceneValue.places g.R.DocumentRules.part_of g.R.Rules.columns) (map (plain_entry g.R.DocumentRules.part_of) c.args.parts.now) c.args.world.now (sym c.in-Ok-true.ensures ∙ c.in-Ok-true.field-0-test)
-    (ap (λ n. eqb n last_next) (sym c.in-Some.ensures) ∙ ne_eqb c.in-Some.next last_next c.if-next.false)) c.in-Err.refusal c.in-Err.ensures.refused
+    (ap (λ n. eqb n last_next) (sym c.in-Some.ensures) ∙ ne_eqb c.in-Some.next last_next c.if-next.false)) c.in-Err-bring_to_life.refusal c.in-Err-bring_to_life.ensures.refused
