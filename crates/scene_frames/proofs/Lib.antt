@@ -1,0 +1,4 @@
+pub mod QueueLemmas
+pub mod WorldLemmas
+pub mod CountLemmas
+pub mod CommandLemmas

@@ -1,0 +1,41 @@
+use Rattle.std.proofs.Common.{◌≡◌, ◌++◌, inr, ap, sym, ◌∙◌, subst}
+use Rattle.std.proofs.lemmas.Result.{IfErr-weaker, on_ok_weaker}
+use Rattle.scene_rules.specs.Leads.{RunsTo}
+use Rattle.scene_rules.specs.Queues.{plain_commands}
+use Rattle.scene_turns.specs.Places.{kinds_of}
+use Rattle.scene_world.specs.Standing.{plain_of}
+use Rattle.scene_acts.specs.Acts.{seen_of}
+use Rattle.scene_frames.specs.Waiting.{waiting_in}
+use Rattle.scene_frames.proofs.WorldLemmas.{scene-stays, may-stays, stays-apart}
+use Rattle.scene_frames.proofs.commands.act_out.Goals as goal
+
+pub returns-in-Err-put_queues-clause-refused : goal.returns-in-Err-put_queues-clause-refused
+returns-in-Err-put_queues-clause-refused g c =
+    let ran = subst (λ queues. RunsTo c.args.frame 1 (plain_commands g.R.DocumentRules.part_of c.args.given.now ++ waiting_in g.R.DocumentRules.part_of queues) (plain_of (kinds_of g.R.Value.SceneValue.places g.R.DocumentRules.part_of g.R.Rules.columns) (seen_of c.args.world.now)) (plain_of (kinds_of g.R.Value.SceneValue.places g.R.DocumentRules.part_of g.R.Rules.columns) (seen_of c.act_both.new.world)) c.args.skips.now.items c.act_both.new.skips.items) c.as_slice.ensures.value c.in-Ok.ensures.ran in
+    inr (plain_of (kinds_of g.R.Value.SceneValue.places g.R.DocumentRules.part_of g.R.Rules.columns) (seen_of c.act_both.new.world), ran.0, ran.1, tt)
+
+pub look-requires : goal.look-requires
+look-requires g c = record { may = may-stays (kinds_of g.R.Value.SceneValue.places g.R.DocumentRules.part_of g.R.Rules.columns) g.met.R.Rules.apart c.args.places.now c.act_both.new.world c.put_queues.new.world c.in-Ok-put_queues.ensures.beside c.in-Ok.ensures.may }
+
+pub returns-clause-ran : goal.returns-clause-ran
+returns-clause-ran g c =
+    let ran = subst (λ queues. RunsTo c.args.frame 1 (plain_commands g.R.DocumentRules.part_of c.args.given.now ++ waiting_in g.R.DocumentRules.part_of queues) (plain_of (kinds_of g.R.Value.SceneValue.places g.R.DocumentRules.part_of g.R.Rules.columns) (seen_of c.args.world.now)) (plain_of (kinds_of g.R.Value.SceneValue.places g.R.DocumentRules.part_of g.R.Rules.columns) (seen_of c.act_both.new.world)) c.args.skips.now.items c.act_both.new.skips.items) c.as_slice.ensures.value c.in-Ok.ensures.ran in
+    on_ok_weaker c.look.result
+    (λ none. subst (λ scene. RunsTo c.args.frame 1 (plain_commands g.R.DocumentRules.part_of c.args.given.now ++ waiting_in g.R.DocumentRules.part_of c.args.queues.items) (plain_of (kinds_of g.R.Value.SceneValue.places g.R.DocumentRules.part_of g.R.Rules.columns) (seen_of c.args.world.now)) scene c.args.skips.now.items c.act_both.new.skips.items)
+    (sym (scene-stays (kinds_of g.R.Value.SceneValue.places g.R.DocumentRules.part_of g.R.Rules.columns) g.met.R.Rules.apart c.args.places.now c.act_both.new.world c.put_queues.new.world c.in-Ok-put_queues.ensures.beside)) ran)
+    c.look.ensures.ok
+
+pub returns-clause-may : goal.returns-clause-may
+returns-clause-may g c =
+    on_ok_weaker c.look.result (λ none. may-stays (kinds_of g.R.Value.SceneValue.places g.R.DocumentRules.part_of g.R.Rules.columns) g.met.R.Rules.apart c.args.places.now c.act_both.new.world c.put_queues.new.world c.in-Ok-put_queues.ensures.beside c.in-Ok.ensures.may) c.look.ensures.ok
+
+pub returns-clause-apart : goal.returns-clause-apart
+returns-clause-apart g c =
+    on_ok_weaker c.look.result (λ none. stays-apart (kinds_of g.R.Value.SceneValue.places g.R.DocumentRules.part_of g.R.Rules.columns) g.met.R.Rules.apart c.args.places.now c.args.world.now c.act_both.new.world c.put_queues.new.world c.in-Ok.ensures.elsewhere c.in-Ok-put_queues.ensures.beside) c.look.ensures.ok
+
+pub returns-clause-refused : goal.returns-clause-refused
+returns-clause-refused g c =
+    let ran = subst (λ queues. RunsTo c.args.frame 1 (plain_commands g.R.DocumentRules.part_of c.args.given.now ++ waiting_in g.R.DocumentRules.part_of queues) (plain_of (kinds_of g.R.Value.SceneValue.places g.R.DocumentRules.part_of g.R.Rules.columns) (seen_of c.args.world.now)) (plain_of (kinds_of g.R.Value.SceneValue.places g.R.DocumentRules.part_of g.R.Rules.columns) (seen_of c.act_both.new.world)) c.args.skips.now.items c.act_both.new.skips.items) c.as_slice.ensures.value c.in-Ok.ensures.ran in
+    let there = subst (λ scene. RunsTo c.args.frame 1 (plain_commands g.R.DocumentRules.part_of c.args.given.now ++ waiting_in g.R.DocumentRules.part_of c.args.queues.items) (plain_of (kinds_of g.R.Value.SceneValue.places g.R.DocumentRules.part_of g.R.Rules.columns) (seen_of c.args.world.now)) scene c.args.skips.now.items c.act_both.new.skips.items)
+    (sym (scene-stays (kinds_of g.R.Value.SceneValue.places g.R.DocumentRules.part_of g.R.Rules.columns) g.met.R.Rules.apart c.args.places.now c.act_both.new.world c.put_queues.new.world c.in-Ok-put_queues.ensures.beside)) ran in
+    IfErr-weaker c.look.result _ _ (λ cause gone. inr (plain_of (kinds_of g.R.Value.SceneValue.places g.R.DocumentRules.part_of g.R.Rules.columns) (seen_of c.put_queues.new.world), there.0, there.1, gone)) c.look.ensures.refused
