@@ -124,12 +124,28 @@ pub record CommandsAccepted (book : Book) (limit : ℕ) (commands : List Command
   pub played_on : play 1 commands scene ≡ played after places
   pub none_gone : first_gone book after ≡ None
 
+-- among commands is a spawn that is to be done when those before it are: its references live, and an id is left for it
+pub record ComesToSpawn (commands : List Command) (scene : PlainScene) : Type 0 where
+  pub before : List Command
+  pub parts : List (Name × Part)
+  pub after : List Command
+  pub are : commands ≡ before ++ spawn parts ∷ after
+  pub mid : PlainScene
+  pub places : List ℕ
+  pub played_on : play 1 before scene ≡ played mid places
+  pub made : PlainScene
+  pub to_be_done : apply (spawn parts) mid ≡ changed made
+
 -- Commands are refused for this cause: too many are told before the first runs, then a spawn that finds no id, then, when all
--- are done, the least id that holds a reference that is gone; want of memory says nothing, and there is no other cause.
+-- are done, the least id that holds a reference that is gone. Where the entities of a world have limits, a spawn that is to be done may
+-- find no index, or no birth left for its index. Want of memory says nothing, and there is no other cause.
 abbrev pub CommandsRefused : Book → ℕ → List Command → PlainScene → FrameRefusal → Type 0
 CommandsRefused book limit commands scene cause = Says (record {
   system = λ position text. ⊥;
   gone = λ id. (after : PlainScene) × (places : List ℕ) × (length commands ≤ limit) × (play 1 commands scene ≡ played after places) × (first_gone book after ≡ Some id);
   ids = (length commands ≤ limit) × (play 1 commands scene ≡ spent);
+  indices = (length commands ≤ limit) × ComesToSpawn commands scene;
+  generations = (length commands ≤ limit) × ComesToSpawn commands scene;
+  threads = ⊥;
   commands = limit < length commands;
 }) cause

@@ -5,7 +5,7 @@ use Rattle.std.specs.List.{fold, flat_map}
 use Rattle.std.specs.Ordering.{nat_cmp}
 use Rattle.std.specs.BTreeMap.{insert_entry}
 use Rattle.scene_rules.specs.declared.refusals.FrameRefusal.{FrameRefusal}
-use Rattle.scene_rules.specs.declared.refusals.FrameRefusal.TheVariants.{GoneReference, IdsSpent, TooManyCommands}
+use Rattle.scene_rules.specs.declared.refusals.FrameRefusal.TheVariants.{GoneReference, IdsSpent, IndicesSpent, GenerationsSpent, TooManyCommands}
 use Rattle.scene_rules.specs.declared.refusals.Report.{Report}
 use Rattle.scene_rules.specs.declared.refusals.Skip.{Skip}
 use Rattle.scene_rules.specs.Rulebook.{Book, Command}
@@ -52,12 +52,15 @@ Accepts book limit frame scene after places = (mid : PlainScene) × (queues : Qu
 abbrev pub RefusesCommands : Book → ℕ → PlainFrame → PlainScene → FrameRefusal → Type 0
 RefusesCommands book limit frame scene cause = (mid : PlainScene) × (queues : Queues) × SystemsRun book frame.order scene mid queues × CommandsRefused book limit (all_commands frame queues) mid cause
 
--- a frame is refused with this cause: a system's, or one of the commands; a want of memory says nothing of the scene
+-- a frame is refused with this cause: a system's, or one of the commands; want of memory or of a thread says nothing of the scene
 abbrev pub Refuses : Book → ℕ → PlainFrame → PlainScene → FrameRefusal → Type 0
 Refuses book limit frame scene cause = Says (record {
   system = λ position text. SystemsRefuse book frame.order scene position text;
   gone = λ id. RefusesCommands book limit frame scene (GoneReference id);
   ids = RefusesCommands book limit frame scene IdsSpent;
+  indices = RefusesCommands book limit frame scene IndicesSpent;
+  generations = RefusesCommands book limit frame scene GenerationsSpent;
+  threads = Unit {0};
   commands = SystemsFill book frame.order scene ⊎ RefusesCommands book limit frame scene TooManyCommands;
 }) cause
 

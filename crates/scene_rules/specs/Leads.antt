@@ -22,7 +22,7 @@ FindsNoId place commands scene = (later : List Command) → play place (commands
 
 -- commands are refused for this cause: a spawn finds no id; want of memory says nothing, and there is no other cause
 abbrev pub RunRefused : ℕ → List Command → PlainScene → FrameRefusal → Type 0
-RunRefused place commands scene cause = Says (record { system = λ position text. ⊥; gone = λ id. ⊥; ids = FindsNoId place commands scene; commands = ⊥ }) cause
+RunRefused place commands scene cause = Says (record { system = λ position text. ⊥; gone = λ id. ⊥; ids = FindsNoId place commands scene; indices = ⊥; generations = ⊥; commands = ⊥; threads = ⊥ }) cause
 
 -- commands of which the first has a place lead from a scene to another, and their skips are put behind those before
 abbrev pub RunsTo : ℕ → ℕ → List Command → PlainScene → PlainScene → List Skip → List Skip → Type 0

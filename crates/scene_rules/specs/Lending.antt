@@ -84,6 +84,9 @@ StepIsRefused book system scene cause = Says (record {
   system = λ position text. (position ≡ system.position) × StepRefuses book system scene text;
   gone = λ id. ⊥;
   ids = ⊥;
+  indices = ⊥;
+  generations = ⊥;
+  threads = ⊥;
   commands = (commands : List Command) × StepFills book system scene commands;
 }) cause
 
