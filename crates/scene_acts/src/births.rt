@@ -83,7 +83,7 @@ fn refusal_of(error: Error) -> FrameRefusal
 /// Brings the next entity of a world to life.
 ///
 /// Errors: `IndicesSpent`; `GenerationsSpent`; `Memory`.
-fn bring_to_life<R: Rules>(world: &mut World<R::Value>) -> Result<Entity, FrameRefusal>
+pub fn bring_to_life<R: Rules>(world: &mut World<R::Value>) -> Result<Entity, FrameRefusal>
     ensures ok { IfOk result (λ entity. ComesToLife
         (kinds_of ⟦<R::Value as SceneValue<R::Data>>⟧.places R.part_of R.columns) entity (seen_of world.old)
         (seen_of world.new)) }
@@ -147,7 +147,7 @@ fn give_id<R: Rules>(world: &mut World<R::Value>, entity: Entity) -> Result<u64,
 }
 
 /// Marks an index with an id. Errors: want of memory.
-fn mark<R: Rules>(world: &mut World<R::Value>, index: u32, given: u64) -> Result<(), AllocError>
+pub fn mark<R: Rules>(world: &mut World<R::Value>, index: u32, given: u64) -> Result<(), AllocError>
     requires { index < 16777216 }
     ensures { OnOk result (Marks (kinds_of ⟦<R::Value as SceneValue<R::Data>>⟧.places R.part_of R.columns)
         index given (seen_of world.old) (seen_of world.new)) }

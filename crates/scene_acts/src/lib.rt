@@ -9,7 +9,7 @@ mod lists;
 mod looking;
 mod parts;
 
-pub use births::spawn_entity;
+pub use births::{bring_to_life, mark, spawn_entity};
 pub use deaths::kill_entity;
 pub use gone::find_gone;
 pub use lists::{act, act_all};

@@ -1,3 +1,2 @@
 pub mod ColumnLemmas
-pub mod OpenLemmas
 pub mod RestLemmas

@@ -2,4 +2,3 @@ pub mod Holdings
 pub mod Owning
 pub mod OwningLaws
 pub mod Apart
-pub mod Openings

@@ -5,14 +5,17 @@ mod columns;
 pub mod course;
 mod datum;
 mod documents;
-pub mod opening;
+#[cfg(test)]
+mod loadings;
 #[cfg(test)]
 mod readings;
 #[cfg(test)]
 mod rows;
 mod rules;
+mod texts;
 mod values;
 
 pub use datum::Datum;
 pub use rules::{Idle, Owning};
+pub use texts::world_of;
 pub use values::{Owner, Rank, Value};

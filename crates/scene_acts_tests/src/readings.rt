@@ -1,8 +1,8 @@
 //! What the rules read of documents and write for them, and how their global and their system stand in a world.
 use crate::datum::Datum;
-use crate::opening::open_world;
 use crate::rules::{Idle, Owning};
 use crate::values::Value;
+use scene_loading::open_world;
 use scene_rules::{DocumentRules, Queue, ReadError};
 use scene_stores::Store;
 use scene_turns::{Placed, Rules, SceneValue};

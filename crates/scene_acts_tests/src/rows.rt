@@ -2,8 +2,8 @@
 use crate::course::Answer::{Done, Gone, Nobody, Nothing, Number, Refused, Skipped};
 use crate::course::Step::{Demote, Free, Kill, Own, OwnerOf, Promote, RankOf, Spawn};
 use crate::course::{Answer, Refusal, Step, runs};
-use crate::opening::open_world;
 use crate::rules::Owning;
+use scene_loading::open_world;
 use scene_stores::Store;
 use std::alloc::Global;
 

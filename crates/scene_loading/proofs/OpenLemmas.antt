@@ -1,7 +1,7 @@
 -- Worlds in which nobody lives yet are ones in which commands may be carried out.
 use Rattle.std.proofs.Common.{◌≡◌, ◌<◌, ℕ, Bool, true, false, cond, List, [], ◌∷◌, filter, Option, Some, None, is_some, refl, ap, sym, ◌∙◌, subst}
 use Rattle.std.specs.Prelude.{option_map, IsSome, All, option_and_then}
-use Rattle.std.specs.Option.{option_flatten, unwrap_or}
+use Rattle.std.specs.Option.{option_flatten, option_map_or, unwrap_or}
 use Rattle.std.specs.FinMap as slots
 use Rattle.std.specs.FinSet as set
 use Rattle.std.specs.Ordering.{nat_cmp}
@@ -12,7 +12,6 @@ use Rattle.std.proofs.lemmas.List.Elements.{All-nil}
 use Rattle.shred_world.specs.declared.resource_id.ResourceId.{ResourceId}
 use Rattle.shred_world.specs.ResourceIds.{same_id}
 use Rattle.shred_world.specs.Worlds.{Slots, value_at}
-use Rattle.shred_world.specs.Bundles.{readable, slot_of}
 use Rattle.shred_world.proofs.CallerLemmas.{ids_total, get-insert_here}
 use Rattle.specs_entity.specs.Births.{living, living_of, persistent_at, none_born}
 use Rattle.specs_markers.specs.Simple.{noted_under, none_noted}
@@ -22,20 +21,13 @@ use Rattle.scene_rules.specs.Scenes.{PlainScene}
 use Rattle.scene_world.specs.Stored.{part_under}
 use Rattle.scene_world.specs.Rolls.{IsRoll, part_in, ref_to, index_of, index_if, ids_in}
 use Rattle.scene_world.specs.Standing.{Sight, Kinds, roll_of, column_of, value_of, plain_of}
-use Rattle.scene_world.specs.Lent.{entities, markers, allocator, parts, value, StandApart}
+use Rattle.scene_world.specs.Lent.{entities, markers, allocator, parts, value, queue, StandApart}
 use Rattle.scene_turns.specs.Places.{Places, Columns, kinds_of}
 use Rattle.scene_turns.specs.Putting.{Registers}
 use Rattle.scene_acts.specs.Acts.{seen_of, MayAct}
-use Rattle.scene_acts_tests.specs.Openings.{without_entities}
-
--- what can be read of a world is what it holds
-seen-value : {V : Type 0} (w : Slots V) (id : ResourceId) → seen_of w id ≡ value_at w id
-seen-value {V} w id = by (slots.get w id)
-  where
-    by : (slot : Option (Option V)) → readable (slot_of slot) ≡ option_flatten slot
-    by None = refl
-    by (Some None) = refl
-    by (Some (Some v)) = refl
+use Rattle.scene_acts.proofs.CallerLemmas.{seen-value}
+use Rattle.scene_loading.specs.Openings.{without_entities}
+use Rattle.scene_loading.specs.Becoming.{IsQuiet}
 
 -- a list of which none is kept
 none-kept : {A : Type 0} (keeps : A → Bool) (xs : List A) → ((x : A) → keeps x ≡ false) → filter keeps xs ≡ []
@@ -146,6 +138,16 @@ module _ {V D : Type 0} (places : Places V D) (part_of : D → Part) (columns : 
       ∙ kept _ places.markers_id (columns.global_id name) marked (apart (value name) markers known refl)
       ∙ kept w places.entities_id (columns.global_id name) born (apart (value name) entities known refl))
       ∙ bare (columns.global_id name)
+
+  -- no queue has commands
+  pub open-quiet : Registers columns seated later → ((id : ResourceId) → value_at w id ≡ None) → IsQuiet (kinds_of places part_of columns) later
+  open-quiet registers bare position =
+      ap (λ held. option_map_or (kinds_of places part_of columns).queued held [])
+      (passes registers (places.queue_id position) (λ kind known. apart (queue position) (parts kind) refl known)
+      ∙ ap option_flatten (kept _ places.allocator_id (places.queue_id position) noting (apart (queue position) allocator refl refl)
+      ∙ kept _ places.markers_id (places.queue_id position) marked (apart (queue position) markers refl refl)
+      ∙ kept w places.entities_id (places.queue_id position) born (apart (queue position) entities refl refl))
+      ∙ bare (places.queue_id position))
 
   -- the scene that stands in such a world is the one in which nobody lives
   pub open-scene : Registers columns seated later → ((id : ResourceId) → value_at w id ≡ None) → (indices generations next : ℕ) → places.births born ≡ Some (none_born indices generations)

@@ -3,7 +3,8 @@ ghost use Rattle.std.specs.Prelude.{◌≡◌, IfOk};
 ghost use Rattle.scene_world.specs.Standing.{plain_of};
 ghost use Rattle.scene_turns.specs.Places.{kinds_of};
 ghost use Rattle.scene_acts.specs.Acts.{MayAct, seen_of};
-ghost use Rattle.scene_acts_tests.specs.Openings.{without_entities};
+ghost use Rattle.scene_loading.specs.Openings.{without_entities};
+ghost use Rattle.scene_loading.specs.Becoming.{IsQuiet};
 
 use scene_stores::{SceneMarkerAllocator, Store, no_markers};
 use scene_turns::{Rules, SceneValue};
@@ -11,8 +12,9 @@ use shred_world::World;
 use specs_entity::EntitiesRes;
 use std::alloc::{AllocError, Global};
 
-/// A world of some rules in which nobody lives, with these limits of its entities and this next id. Errors: want of
-/// memory.
+/// A world of some rules in which nobody lives, with these limits of its entities and this next id, and without queues.
+///
+/// Errors: want of memory.
 pub fn open_world<R: Rules>(
     store: Store,
     limits: (u32, u32),
@@ -22,6 +24,7 @@ pub fn open_world<R: Rules>(
 where
     R::Value: Drop,
     ensures may { IfOk result (MayAct (kinds_of ⟦<R::Value as SceneValue<R::Data>>⟧.places R.part_of R.columns)) }
+    ensures quiet { IfOk result (IsQuiet (kinds_of ⟦<R::Value as SceneValue<R::Data>>⟧.places R.part_of R.columns)) }
     ensures scene { IfOk result (λ world. plain_of
         (kinds_of ⟦<R::Value as SceneValue<R::Data>>⟧.places R.part_of R.columns) (seen_of world)
         ≡ without_entities next) }

@@ -1,0 +1,10 @@
+use Rattle.std.proofs.Common.{map, drop}
+use Rattle.scene_rules.specs.Lent.{texts}
+use Rattle.scene_draft.specs.DraftViews.{named}
+use Rattle.scene_loading.specs.Entries.{with_list}
+use Rattle.scene_turns.specs.Places.{kinds_of}
+use Rattle.scene_loading.specs.Becoming.{Becomes}
+use Rattle.scene_loading.proofs.parts.put_list.Given as goal
+
+abbrev pub invariant-loop-index : goal.invariant-loop-index
+invariant-loop-index g l = Becomes (kinds_of g.R.Value.SceneValue.places g.R.DocumentRules.part_of g.R.Rules.columns) (with_list l.id (map (named g.R.DocumentRules.part_of (texts l.names)) (drop l.index l.parts))) l.initial.world l.world

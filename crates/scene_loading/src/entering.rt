@@ -1,0 +1,91 @@
+//! Entities that begin to live in a world under ids of their own.
+ghost use Rattle.std.specs.Prelude.{◌≡◌, [], ◌∷◌, map, OnOk};
+ghost use Rattle.scene_world.specs.Standing.{plain_of};
+ghost use Rattle.scene_turns.specs.Places.{kinds_of};
+ghost use Rattle.scene_acts.specs.Acts.{seen_of, MayAct};
+ghost use Rattle.scene_loading.specs.Entries.{with_entities, HasNoParts};
+ghost use Rattle.scene_loading.specs.Becoming.{Becomes};
+ghost use Rattle.scene_loading.specs.Notes.{NotesUnder};
+
+use scene_acts::{bring_to_life, entity_under, mark};
+use scene_draft::EntityDraft;
+use scene_turns::{Rules, SceneValue};
+use shred_world::World;
+use specs_entity::Entity;
+use specs_markers::MarkerAllocator;
+use std::alloc::AllocError;
+
+/// Notes an entity under an id. Errors: want of memory, and where the id is 18,446,744,073,709,551,615.
+fn note_under<R: Rules>(
+    world: &mut World<R::Value>,
+    entity: Entity,
+    given: u64,
+) -> Result<(), AllocError>
+    ensures { OnOk result (NotesUnder (kinds_of ⟦<R::Value as SceneValue<R::Data>>⟧.places R.part_of R.columns)
+        entity given (seen_of world.old) (seen_of world.new)) }
+{
+    let id = <R::Value as SceneValue<R::Data>>::allocator_id();
+    let Some(value) = world.take_raw(id) else {
+        return Err(AllocError);
+    };
+    match <R::Value as SceneValue<R::Data>>::unwrap_allocator(value) {
+        Ok(mut allocator) => {
+            let outcome = allocator.allocate(entity, Some(given));
+            world.put_back(
+                id,
+                <R::Value as SceneValue<R::Data>>::wrap_allocator(allocator),
+            );
+            match outcome {
+                Ok(_) => Ok(()),
+                Err(error) => {
+                    drop(error);
+                    Err(AllocError)
+                }
+            }
+        }
+        Err(other) => {
+            world.put_back(id, other);
+            Err(AllocError)
+        }
+    }
+}
+
+/// Lets an entity begin to live under an id, in a world without parts.
+///
+/// Errors: want of memory, where somebody lives under the id, and where the entities of the world are at their limits.
+fn enter_entity<R: Rules>(world: &mut World<R::Value>, id: u64) -> Result<(), AllocError>
+    requires may { MayAct (kinds_of ⟦<R::Value as SceneValue<R::Data>>⟧.places R.part_of R.columns) world.old }
+    requires bare { HasNoParts (plain_of
+        (kinds_of ⟦<R::Value as SceneValue<R::Data>>⟧.places R.part_of R.columns) (seen_of world.old)) }
+    ensures { OnOk result (Becomes (kinds_of ⟦<R::Value as SceneValue<R::Data>>⟧.places R.part_of R.columns)
+        (with_entities (id ∷ [])) world.old world.new) }
+{
+    if entity_under::<R>(world, id).is_some() {
+        return Err(AllocError);
+    }
+    let entity = match bring_to_life::<R>(world) {
+        Ok(entity) => entity,
+        Err(_) => return Err(AllocError),
+    };
+    note_under::<R>(world, entity, id)?;
+    mark::<R>(world, entity.id(), id)
+}
+
+/// Lets entities begin to live under the ids that a document says, in a world without parts.
+///
+/// Errors: those of each of them.
+pub(crate) fn enter_entities<R: Rules>(
+    world: &mut World<R::Value>,
+    entities: &[EntityDraft<R::Data>],
+) -> Result<(), AllocError>
+    requires may { MayAct (kinds_of ⟦<R::Value as SceneValue<R::Data>>⟧.places R.part_of R.columns) world.old }
+    requires bare { HasNoParts (plain_of
+        (kinds_of ⟦<R::Value as SceneValue<R::Data>>⟧.places R.part_of R.columns) (seen_of world.old)) }
+    ensures { OnOk result (Becomes (kinds_of ⟦<R::Value as SceneValue<R::Data>>⟧.places R.part_of R.columns)
+        (with_entities (map (λ entity. entity.id) entities.now)) world.old world.new) }
+{
+    for index in (0..entities.len()).rev() {
+        enter_entity::<R>(world, entities[index].id)?;
+    }
+    Ok(())
+}
