@@ -2,7 +2,7 @@
 ghost use Rattle.std.specs.Prelude.{◌≡◌, Ok, MatchResult};
 ghost use Rattle.serde_json.specs.View.{view};
 ghost use Rattle.scene_draft.specs.Drafts.{Draft};
-ghost use Rattle.scene_draft.specs.DraftViews.{IsDraft};
+ghost use Rattle.scene_draft.specs.DraftViews.{IsDraft, AreMade};
 ghost use Rattle.scene_document.specs.Documents.{document_from};
 ghost use Rattle.scene_document.specs.Loading.{IsLoaded, IsNotLoaded};
 
@@ -26,7 +26,8 @@ pub fn read_document<'a, R: DocumentRules>(
     ensures { MatchResult result
         (λ draft. (plain : Draft)
         × (document_from (R.book rules.now) limits.indices (view value.now) ≡ Ok plain)
-        × IsDraft R.part_of R.global_of R.kind_of R.config_of (R.book rules.now) plain draft)
+        × IsDraft R.part_of R.global_of R.kind_of R.config_of (R.book rules.now) plain draft
+        × AreMade R.declared R.said_time (R.made_by rules.now) draft.entries.items)
         (IsNotLoaded (R.book rules.now) limits.indices (view value.now)) }
 {
     if has_float(value) {

@@ -14,15 +14,15 @@ use Rattle.std.proofs.lemmas.Bool.Decides.{same_from_decides}
 use Rattle.std.proofs.lemmas.List.{map-append}
 use Rattle.scene_draft.specs.declared.draft.DocumentDraft.{DocumentDraft}
 use Rattle.scene_rules.specs.Parts.{Json, Name, Part, is_among, place_of, name_at}
-use Rattle.scene_rules.specs.Rulebook.{Book, Facts}
+use Rattle.scene_rules.specs.Rulebook.{Book, Facts, Access}
 use Rattle.scene_draft.specs.Drafts.{Draft, DraftPart, DraftEntity, DraftEntry, system, DraftCommand, only_member, each, part_under, read_or, names_from, anything, members_list, keys_within, document_keys, whole, whole_32, entities_from, globals_from, entries_from, commands_from, global_under, facts_in_shape, system_found, draft_found, draft_from}
 use Rattle.scene_draft.specs.Drafts.{stores}
-use Rattle.scene_draft.specs.DraftViews.{config_seen, named, plain_entity, plain_draft, plain_list, IsPlaced, IsAdmitted, IsOfBook, IsOther, Differ, AreApart, IsReadable, IsDraft}
+use Rattle.scene_draft.specs.DraftViews.{config_seen, named, plain_entity, plain_draft, plain_list, IsPlaced, IsAdmitted, IsOfBook, EntryIsMade, AreMade, IsOther, Differ, AreApart, IsReadable, IsDraft}
 use Rattle.serde_json.specs.declared.value.Value.{Value}
 use Rattle.serde_json.specs.Data.{null, boolean, number, string, array, object, Members}
 use Rattle.serde_json.specs.Find.{as_str, as_bool, as_object}
 use Rattle.serde_json.specs.View.{view}
-use Rattle.scene_draft.specs.ShapeWords.{items_seen, members_seen, draft_in, IsPart, IsEntity, IsAsked, IsKnownAt, IsReadUpTo, IsOtherKey, KeysDiffer}
+use Rattle.scene_draft.specs.ShapeWords.{items_seen, members_seen, draft_in, IsPart, IsEntity, IsEntry, IsAsked, IsKnownAt, IsReadUpTo, IsOtherKey, KeysDiffer}
 
 -- ---- names
 
@@ -322,18 +322,18 @@ reads_draft : (book : Book) (next entities globals systems frames commands worke
     → draft_found book next entities globals systems frames commands workers store ≡ Some (record { next = count; entities = listed; globals = valued; entries = entries; frames = asked; commands = lists; workers = hands; store = kept })
 reads_draft book next entities globals systems frames commands workers store count asked hands listed valued entries lists kept a b d e f g h i = rw (← a, b, d, e, ← f, g, ← h, i)
 
-module _ {D G S : Type 0} (part_of : D → Part) (global_of : G → Json) (kind_of : S → Name) (config_of : S → Json) (book : Book) (back : (name : Name) (json value : Json) → book.read_global name json ≡ Some value → book.read_global name value ≡ Some value) where
+module _ {D G S : Type 0} (part_of : D → Part) (global_of : G → Json) (kind_of : S → Name) (config_of : S → Json) (declared : S → Access) (said_time : S → ℕ) (made_by : S → Type 0) (book : Book) (back : (name : Name) (json value : Json) → book.read_global name json ≡ Some value → book.read_global name value ≡ Some value) where
   -- the code's draft is the one of what was found
   pub draft_made : (next entities globals systems frames commands workers store : Option Json) (draft : DocumentDraft D G S)
       → Some draft.next ≡ option_and_then whole next
       → ((option_and_then (entities_from book) entities ≡ Some (map (plain_entity part_of book.part_names) draft.entities.items)) × All (IsEntity part_of book) draft.entities.items)
       → ((read_or [] (globals_from book) globals ≡ Some (map (named global_of book.global_names) draft.globals.items)) × All (IsPlaced (length book.global_names)) draft.globals.items)
-      → ((read_or [] (entries_from book) systems ≡ Some (map plain_draft draft.entries.items)) × All (IsOfBook kind_of config_of book) draft.entries.items)
+      → ((read_or [] (entries_from book) systems ≡ Some (map plain_draft draft.entries.items)) × All (IsEntry kind_of config_of declared said_time made_by book) draft.entries.items)
       → Some draft.frames ≡ read_or 0 whole_32 frames
       → ((read_or [] (commands_from book) commands ≡ Some (map (plain_list part_of) draft.commands.items)) × All (λ list. All (IsAsked part_of book) list.items) draft.commands.items)
       → Some draft.workers ≡ read_or 1 whole workers
       → Some draft.store.now ≡ read_or (codes "vec") as_str store
-      → (plain : Draft) × (draft_found book next entities globals systems frames commands workers store ≡ Some plain) × IsDraft part_of global_of kind_of config_of book plain draft
+      → (plain : Draft) × (draft_found book next entities globals systems frames commands workers store ≡ Some plain) × IsDraft part_of global_of kind_of config_of book plain draft × AreMade declared said_time made_by draft.entries.items
   draft_made next entities globals systems frames commands workers store draft is_next are_entities are_globals are_entries are_frames are_commands are_workers is_store =
       let plain : Draft = record { next = draft.next; entities = map (plain_entity part_of book.part_names) draft.entities.items; globals = map (named global_of book.global_names) draft.globals.items; entries = map plain_draft draft.entries.items; frames = draft.frames; commands = map (plain_list part_of) draft.commands.items; workers = draft.workers; store = draft.store.now } in (
         plain,
@@ -351,7 +351,8 @@ module _ {D G S : Type 0} (part_of : D → Part) (global_of : G → Json) (kind_
           globals_placed = are_globals.1;
           admitted = All-weaker (IsEntity part_of book) (λ entity. All (IsAdmitted part_of book) entity.parts.items) (λ entity parts. All-weaker (IsPart part_of book) (IsAdmitted part_of book) (λ part is. is.admitted) entity.parts.items parts) draft.entities.items are_entities.1;
           readable = globals_readable book back globals (map (named global_of book.global_names) draft.globals.items) are_globals.0;
-          made = are_entries.1;
+          made = All-weaker (IsEntry kind_of config_of declared said_time made_by book) (IsOfBook kind_of config_of book) (λ entry is. is.of_book) draft.entries.items are_entries.1;
           lawful = are_commands.1;
         },
+        All-weaker (IsEntry kind_of config_of declared said_time made_by book) (EntryIsMade declared said_time made_by) (λ entry is. is.made_so) draft.entries.items are_entries.1,
       )

@@ -16,7 +16,7 @@ use Rattle.scene_draft.specs.declared.draft.CommandDraft.{CommandDraft}
 use Rattle.scene_draft.specs.declared.draft.CommandDraft.TheVariants as asked
 use Rattle.scene_draft.specs.declared.draft.DocumentDraft.{DocumentDraft}
 use Rattle.scene_rules.specs.Parts.{Json, Name, Part, is_among, name_at}
-use Rattle.scene_rules.specs.Rulebook.{Book, Facts, known}
+use Rattle.scene_rules.specs.Rulebook.{Book, Facts, Access, known}
 use Rattle.scene_rules.specs.Lawful.{IsKnownPart}
 use Rattle.scene_rules.specs.Queues.{plain_entry}
 use Rattle.scene_rules.specs.Lent.{texts, access_of}
@@ -81,6 +81,26 @@ IsMadeAs kind_of config_of book kind config (Some made) = IsMadeOf kind_of confi
 abbrev pub IsOfBook : {S : Type 0} → (S → Name) → (S → Json) → Book → EntryDraft S → Type 0
 IsOfBook kind_of config_of book entry.Barrier = Unit {0}
 IsOfBook kind_of config_of book (entry.System draft) = IsMadeAs kind_of config_of book draft.kind.now (config_seen (seen draft.config)) draft.made
+
+-- rules made a system, and it says of itself what its draft says
+pub record IsMadeBy {S : Type 0} (declared : S → Access) (said_time : S → ℕ) (made_by : S → Type 0) (draft : MadeDraft S) : Type 0 where
+  pub made_so : made_by draft.system
+  pub access : declared draft.system ≡ access_of draft.accessor
+  pub time : said_time draft.system ≡ units_of draft.time
+
+-- so they did where the kind is known
+abbrev pub IsMadeIfKnown : {S : Type 0} → (S → Access) → (S → ℕ) → (S → Type 0) → Option (MadeDraft S) → Type 0
+IsMadeIfKnown declared said_time made_by None = Unit {0}
+IsMadeIfKnown declared said_time made_by (Some draft) = IsMadeBy declared said_time made_by draft
+
+-- so they did the system of an entry
+abbrev pub EntryIsMade : {S : Type 0} → (S → Access) → (S → ℕ) → (S → Type 0) → EntryDraft S → Type 0
+EntryIsMade declared said_time made_by entry.Barrier = Unit {0}
+EntryIsMade declared said_time made_by (entry.System draft) = IsMadeIfKnown declared said_time made_by draft.made
+
+-- so they did those of a list of entries
+abbrev pub AreMade : {S : Type 0} → (S → Access) → (S → ℕ) → (S → Type 0) → List (EntryDraft S) → Type 0
+AreMade declared said_time made_by entries = All (EntryIsMade declared said_time made_by) entries
 
 -- a part under its kind, where that is known
 abbrev pub plain_part : {D : Type 0} → (D → Part) → Option (Bor Name × D) → DraftPart

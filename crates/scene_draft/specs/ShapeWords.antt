@@ -9,11 +9,13 @@ use Rattle.serde_json.specs.View.{items_view, members_view}
 use Rattle.scene_rules.specs.declared.rules.ReadError.{ReadError}
 use Rattle.scene_rules.specs.declared.rules.ReadError.TheVariants.{Shape}
 use Rattle.scene_draft.specs.declared.draft.EntityDraft.{EntityDraft}
+use Rattle.scene_draft.specs.declared.draft.MadeDraft.{MadeDraft}
+use Rattle.scene_draft.specs.declared.draft.EntryDraft.{EntryDraft}
 use Rattle.scene_draft.specs.declared.draft.CommandDraft.{CommandDraft}
 use Rattle.scene_rules.specs.Parts.{Json, Name, Part, is_among, name_at}
-use Rattle.scene_rules.specs.Rulebook.{Book}
+use Rattle.scene_rules.specs.Rulebook.{Book, Access}
 use Rattle.scene_draft.specs.Drafts.{Draft, DraftEntry, items_list, members_list, each, system_found, draft_found}
-use Rattle.scene_draft.specs.DraftViews.{IsPlaced, IsAdmitted, plain_asked, IsLawfulDraft}
+use Rattle.scene_draft.specs.DraftViews.{IsPlaced, IsAdmitted, IsMadeAs, IsOfBook, IsMadeIfKnown, EntryIsMade, plain_asked, IsLawfulDraft}
 
 -- the items of a list of values
 abbrev pub items_seen : List Value → List Json
@@ -49,6 +51,16 @@ IsEntity part_of book entity = All (IsPart part_of book) entity.parts.items
 -- a command asks for what the rules know
 abbrev pub IsAsked : {D : Type 0} → (D → Part) → Book → CommandDraft D → Type 0
 IsAsked part_of book draft = IsLawfulDraft book (plain_asked part_of draft)
+
+-- a system that was made, where its kind is known, is the rules' of a kind with a configuration, and says what its draft says
+pub record IsRuled {S : Type 0} (kind_of : S → Name) (config_of : S → Json) (declared : S → Access) (said_time : S → ℕ) (made_by : S → Type 0) (book : Book) (kind : Name) (config : Json) (made : Option (MadeDraft S)) : Type 0 where
+  pub of_book : IsMadeAs kind_of config_of book kind config made
+  pub made_so : IsMadeIfKnown declared said_time made_by made
+
+-- so is the system of an entry
+pub record IsEntry {S : Type 0} (kind_of : S → Name) (config_of : S → Json) (declared : S → Access) (said_time : S → ℕ) (made_by : S → Type 0) (book : Book) (entry : EntryDraft S) : Type 0 where
+  pub of_book : IsOfBook kind_of config_of book entry
+  pub made_so : EntryIsMade declared said_time made_by entry
 
 -- of a list, what was read so far, each with what holds of it, and what is left to read
 pub record IsReadUpTo {V X Y : Type 0} (read : X → Option Y) (meaning : V → Y) (good : V → Type 0) (all left : List X) (done : List V) : Type 0 where

@@ -2,7 +2,7 @@
 ghost use Rattle.std.specs.Prelude.{◌≡◌, None, Some, MatchResult};
 ghost use Rattle.serde_json.specs.View.{view};
 ghost use Rattle.scene_draft.specs.Drafts.{Draft, draft_from, document_keys, keys_within};
-ghost use Rattle.scene_draft.specs.DraftViews.{IsDraft};
+ghost use Rattle.scene_draft.specs.DraftViews.{IsDraft, AreMade};
 ghost use Rattle.scene_draft.specs.ShapeWords.{members_seen};
 ghost use Rattle.scene_rules.specs.declared.rules.ReadError.TheVariants.{Shape};
 
@@ -32,7 +32,8 @@ pub fn read_draft<'a, R: DocumentRules>(
 ) -> Result<DocumentDraft<'a, R::Data, R::Global, R::System>, ReadError>
     ensures { MatchResult result
         (λ draft. (plain : Draft) × (draft_from (R.book rules.now) (view value.now) ≡ Some plain)
-        × IsDraft R.part_of R.global_of R.kind_of R.config_of (R.book rules.now) plain draft)
+        × IsDraft R.part_of R.global_of R.kind_of R.config_of (R.book rules.now) plain draft
+        × AreMade R.declared R.said_time (R.made_by rules.now) draft.entries.items)
         (λ error. error ≡ Shape → draft_from (R.book rules.now) (view value.now) ≡ None) }
 {
     let Some(members) = value.as_object() else {

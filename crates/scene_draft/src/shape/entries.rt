@@ -3,8 +3,8 @@ ghost use Rattle.std.specs.Prelude.{[], All, map, option_map, option_and_then};
 ghost use Rattle.std.specs.Prelude.{◌≡◌};
 ghost use Rattle.serde_json.specs.View.{view};
 ghost use Rattle.scene_draft.specs.Drafts.{each, keys_within, entry_keys, entry_from, entries_from, facts_in_shape, system, read_or};
-ghost use Rattle.scene_draft.specs.DraftViews.{seen, config_seen, facts_of, plain_system, plain_draft, IsMadeAs, IsOfBook};
-ghost use Rattle.scene_draft.specs.ShapeWords.{items_seen, members_seen, entry_in, Reads};
+ghost use Rattle.scene_draft.specs.DraftViews.{seen, config_seen, facts_of, plain_system, plain_draft};
+ghost use Rattle.scene_draft.specs.ShapeWords.{items_seen, members_seen, entry_in, Reads, IsRuled, IsEntry};
 
 use crate::draft::{EntryDraft, MadeDraft, SystemDraft};
 use crate::shape::fields::{has_only_keys, read_flag, read_name, read_names, read_text, says_true};
@@ -22,7 +22,8 @@ pub(crate) fn read_entries<'a, R: DocumentRules>(
 ) -> Result<Vec<EntryDraft<'a, R::System>>, ReadError>
     ensures { Reads
         (λ entries. map plain_draft entries.items)
-        (λ entries. All (IsOfBook R.kind_of R.config_of (R.book rules.now)) entries.items)
+        (λ entries. All (IsEntry R.kind_of R.config_of R.declared R.said_time (R.made_by rules.now)
+        (R.book rules.now)) entries.items)
         (read_or [] (entries_from (R.book rules.now)) (seen found.entry)) result }
 {
     match found {
@@ -41,7 +42,8 @@ fn read_each_entry<'a, R: DocumentRules>(
 ) -> Result<Vec<EntryDraft<'a, R::System>>, ReadError>
     ensures { Reads
         (λ entries. map plain_draft entries.items)
-        (λ entries. All (IsOfBook R.kind_of R.config_of (R.book rules.now)) entries.items)
+        (λ entries. All (IsEntry R.kind_of R.config_of R.declared R.said_time (R.made_by rules.now)
+        (R.book rules.now)) entries.items)
         (each (entry_from (R.book rules.now)) (items_seen values.now)) result }
 {
     let mut entries = Vec::new(alloc);
@@ -61,7 +63,7 @@ fn read_entry<'a, R: DocumentRules>(
     value: &'a Value,
 ) -> Result<EntryDraft<'a, R::System>, ReadError>
     ensures { Reads plain_draft
-        (IsOfBook R.kind_of R.config_of (R.book rules.now))
+        (IsEntry R.kind_of R.config_of R.declared R.said_time (R.made_by rules.now) (R.book rules.now))
         (entry_from (R.book rules.now) (view value.now)) result }
 {
     let Some(members) = value.as_object() else {
@@ -102,7 +104,8 @@ fn read_system<'a, R: DocumentRules>(
 ) -> Result<SystemDraft<'a, R::System>, ReadError>
     ensures { Reads
         (λ draft. system (plain_system draft))
-        (λ draft. IsMadeAs R.kind_of R.config_of (R.book rules.now) draft.kind.now (config_seen (seen draft.config)) draft.made)
+        (λ draft. IsRuled R.kind_of R.config_of R.declared R.said_time (R.made_by rules.now) (R.book rules.now)
+        draft.kind.now (config_seen (seen draft.config)) draft.made)
         (entry_in (R.book rules.now) (view value.now)) result }
 {
     let Some(kind) = read_text(value.get("kind")) else {
@@ -139,7 +142,8 @@ fn make_system<R: DocumentRules>(
 ) -> Result<Option<MadeDraft<R::System>>, ReadError>
     ensures { Reads
         (λ made. option_map facts_of made)
-        (IsMadeAs R.kind_of R.config_of (R.book rules.now) kind.now (config_seen (seen found.entry)))
+        (IsRuled R.kind_of R.config_of R.declared R.said_time (R.made_by rules.now) (R.book rules.now) kind.now
+        (config_seen (seen found.entry)))
         (facts_in_shape ((R.book rules.now).system kind.now (config_seen (seen found.entry)))) result }
 {
     match found {
@@ -156,7 +160,8 @@ fn make_configured<R: DocumentRules>(
 ) -> Result<Option<MadeDraft<R::System>>, ReadError>
     ensures { Reads
         (λ made. option_map facts_of made)
-        (IsMadeAs R.kind_of R.config_of (R.book rules.now) kind.now (view config.now))
+        (IsRuled R.kind_of R.config_of R.declared R.said_time (R.made_by rules.now) (R.book rules.now) kind.now
+        (view config.now))
         (facts_in_shape ((R.book rules.now).system kind.now (view config.now))) result }
 {
     let Some(system) = rules.make_system(alloc, kind, config)? else {

@@ -18,4 +18,5 @@ returns g c =
       plain,
       ap (λ b. if b then Err NotWhole else of_shape indices (draft_from book json)) whole ∙ ap (of_shape indices) c.in-Ok.ensures.1 ∙ ap (unless_refused plain) passed,
       c.in-Ok.ensures.2,
+      c.in-Ok.ensures.3,
     )

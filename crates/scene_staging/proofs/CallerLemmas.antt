@@ -1,0 +1,2 @@
+-- What proofs of the crates above cite, and nothing else of these lemmas.
+pub use Rattle.scene_staging.proofs.StoodLemmas.{opened-scene, opened-stands, empty-commands}

@@ -1,0 +1,3 @@
+pub mod StagedLemmas
+pub mod StoodLemmas
+pub mod CallerLemmas
