@@ -13,9 +13,10 @@ use Rattle.scene_rules.specs.Rulebook.{Book, Command, spawn, kill, put, take}
 use Rattle.scene_rules.specs.Parts.{Name, Part, is_among}
 use Rattle.scene_rules.specs.Scenes.{PlainScene, PlainFrame, PartsStand, lives}
 use Rattle.scene_rules.specs.Lawful.{IsLawful}
-use Rattle.scene_rules.specs.Commands.{Played, played, spent, play, first_gone, skips_of, CommandsAccepted, CommandsRefused}
+use Rattle.specs_entity.specs.Births.{Births, IndicesAreSpent, GenerationsAreSpent}
+use Rattle.scene_rules.specs.Commands.{Played, played, spent, play, skips_of, ComesToSpawn, CommandsAccepted}
 use Rattle.scene_rules.specs.Leads.{CommandsLead, RunsTo, behind_all}
-use Rattle.scene_rules.specs.Frames.{Queues, SystemsRun, SystemsFill, Accepts, RefusesCommands, all_commands, by_place}
+use Rattle.scene_rules.specs.Frames.{Queues, SystemsRun, Refuses, all_commands}
 use Rattle.scene_rules.proofs.CallerLemmas.{behind_all-played, joined-to, finds_no_id, refused-join, IsBetween, apply-between, play-keeps}
 use Rattle.scene_world.specs.Rolls.{part_in}
 use Rattle.scene_world.specs.Standing.{Kinds, roll_of, column_of, plain_of, commands_of}
@@ -161,3 +162,28 @@ none-left kinds apart places w later empty stays others place = by (lives place 
     by : (b : Bool) → lives place places ≡ b → commands_of kinds (seen_of later) place ≡ []
     by true there = all-lives (λ one. commands_of kinds (seen_of later) one ≡ []) places place empty there
     by false none = waits-apart kinds apart places w later place stays none ∙ others place none
+
+-- a spawn that finds none is one that is to be done
+comes-to-spawn : {V : Type 0} (kinds : Kinds V) (limit : ℕ) (commands : List Command) (scene : PlainScene) (spent : Births → Type 0) → SpawnFindsNone kinds limit commands scene spent → (length commands ≤ limit) × ComesToSpawn commands scene
+comes-to-spawn kinds limit commands scene spent none = (none.within, record {
+  before = none.before;
+  parts = none.parts;
+  after = none.after;
+  are = none.are;
+  mid = plain_of kinds (seen_of none.between);
+  places = none.places;
+  played_on = lead-played 1 none.before scene (plain_of kinds (seen_of none.between)) none.places none.lead;
+  made = none.to_be_done.after;
+  to_be_done = none.to_be_done.is;
+})
+
+-- what refuses a frame in a world refuses it for the scene
+pub refused-plain : {V : Type 0} (kinds : Kinds V) (book : Book) (limit : ℕ) (frame : PlainFrame) (scene : PlainScene) (cause : FrameRefusal) → RefusedIn kinds book limit frame scene cause → Refuses book limit frame scene cause
+refused-plain kinds book limit frame scene (System position text) why = why
+refused-plain kinds book limit frame scene (GoneReference id) why = why
+refused-plain kinds book limit frame scene IdsSpent why = why
+refused-plain kinds book limit frame scene IndicesSpent why = (why.mid, why.queues, why.systems, comes-to-spawn kinds limit (all_commands frame why.queues) why.mid IndicesAreSpent why.none)
+refused-plain kinds book limit frame scene GenerationsSpent why = (why.mid, why.queues, why.systems, comes-to-spawn kinds limit (all_commands frame why.queues) why.mid GenerationsAreSpent why.none)
+refused-plain kinds book limit frame scene TooManyCommands why = why
+refused-plain kinds book limit frame scene Memory why = tt
+refused-plain kinds book limit frame scene Threads why = tt

@@ -2,3 +2,4 @@ pub mod QueueLemmas
 pub mod WorldLemmas
 pub mod CountLemmas
 pub mod CommandLemmas
+pub mod CallerLemmas

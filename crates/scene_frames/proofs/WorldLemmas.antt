@@ -13,11 +13,12 @@ use Rattle.shred_world.specs.Worlds.{Slots, value_at}
 use Rattle.shred_world.specs.Bundles.{readable, slot_of}
 use Rattle.shred_world.proofs.CallerLemmas.{ids_total, get-insert_here}
 use Rattle.scene_rules.specs.Parts.{Name, is_among}
-use Rattle.scene_rules.specs.Scenes.{lives}
+use Rattle.scene_rules.specs.Rulebook.{Book}
+use Rattle.scene_rules.specs.Scenes.{lives, IsProper}
 use Rattle.scene_rules.proofs.CallerLemmas.{same_scene, all_front, all_back}
 use Rattle.scene_world.specs.Stored.{Stored}
 use Rattle.scene_world.specs.Rolls.{Roll, IsRoll, ids_in, part_in}
-use Rattle.scene_world.specs.Standing.{Kinds, roll_of, column_in, column_of, plain_of, commands_of, IsWithin}
+use Rattle.scene_world.specs.Standing.{Kinds, roll_of, column_in, column_of, plain_of, commands_of, IsWithin, IsSceneWorld}
 use Rattle.scene_world.specs.Lent.{Place, entities, markers, allocator, parts, value, queue, id_of_place, is_known, same_place, StandApart}
 use Rattle.scene_world.proofs.CallerLemmas.{same-roll}
 use Rattle.scene_acts.specs.Acts.{seen_of, WasBorn, MayAct, StaysElsewhere}
@@ -93,6 +94,17 @@ module _ {V : Type 0} (kinds : Kinds V) (apart : StandApart kinds) where
       below = subst (λ roll. All (λ id. id < roll.noting.next) (ids_in roll)) (sym roll-stays) may.below;
       within = λ kind known. subst (λ roll. IsWithin kinds roll (column_of kinds (seen_of later) kind)) (sym roll-stays) (subst (IsWithin kinds (roll_of kinds (seen_of w))) (sym (column-stays kind known)) (may.within kind known));
       born = λ kind known index stored is. subst (λ (roll : Roll). All (WasBorn roll.births) stored.named) (sym roll-stays) (may.born kind known index stored (ap (λ column. column index) (sym (column-stays kind known)) ∙ is));
+    }
+
+    -- and a scene stands there as before
+    pub stands-stays : (book : Book) → IsSceneWorld kinds book (seen_of w) → IsSceneWorld kinds book (seen_of later)
+    stands-stays book stands = record {
+      entities = subst (λ held. IsSome (option_and_then kinds.births held)) (sym entities-stay) stands.entities;
+      markers = subst IsSome (sym markers-stay) stands.markers;
+      allocator = subst (λ held. IsSome (option_and_then kinds.noting held)) (sym allocator-stays) stands.allocator;
+      roll = subst IsRoll (sym roll-stays) stands.roll;
+      within = λ kind known. subst (λ roll. IsWithin kinds roll (column_of kinds (seen_of later) kind)) (sym roll-stays) (subst (IsWithin kinds (roll_of kinds (seen_of w))) (sym (column-stays kind known)) (stands.within kind known));
+      proper = subst (IsProper book) (sym scene-stays) stands.proper;
     }
 
   -- what stays elsewhere, and then beside queues, stays apart from both

@@ -18,7 +18,7 @@ use Rattle.scene_acts.specs.Lists.{RefusesActs}
 
 -- a reference in a scene is gone, and this is the least id that holds one; want of memory says nothing, and there is no other cause
 abbrev pub GoneIn : Book → PlainScene → FrameRefusal → Type 0
-GoneIn book scene cause = Says (record { system = λ position text. ⊥; gone = λ id. first_gone book scene ≡ Some id; ids = ⊥; commands = ⊥ }) cause
+GoneIn book scene cause = Says (record { system = λ position text. ⊥; gone = λ id. first_gone book scene ≡ Some id; ids = ⊥; indices = ⊥; generations = ⊥; commands = ⊥; threads = ⊥ }) cause
 
 module _ {V : Type 0} (kinds : Kinds V) where
   -- Commands are carried out in a world up to the one that is refused for this cause; or all are, and a reference is gone then.

@@ -4,6 +4,7 @@
 
 mod commands;
 mod frame;
+pub mod laws;
 mod queues;
 
 pub use commands::run_commands;

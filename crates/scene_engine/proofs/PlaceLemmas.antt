@@ -1,0 +1,92 @@
+-- The places of a document's systems ascend, and each system of a frame stands at one of them.
+use Rattle.std.proofs.Common.{◌≡◌, ◌<◌, ◌+◌, ℕ, zero, suc, Bool, true, false, cond, eqb, ◌||◌, List, [], ◌∷◌, ◌++◌, map, Option, Some, None, refl, ap, sym, ◌∙◌, subst, arith, All, AllPairs}
+use Rattle.std.specs.List.{filter_map, find, cons_option}
+use Rattle.std.proofs.lemmas.Bool.{eqb-true, eq-eqb}
+use Rattle.std.proofs.lemmas.Option.{none-some, same_Some}
+use Rattle.std.proofs.lemmas.List.Elements.{All-nil, All-cons, All-append, All-weaker}
+use Rattle.std.proofs.lemmas.List.Kept.{AllPairs-cons}
+use Rattle.scene_rules.specs.Rulebook.{Facts}
+use Rattle.scene_rules.specs.Scenes.{PlainSystem, lives}
+use Rattle.scene_draft.specs.Drafts.{Draft, DraftEntry, DraftSystem, barrier, system}
+use Rattle.scene_document.specs.Openings.{with_facts, systems_at, all_systems, local_systems, staged_systems, frames_of, staged, same_resource}
+use Rattle.shred_plan.specs.Plan.{order}
+
+-- the places of systems
+abbrev pub places_of : List PlainSystem → List ℕ
+places_of systems = map (λ one. one.position) systems
+
+-- the systems among entries stand above what is below the first of these
+above-entries : (least place : ℕ) (entries : List DraftEntry) → least < place → All (λ one. least < one) (places_of (systems_at (λ one. true) place entries))
+above-entries least place [] below = All-nil (λ one. least < one)
+above-entries least place (barrier ∷ entries) below = above-entries least (suc place) entries (omega (arith, below))
+above-entries least place (system one ∷ entries) below = by one.facts (above-entries least (suc place) entries (omega (arith, below)))
+  where
+    by : (facts : Option Facts) → All (λ other. least < other) (places_of (systems_at (λ other. true) (suc place) entries)) → All (λ other. least < other) (places_of (with_facts place one facts ++ systems_at (λ other. true) (suc place) entries))
+    by None later = later
+    by (Some facts) later = All-cons (λ other. least < other) place (places_of (systems_at (λ other. true) (suc place) entries)) below later
+
+ascend-entries : (place : ℕ) (entries : List DraftEntry) → AllPairs (λ one other. one < other) (places_of (systems_at (λ one. true) place entries))
+ascend-entries place [] = λ i j d before inside. absurd (omega (arith, inside))
+ascend-entries place (barrier ∷ entries) = ascend-entries (suc place) entries
+ascend-entries place (system one ∷ entries) = by one.facts (ascend-entries (suc place) entries) (above-entries place (suc place) entries (omega arith))
+  where
+    by : (facts : Option Facts) → AllPairs (λ first other. first < other) (places_of (systems_at (λ other. true) (suc place) entries)) → All (λ other. place < other) (places_of (systems_at (λ other. true) (suc place) entries))
+        → AllPairs (λ first other. first < other) (places_of (with_facts place one facts ++ systems_at (λ other. true) (suc place) entries))
+    by None later above = later
+    by (Some facts) later above = AllPairs-cons (λ first other. first < other) place (places_of (systems_at (λ other. true) (suc place) entries)) above later
+
+-- one that is found stands at a place of those
+found-there : (test : PlainSystem → Bool) (systems : List PlainSystem) (one : PlainSystem) → find test systems ≡ Some one → lives one.position (places_of systems) ≡ true
+found-there test [] one is = absurd (none-some one is)
+found-there test (first ∷ systems) one is = by (test first) is (found-there test systems one)
+  where
+    right : (a b : Bool) → b ≡ true → (a || b) ≡ true
+    right true b is = refl
+    right false b is = is
+
+    by : (b : Bool) → cond b (Some first) (find test systems) ≡ Some one → (find test systems ≡ Some one → lives one.position (places_of systems) ≡ true) → (eqb first.position one.position || lives one.position (places_of systems)) ≡ true
+    by true found later = ap (λ b. b || lives one.position (places_of systems)) (eq-eqb first.position one.position (ap (λ s. s.position) (same_Some first one found)))
+    by false found later = right (eqb first.position one.position) (lives one.position (places_of systems)) (later found)
+
+all-found : {X Y : Type 0} (P : Y → Type 0) (f : X → Option Y) → ((x : X) (y : Y) → f x ≡ Some y → P y) → (xs : List X) → All P (filter_map f xs)
+all-found {X} {Y} P f gives [] = All-nil P
+all-found {X} {Y} P f gives (x ∷ xs) = by (f x) refl (all-found P f gives xs)
+  where
+    by : (o : Option Y) → f x ≡ o → All P (filter_map f xs) → All P (filter_map f (x ∷ xs))
+    by None is later = subst (All P) (sym (ap (λ o. cons_option o (filter_map f xs)) is)) later
+    by (Some y) is later = subst (All P) (sym (ap (λ o. cons_option o (filter_map f xs)) is)) (All-cons P y (filter_map f xs) (gives x y is) later)
+
+-- the local systems are some of all
+locals-there : (place : ℕ) (entries : List DraftEntry) → All (λ one. lives one.position (places_of (systems_at (λ other. true) place entries)) ≡ true) (systems_at (λ other. other.local) place entries)
+locals-there place [] = All-nil (λ one. lives one.position [] ≡ true)
+locals-there place (barrier ∷ entries) = locals-there (suc place) entries
+locals-there place (system one ∷ entries) = by one.local one.facts (locals-there (suc place) entries)
+  where
+    rest : List PlainSystem
+    rest = systems_at (λ other. true) (suc place) entries
+
+    right : (a b : Bool) → b ≡ true → (a || b) ≡ true
+    right true b is = refl
+    right false b is = is
+
+    more : (facts : Option Facts) → All (λ other. lives other.position (places_of rest) ≡ true) (systems_at (λ other. other.local) (suc place) entries)
+        → All (λ other. lives other.position (places_of (with_facts place one facts ++ rest)) ≡ true) (systems_at (λ other. other.local) (suc place) entries)
+    more None later = later
+    more (Some facts) later = All-weaker (λ other. lives other.position (places_of rest) ≡ true) (λ other. lives other.position (place ∷ places_of rest) ≡ true) (λ other is. right (eqb place other.position) (lives other.position (places_of rest)) is) (systems_at (λ other. other.local) (suc place) entries) later
+
+    by : (b : Bool) (facts : Option Facts) → All (λ other. lives other.position (places_of rest) ≡ true) (systems_at (λ other. other.local) (suc place) entries)
+        → All (λ other. lives other.position (places_of (with_facts place one facts ++ rest)) ≡ true) (cond b (with_facts place one facts) [] ++ systems_at (λ other. other.local) (suc place) entries)
+    by false facts later = more facts later
+    by true None later = later
+    by true (Some facts) later = All-cons (λ other. lives other.position (place ∷ places_of rest) ≡ true) (record { position = place; kind = one.kind; config = one.config; access = facts.access }) (systems_at (λ other. other.local) (suc place) entries)
+        (ap (λ b. b || lives place (places_of rest)) (eq-eqb place place refl)) (more (Some facts) later)
+
+-- so it is with the systems of each frame
+pub places-ascend : (draft : Draft) → AllPairs (λ one other. one < other) (places_of (all_systems draft))
+places-ascend draft = ascend-entries 1 draft.entries
+
+pub order-there : (draft : Draft) (frame : ℕ) → All (λ one. lives one.position (places_of (all_systems draft)) ≡ true) (frames_of draft frame).order
+order-there draft frame =
+    All-append (λ one. lives one.position (places_of (all_systems draft)) ≡ true) (staged_systems draft) (local_systems draft)
+    (all-found (λ one. lives one.position (places_of (all_systems draft)) ≡ true) (λ place. find (λ one. eqb one.position place) (all_systems draft)) (λ place one is. found-there (λ other. eqb other.position place) (all_systems draft) one is) (order same_resource (staged draft.entries 1 draft.entries)))
+    (locals-there 1 draft.entries)

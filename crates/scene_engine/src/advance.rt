@@ -1,0 +1,96 @@
+//! One frame of a scene that stands in a world, and what is kept of the scene after it.
+ghost use Rattle.std.specs.Prelude.{◌≡◌, ◌++◌, ◌≤◌, ℕ, List, All, IfErr, OnOk, OnErr, take};
+ghost use Rattle.scene_rules.specs.Lawful.{IsLawful};
+ghost use Rattle.scene_rules.specs.Commands.{skips_of};
+ghost use Rattle.scene_rules.specs.Frames.{Accepts, Refuses};
+ghost use Rattle.scene_rules.specs.Queues.{plain_commands};
+ghost use Rattle.scene_turns.specs.Places.{kinds_of};
+ghost use Rattle.scene_turns.specs.Turns.{placed_as};
+ghost use Rattle.scene_systems.specs.Orders.{turn_order};
+ghost use Rattle.scene_snapshot.specs.KeptScenes.{kept_scene};
+ghost use Rattle.scene_engine.specs.Running.{Stands};
+
+use scene_frames::laws::a_refusal_in_a_world_is_one_of_the_scene;
+use scene_frames::run_frame;
+use scene_keeping::keep_scene;
+use scene_kept::Kept;
+use scene_rules::{Command, FrameRefusal, Skip};
+use scene_snapshot::ByPlace;
+use scene_systems::SceneDispatcher;
+use scene_turns::{Rules, SceneValue};
+use shred_world::World;
+use std::sync::Wait;
+use std::thread::Threads;
+
+/// What is kept of a scene: the data of each entity by the places of their kinds, and the globals by those of their names.
+pub(crate) type KeptScene<D, G> = Kept<Vec<Option<D>>, Vec<Option<G>>>;
+
+/// Runs a frame in a world, and keeps the scene after it. Errors: those of the frame; the scene before is kept.
+pub(crate) fn advance<R: Rules + Send + Sync, H: AllocGlobal + Threads + Wait + Sync>(
+    rt: &H,
+    rules: &R,
+    dispatcher: &mut SceneDispatcher<R>,
+    world: &mut World<R::Value>,
+    places: &[u32],
+    limit: u32,
+    frame: u32,
+    given: &[Command<R::Data>],
+    skips: &mut Vec<Skip>,
+    kept: &mut KeptScene<R::Data, R::Global>,
+) -> Result<(), FrameRefusal>
+where
+    R::Value: Drop + Send + Sync,
+    R::Data: Send + Sync,
+    R::Global: Send + Sync,
+    R::System: Send + Sync,
+    requires stands { Stands (kinds_of ⟦<R::Value as SceneValue<R::Data>>⟧.places R.part_of R.columns) (placed_as (λ placed. placed.position) (λ placed. placed.system)
+        R.kind_of R.config_of R.declared R.sense R.does) (R.book rules.now)
+        dispatcher.old world.old places.now (kept_scene R.part_of R.global_of
+        ⟦<Vec<Option<R::Data>> as ByPlace<R::Data>>⟧.at_place
+        ⟦<Vec<Option<R::Global>> as ByPlace<R::Global>>⟧.at_place (R.book rules.now) kept.old) }
+    requires given { All (IsLawful (R.book rules.now)) (plain_commands R.part_of given.now) }
+    ensures accepted { OnOk result ((skipped : List ℕ) × Accepts (R.book rules.now) limit
+        (record { order = turn_order (placed_as (λ placed. placed.position) (λ placed. placed.system)
+        R.kind_of R.config_of R.declared R.sense R.does).plain dispatcher.old; commands = plain_commands R.part_of given.now })
+        (kept_scene R.part_of R.global_of
+        ⟦<Vec<Option<R::Data>> as ByPlace<R::Data>>⟧.at_place
+        ⟦<Vec<Option<R::Global>> as ByPlace<R::Global>>⟧.at_place (R.book rules.now) kept.old) (kept_scene R.part_of R.global_of
+        ⟦<Vec<Option<R::Data>> as ByPlace<R::Data>>⟧.at_place
+        ⟦<Vec<Option<R::Global>> as ByPlace<R::Global>>⟧.at_place (R.book rules.now) kept.new) skipped
+        × (skips.new.items ≡ skips.old.items ++ skips_of frame skipped)) }
+    ensures stands { OnOk result (Stands (kinds_of ⟦<R::Value as SceneValue<R::Data>>⟧.places R.part_of R.columns) (placed_as (λ placed. placed.position) (λ placed. placed.system)
+        R.kind_of R.config_of R.declared R.sense R.does) (R.book rules.now)
+        dispatcher.new world.new places.now (kept_scene R.part_of R.global_of
+        ⟦<Vec<Option<R::Data>> as ByPlace<R::Data>>⟧.at_place
+        ⟦<Vec<Option<R::Global>> as ByPlace<R::Global>>⟧.at_place (R.book rules.now) kept.new)) }
+    ensures refused { IfErr result (Refuses (R.book rules.now) limit
+        (record { order = turn_order (placed_as (λ placed. placed.position) (λ placed. placed.system)
+        R.kind_of R.config_of R.declared R.sense R.does).plain dispatcher.old; commands = plain_commands R.part_of given.now })
+        (kept_scene R.part_of R.global_of
+        ⟦<Vec<Option<R::Data>> as ByPlace<R::Data>>⟧.at_place
+        ⟦<Vec<Option<R::Global>> as ByPlace<R::Global>>⟧.at_place (R.book rules.now) kept.old)) }
+    ensures skips { OnErr result (skips.new.items ≡ skips.old.items) }
+    ensures kept { OnErr result (kept.new ≡ kept.old) }
+    ensures order { turn_order (placed_as (λ placed. placed.position) (λ placed. placed.system)
+        R.kind_of R.config_of R.declared R.sense R.does).plain dispatcher.new ≡ turn_order (placed_as (λ placed. placed.position) (λ placed. placed.system)
+        R.kind_of R.config_of R.declared R.sense R.does).plain dispatcher.old }
+{
+    a_refusal_in_a_world_is_one_of_the_scene::<R::Value>();
+    let noted = skips.len();
+    match run_frame(
+        rt, rules, dispatcher, world, places, limit, frame, given, skips,
+    ) {
+        Ok(()) => {}
+        Err(refusal) => return Err(refusal),
+    }
+    match keep_scene(rules, world, rt.alloc()) {
+        Ok(now) => {
+            *kept = now;
+            Ok(())
+        }
+        Err(_) => {
+            skips.truncate(noted);
+            Err(FrameRefusal::Memory)
+        }
+    }
+}

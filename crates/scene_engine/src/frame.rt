@@ -1,0 +1,282 @@
+//! A scene that runs frame by frame in a world of entities.
+ghost use Rattle.std.specs.Prelude.{◌≡◌, ◌<◌, OnOk, OnErr, IfOk, MatchResult};
+ghost use Rattle.scene_rules.specs.Parts.{Part};
+ghost use Rattle.scene_rules.specs.Queues.{plain_commands};
+ghost use Rattle.scene_document.specs.Loading.{commands_at};
+
+use crate::advance::{KeptScene, advance};
+use crate::load::{Course, course_of, open_in_world};
+use scene_document::{Limits, LoadError, read_document};
+use scene_draft::{JsonError, read_json};
+use scene_rules::{Command, DocRefusal, Report, Skips};
+use scene_snapshot::{ByPlace, kept_text};
+use scene_staging::places_of_systems;
+use scene_systems::SceneDispatcher;
+use scene_turns::{Rules, SceneValue};
+use serde_json::Value;
+use shred_world::World;
+use std::alloc::{AllocError, Global};
+use std::marker::Model;
+use std::mem;
+use std::sync::Wait;
+use std::thread::Threads;
+
+/// A scene that runs frame by frame: a world of entities, the systems of its document on a dispatcher, and what is kept of
+/// the last accepted scene.
+#[derive(Drop)]
+pub struct Scene<R: Rules + Drop>
+where
+    R::Value: Drop,
+{
+    rules: R,
+    limit: u32,
+    world: World<R::Value>,
+    dispatcher: SceneDispatcher<R>,
+    places: Vec<u32>,
+    commands: Vec<Vec<Command<R::Data>>>,
+    asked: u32,
+    kept: KeptScene<R::Data, R::Global>,
+    report: Report,
+}
+
+impl<R: Rules + Drop> Model for Scene<R>
+where
+    R::Value: Drop,
+{
+    ghost use Rattle.scene_turns.specs.Places.{kinds_of};
+    ghost use Rattle.scene_turns.specs.Turns.{placed_as};
+    ghost use Rattle.scene_systems.specs.Orders.{turn_order};
+    ghost use Rattle.scene_snapshot.specs.KeptScenes.{kept_scene};
+    ghost use Rattle.scene_engine.specs.Running.{Running, course_of, IsReady};
+
+    ghost Value = { Running R };
+
+    ghost view = { λ s. record { rules = s.rules; shown = record {
+      scene = kept_scene R.part_of R.global_of
+        ⟦<Vec<Option<R::Data>> as ByPlace<R::Data>>⟧.at_place
+        ⟦<Vec<Option<R::Global>> as ByPlace<R::Global>>⟧.at_place (R.book s.rules) s.kept;
+      frames = course_of R.part_of (turn_order (placed_as (λ placed. placed.position) (λ placed. placed.system)
+        R.kind_of R.config_of R.declared R.sense R.does).plain s.dispatcher) s.commands.items;
+      limit = s.limit;
+      asked = s.asked;
+      report = s.report;
+    } } };
+
+    ghost invariant = { λ s. IsReady (kinds_of ⟦<R::Value as SceneValue<R::Data>>⟧.places R.part_of R.columns) (placed_as (λ placed. placed.position) (λ placed. placed.system)
+        R.kind_of R.config_of R.declared R.sense R.does) (R.book s.rules) R.part_of
+        s.dispatcher s.world s.places.items s.commands.items s.report
+        (kept_scene R.part_of R.global_of
+        ⟦<Vec<Option<R::Data>> as ByPlace<R::Data>>⟧.at_place
+        ⟦<Vec<Option<R::Global>> as ByPlace<R::Global>>⟧.at_place (R.book s.rules) s.kept) };
+}
+
+/// A frame was not accepted; the report tells why.
+#[derive(Clone, Copy, Debug, PartialEq, Eq)]
+pub struct Refused;
+
+/// The commands of a document for a frame, by its number from 1.
+fn commands_for<D: Drop>(lists: &[Vec<Command<D>>], frame: u32) -> &[Command<D>]
+    ensures { (part_of : D → Part) → plain_commands part_of result.now ≡ commands_at part_of lists.now frame }
+{
+    if frame == 0 {
+        return &[];
+    }
+    match lists.get(frame as usize - 1) {
+        Some(list) => list.as_slice(),
+        None => &[],
+    }
+}
+
+impl<R: Rules + Drop> Scene<R>
+where
+    R::Value: Drop,
+{
+    ghost use Rattle.serde_json.specs.View.{view};
+    ghost use Rattle.scene.specs.Limits.{AreLimits};
+    ghost use Rattle.scene.specs.Turns.{Advances, Stays, frames_left};
+    ghost use Rattle.scene.specs.Outcomes.{IsNoDocument, bounds_of};
+    ghost use Rattle.scene_document.specs.Loading.{IsNotLoaded};
+    ghost use Rattle.scene_draft.specs.Texts.{scene_json, text_of, ReadsBack};
+    ghost use Rattle.scene_engine.specs.Running.{IsOpened, IsOpenedFrom};
+
+    /// The scene of the document in these bytes, before any frame.
+    ///
+    /// Errors: `Document`, with the least refusal that stands; `Memory`. The limits are at most the greatest ones, and
+    /// `generation` is at least 1.
+    pub fn open(
+        alloc: Global,
+        rules: R,
+        limits: Limits,
+        bytes: &[u8],
+    ) -> Result<Scene<R>, LoadError>
+        requires { AreLimits limits }
+        ensures { MatchResult result (IsOpenedFrom R.book rules limits bytes.now)
+            (IsNoDocument (R.book rules) (bounds_of limits) bytes.now) }
+    {
+        let value = match read_json(alloc, bytes) {
+            Ok(value) => value,
+            Err(JsonError::Unreadable) => return Err(LoadError::Document(DocRefusal::Unreadable)),
+            Err(JsonError::Memory) => return Err(LoadError::Memory),
+        };
+        Scene::load(alloc, rules, limits, &value)
+    }
+
+    /// The scene of a document that was read as JSON, before any frame.
+    ///
+    /// Errors: `Document`, with the least refusal that stands; `Memory`. The limits are at most the greatest ones, and
+    /// `generation` is at least 1.
+    pub fn load(
+        alloc: Global,
+        rules: R,
+        limits: Limits,
+        value: &Value,
+    ) -> Result<Scene<R>, LoadError>
+        requires { AreLimits limits }
+        ensures { MatchResult result (IsOpened R.book rules limits (view value.now))
+            (IsNotLoaded (R.book rules) limits.indices (view value.now)) }
+    {
+        let draft = match read_document(alloc, &rules, limits, value) {
+            Ok(draft) => draft,
+            Err(error) => return Err(error),
+        };
+        let Ok(places) = places_of_systems(&draft.entries, alloc) else {
+            return Err(LoadError::Memory);
+        };
+        let Ok((world, kept)) = open_in_world(&rules, limits, &draft, &places, alloc) else {
+            return Err(LoadError::Memory);
+        };
+        let Ok(course) = course_of(&rules, draft, alloc) else {
+            return Err(LoadError::Memory);
+        };
+        let Course {
+            dispatcher,
+            commands,
+            asked,
+        } = course;
+        let report = Report {
+            frames: 0,
+            skips: Skips::from_vec(Vec::new(alloc)),
+            refused: None,
+        };
+        Ok(Scene {
+            rules,
+            limit: limits.commands as u32,
+            world,
+            dispatcher,
+            places,
+            commands,
+            asked,
+            kept,
+            report,
+        })
+    }
+
+    /// The frames asked for and not yet accepted.
+    pub fn left(&self) -> u32
+        ensures { result ≡ frames_left self.now.shown }
+    {
+        self.asked.saturating_sub(self.report.frames)
+    }
+
+    /// The text of the last accepted scene, which reads as the JSON of the scene and as no other. Refused for memory alone.
+    pub fn snapshot(&self, alloc: Global) -> Result<Vec<u8>, AllocError>
+        ensures text { IfOk result (λ text. text.items ≡ text_of (R.book self.now.rules) self.now.shown.scene) }
+        ensures reads { IfOk result (λ text. ReadsBack text.items
+            (scene_json (R.book self.now.rules) self.now.shown.scene)) }
+    {
+        kept_text(alloc, &self.rules, &self.kept)
+    }
+
+    /// The next id of the last accepted scene.
+    pub fn next(&self) -> u64
+        ensures { result ≡ self.now.shown.scene.next }
+    {
+        self.kept.next()
+    }
+
+    /// How far the scene has come: accepted frames, skipped commands, and the refusal if there is one.
+    pub fn report(&self) -> &Report
+        ensures { result.now ≡ self.now.shown.report }
+    {
+        &self.report
+    }
+
+    /// The report, for whom the scene has ended.
+    pub fn into_report(self) -> Report
+        ensures { result ≡ self.shown.report }
+    {
+        let Scene { report: told, .. } = self;
+        told
+    }
+
+    /// The rules and the report, for whom the scene has ended.
+    pub fn into_parts(self) -> (R, Report)
+        ensures rules { result.0 ≡ self.rules }
+        ensures report { result.1 ≡ self.shown.report }
+    {
+        let Scene {
+            rules: kept,
+            report: told,
+            ..
+        } = self;
+        (kept, told)
+    }
+}
+
+impl<R: Rules + Drop + Send + Sync> Scene<R>
+where
+    R::Value: Drop + Send + Sync,
+    R::Data: Send + Sync,
+    R::Global: Send + Sync,
+    R::System: Send + Sync,
+{
+    ghost use Rattle.scene.specs.Turns.{Advances, Stays, frames_left};
+
+    /// Runs the next frame: its systems on the dispatcher, then its commands.
+    ///
+    /// An accepted frame takes the scene to the one after, whatever the number of workers. A refused frame leaves the scene
+    /// as it was, and the report tells the frame and the cause; from then on each further call is refused and changes nothing.
+    ///
+    /// Asked for is that frames are left.
+    pub fn run_frame<H: AllocGlobal + Threads + Wait + Sync>(
+        &mut self,
+        rt: &H,
+    ) -> Result<(), Refused>
+        requires left { 0 < frames_left self.old.shown }
+        ensures rules { self.new.rules ≡ self.old.rules }
+        ensures ok { OnOk result (Advances (R.book self.old.rules) self.old.shown self.new.shown) }
+        ensures err { OnErr result (Stays (R.book self.old.rules) self.old.shown self.new.shown) }
+    {
+        if self.report.refused.is_some() {
+            return Err(Refused);
+        }
+        prove!(self.report.frames < self.asked);
+        let frame = self.report.frames + 1;
+        let told = Skips::from_vec(Vec::new(rt.alloc()));
+        let mut skips = mem::replace(&mut self.report.skips, told).into_vec();
+        let given = commands_for(self.commands.as_slice(), frame);
+        match advance(
+            rt,
+            &self.rules,
+            &mut self.dispatcher,
+            &mut self.world,
+            &self.places,
+            self.limit,
+            frame,
+            given,
+            &mut skips,
+            &mut self.kept,
+        ) {
+            Ok(()) => {
+                self.report.skips = Skips::from_vec(skips);
+                self.report.frames = frame;
+                Ok(())
+            }
+            Err(cause) => {
+                self.report.skips = Skips::from_vec(skips);
+                self.report.refused = Some((frame, cause));
+                Err(Refused)
+            }
+        }
+    }
+}
