@@ -20,7 +20,7 @@ use specs_markers::Marker;
 use std::alloc::{AllocError, Global};
 
 /// The entities that live in a world. Errors: want of memory, and where the world has no entities.
-fn living_in<R: Rules>(world: &World<R::Value>) -> Result<Vec<Entity>, AllocError>
+pub fn living_in<R: Rules>(world: &World<R::Value>) -> Result<Vec<Entity>, AllocError>
     ensures { IfOk result (λ entities. AreLiving
         (roll_of (kinds_of ⟦<R::Value as SceneValue<R::Data>>⟧.places R.part_of R.columns) (seen_of world.now)).births
         entities.items) }
@@ -39,7 +39,7 @@ fn living_in<R: Rules>(world: &World<R::Value>) -> Result<Vec<Entity>, AllocErro
 }
 
 /// The id with which an index is marked, if it is.
-fn id_marked<R: Rules>(world: &World<R::Value>, index: u32) -> Option<u64>
+pub fn id_marked<R: Rules>(world: &World<R::Value>, index: u32) -> Option<u64>
     ensures { result ≡ (roll_of (kinds_of ⟦<R::Value as SceneValue<R::Data>>⟧.places R.part_of R.columns)
         (seen_of world.now)).marker index }
 {

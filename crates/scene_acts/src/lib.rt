@@ -11,7 +11,7 @@ mod parts;
 
 pub use births::{bring_to_life, mark, spawn_entity};
 pub use deaths::kill_entity;
-pub use gone::find_gone;
+pub use gone::{find_gone, id_marked, living_in};
 pub use lists::{act, act_all};
 pub use looking::{entities_under, entity_under};
 pub use parts::{put_part, take_part};

@@ -1,7 +1,6 @@
 -- Lemmas on builders that have the systems of entries.
-use Rattle.std.proofs.Common.{◌≡◌, ◌≤◌, ℕ, suc, Bool, true, false, List, [], ◌∷◌, ◌++◌, map, length, option_map, Option, Some, None, cond, refl, ap, sym, subst, ◌∙◌}
+use Rattle.std.proofs.Common.{◌≡◌, ◌≤◌, ℕ, suc, Bool, true, false, List, [], ◌∷◌, ◌++◌, map, length, option_map, Some, ap, sym, subst, ◌∙◌}
 use Rattle.std.specs.List.{All, filter_map}
-use Rattle.std.specs.Prelude.{slice_get, unwrap_or}
 use Rattle.std.proofs.lemmas.List.Elements.{All-nil, All-cons, All-head, All-tail, All-push}
 use Rattle.shred_world.specs.declared.resource_id.ResourceId.{ResourceId}
 use Rattle.shred_world.specs.ResourceIds.{same_id}
@@ -26,7 +25,7 @@ use Rattle.scene_world.specs.Standing.{Kinds}
 use Rattle.scene_world.specs.Lent.{AreKnown, StandApart, id_of_place, read_places, written_places}
 use Rattle.scene_turns.specs.Turns.{Meaning, Sense, meaning_of, placed_as, IsOfBook}
 use Rattle.scene_turns.specs.Chains.{plan_order}
-use Rattle.scene_plans.specs.Entries.{plain_system, meant_at, staged_list, nobody, AreNamed}
+use Rattle.scene_plans.specs.Entries.{plain_system, meant_at, staged_list, AreNamed}
 use Rattle.scene_plans.specs.Told.{FactsKnown, AllKnown, declared_of}
 use Rattle.scene_plans.proofs.CallerLemmas.{none-drafted, barrier-drafted, system-drafted, local-drafted, document-named, document-few, document-described, declares-known, all-known, same-ids, built-systems, built-order}
 use Rattle.scene_plans.specs.Asked.{IsDraftedOf}

@@ -5,7 +5,6 @@ use Rattle.std.specs.Option.{option_and_then, option_map_or, option_flatten}
 use Rattle.std.specs.FinMap as map
 use Rattle.std.proofs.lemmas.List.Elements.{All-nil, All-cons, All-head, All-push, All-weaker}
 use Rattle.std.proofs.lemmas.List.{take_more, take-append-drop}
-use Rattle.std.proofs.Math.Path.{fun_ext}
 use Rattle.shred_world.specs.declared.resource_id.ResourceId.{ResourceId}
 use Rattle.shred_world.specs.ResourceIds.{same_id}
 use Rattle.shred_world.specs.Bundles.{readable, slot_of, holding_of}
@@ -15,9 +14,9 @@ use Rattle.scene_rules.specs.declared.command.Queue.{Queue}
 use Rattle.scene_rules.specs.Queues.{waiting, plain_commands}
 use Rattle.scene_rules.specs.Parts.{Name, Part, is_among}
 use Rattle.scene_rules.specs.Rulebook.{Book}
-use Rattle.scene_rules.specs.Scenes.{PlainScene, IsProper}
+use Rattle.scene_rules.specs.Scenes.{IsProper}
 use Rattle.scene_rules.proofs.CallerLemmas.{same_scene, all_front, all_back}
-use Rattle.scene_world.specs.Rolls.{Roll, ids_in, part_in, IsRoll}
+use Rattle.scene_world.specs.Rolls.{ids_in, part_in, IsRoll}
 use Rattle.scene_world.specs.Standing.{Sight, Kinds, seen_in, roll_in, roll_of, column_in, column_of, value_of, plain_of, commands_of, IsWithin, IsSceneWorld}
 use Rattle.scene_world.specs.Lent.{Place, entities, markers, allocator, parts, value, queue, same_place, id_of_place, is_known, StandApart}
 use Rattle.scene_turns.specs.Places.{Places, Columns, kinds_of}

@@ -1,7 +1,7 @@
 use Rattle.std.proofs.Common.{All, ap, ◌∙◌, subst}
 use Rattle.std.specs.FinMap as map
 use Rattle.std.proofs.lemmas.List.{take_all}
-use Rattle.scene_staging.specs.Opened.{HasEmptyQueue, StandsElse}
+use Rattle.scene_staging.specs.Opened.{HasEmptyQueue}
 use Rattle.scene_staging.proofs.StoodLemmas.{queues-more, else-more, else-all, opened-scene}
 use Rattle.scene_staging.proofs.opening.open_queues.Goals as goal
 
