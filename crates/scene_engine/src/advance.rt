@@ -75,7 +75,7 @@ where
         R.kind_of R.config_of R.declared R.sense R.does).plain dispatcher.new ≡ turn_order (placed_as (λ placed. placed.position) (λ placed. placed.system)
         R.kind_of R.config_of R.declared R.sense R.does).plain dispatcher.old }
 {
-    a_refusal_in_a_world_is_one_of_the_scene::<R::Value>();
+    a_refusal_in_a_world_is_one_of_the_scene(rules);
     let noted = skips.len();
     match run_frame(
         rt, rules, dispatcher, world, places, limit, frame, given, skips,

@@ -164,8 +164,8 @@ none-left kinds apart places w later empty stays others place = by (lives place 
     by false none = waits-apart kinds apart places w later place stays none ∙ others place none
 
 -- a spawn that finds none is one that is to be done
-comes-to-spawn : {V : Type 0} (kinds : Kinds V) (limit : ℕ) (commands : List Command) (scene : PlainScene) (spent : Births → Type 0) → SpawnFindsNone kinds limit commands scene spent → (length commands ≤ limit) × ComesToSpawn commands scene
-comes-to-spawn kinds limit commands scene spent none = (none.within, record {
+comes-to-spawn : {V : Type 0} (kinds : Kinds V) (limit : ℕ) (commands : List Command) (scene : PlainScene) (at_limit : Births → Type 0) → SpawnFindsNone kinds limit commands scene at_limit → (length commands ≤ limit) × ComesToSpawn commands scene
+comes-to-spawn kinds limit commands scene at_limit none = (none.within, record {
   before = none.before;
   parts = none.parts;
   after = none.after;
