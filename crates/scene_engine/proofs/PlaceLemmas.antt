@@ -115,9 +115,9 @@ found-holds P test (first ∷ systems) one all is = by (test first) is (found-ho
 
 -- the systems of entries that the rules made are ones that they describe
 described-entries : {S : Type 0} (kind_of : S → Name) (config_of : S → Json) (book : Book) (test : DraftSystem → Bool) (place : ℕ) (entries : List (EntryDraft S)) → All (IsOfBook kind_of config_of book) entries → All (IsDescribed book) (systems_at test place (map plain_draft entries))
-described-entries kind_of config_of book test place [] all = All-nil (IsDescribed book)
-described-entries kind_of config_of book test place (entry.Barrier ∷ entries) all = described-entries kind_of config_of book test (suc place) entries (All-tail (IsOfBook kind_of config_of book) entry.Barrier entries all)
-described-entries kind_of config_of book test place (entry.System draft ∷ entries) all =
+described-entries {S = S} kind_of config_of book test place [] all = All-nil (IsDescribed book)
+described-entries {S = S} kind_of config_of book test place (entry.Barrier ∷ entries) all = described-entries kind_of config_of book test (suc place) entries (All-tail (IsOfBook kind_of config_of book) entry.Barrier entries all)
+described-entries {S = S} kind_of config_of book test place (entry.System draft ∷ entries) all =
     by (test (plain_system draft)) draft.made (All-head (IsOfBook kind_of config_of book) (entry.System draft) entries all) (described-entries kind_of config_of book test (suc place) entries (All-tail (IsOfBook kind_of config_of book) (entry.System draft) entries all))
   where
     by : (b : Bool) (made : Option (MadeDraft S)) → IsMadeAs kind_of config_of book draft.kind.now (config_seen (seen draft.config)) made → All (IsDescribed book) (systems_at test (suc place) (map plain_draft entries))

@@ -1,35 +1,35 @@
--- What a scene is that runs in a world of entities.
-use Rattle.std.specs.Prelude.{◌≡◌, ℕ, List, Ok, Some, None, All}
+-- What a scene is that runs in a world of entities: what is shown of it, and when it is ready for its next frame.
+use Rattle.std.specs.Prelude.{◌≡◌, ℕ, List, Ok, Some, None, Option, All, slice_get}
 use Rattle.std.specs.Global.{Vec}
 use Rattle.shred_world.specs.Worlds.{Slots}
 use Rattle.shred_world.specs.Bundles.{holding_of}
 use Rattle.shred.specs.Dispatching.{Dispatching}
 use Rattle.scene_rules.specs.declared.command.Command.{Command}
+use Rattle.scene_rules.specs.declared.refusals.Report.{Report}
 use Rattle.scene_rules.specs.Parts.{Json, Name, Part}
 use Rattle.scene_rules.specs.Rulebook.{Access, Book}
 use Rattle.scene_rules.specs.Scenes.{PlainScene, PlainSystem, PlainFrame, IsProper}
+use Rattle.scene_rules.specs.Lawful.{IsLawful}
+use Rattle.scene_rules.specs.Slots.{filled}
 use Rattle.scene_draft.specs.declared.draft.DocumentDraft.{DocumentDraft}
 use Rattle.scene_draft.specs.Drafts.{Draft}
 use Rattle.scene_draft.specs.DraftViews.{IsDraft, AreMade}
+use Rattle.scene_draft.specs.Texts.{json_of}
+use Rattle.scene_document.specs.declared.loaded.Limits.{Limits}
 use Rattle.scene_document.specs.Documents.{document_from}
 use Rattle.scene_document.specs.Loading.{commands_at}
+use Rattle.scene_kept.specs.Keeping.{Keeping}
+use Rattle.scene_snapshot.specs.KeptScenes.{kept_scene}
 use Rattle.scene_world.specs.Standing.{Kinds, plain_of}
 use Rattle.scene_turns.specs.Turns.{Meaning}
+use Rattle.scene_turns.specs.declared.placed.Placed.{Placed}
 use Rattle.scene_systems.specs.Orders.{turn_order}
 use Rattle.scene_systems.specs.Frames.{AreReady}
 use Rattle.scene_acts.specs.Acts.{seen_of}
 use Rattle.scene_frames.specs.Waiting.{AreTheirPlaces, NoneWaits}
-use Rattle.scene_draft.specs.Texts.{json_of}
-use Rattle.scene_document.specs.declared.loaded.Limits.{Limits}
-use Rattle.scene_rules.specs.declared.refusals.Report.{Report}
-use Rattle.scene_rules.specs.Lawful.{IsLawful}
 use Rattle.scene.specs.Runs.{CanBegin}
 use Rattle.scene.specs.Turns.{Shown, opening}
-
--- what a scene is seen as: the rules that it runs under, and what is shown of it
-pub record Running (R : Type 0) : Type 0 where
-  pub rules : R
-  pub shown : Shown
+use Rattle.scene_engine.specs.declared.frame.Scene.{Scene}
 
 -- the frames of a scene: its systems in the order in which they take their turns, and the commands for each frame by its number from 1
 abbrev pub course_of : {D : Type 0} → (D → Part) → List PlainSystem → List (Vec (Command D)) → ℕ → PlainFrame
@@ -44,26 +44,49 @@ pub record IsUnrefused {D G S : Type 0} (part_of : D → Part) (global_of : G �
   pub says : IsDraft part_of global_of kind_of config_of book plain draft
   pub made : AreMade declared said_time made_by draft.entries.items
 
-module _ {V P : Type 0} (kinds : Kinds V) (meaning : Meaning P) (book : Book) where
-  -- a scene stands in a world, with its systems ready for a frame, no command that waits, and their places
-  pub record Stands (systems : Dispatching P P) (w : Slots V) (places : List ℕ) (scene : PlainScene) : Type 0 where
-    pub ready : AreReady kinds meaning book systems (holding_of w)
-    pub none : NoneWaits kinds (seen_of w)
-    pub places : AreTheirPlaces places (turn_order meaning.plain systems)
-    pub same : plain_of kinds (seen_of w) ≡ scene
+-- what stands at a place of a list, if something does
+abbrev pub value_at : {X : Type 0} → Vec (Option X) → ℕ → Option X
+value_at list place = filled (slice_get list.items place)
+
+-- the scene that is kept in lists by the places of the rules' names
+abbrev pub listed_scene : {D G : Type 0} → (D → Part) → (G → Json) → Book → Keeping (Vec (Option D)) (Vec (Option G)) → PlainScene
+listed_scene part_of global_of book kept = kept_scene part_of global_of value_at value_at book kept
+
+-- a scene stands in a world, with its systems ready for a frame, no command that waits, and their places
+pub record Stands {V P : Type 0} (kinds : Kinds V) (meaning : Meaning P) (book : Book) (systems : Dispatching P P) (w : Slots V) (at_places : List ℕ) (scene : PlainScene) : Type 0 where
+  pub ready : AreReady kinds meaning book systems (holding_of w)
+  pub none : NoneWaits kinds (seen_of w)
+  pub places : AreTheirPlaces at_places (turn_order meaning.plain systems)
+  pub same : plain_of kinds (seen_of w) ≡ scene
+
+-- the rules that a scene runs under
+abbrev pub rules_of : {R V D G S : Type 0} → Scene R V D G S → R
+rules_of scene = scene.rules
+
+module _ {R V D G S : Type 0} (kinds : Kinds V) (part_of : D → Part) (global_of : G → Json) (meaning : Meaning (Placed R V D G S)) (book_of : R → Book) where
+  -- what is shown of a scene: what is kept of the last accepted one, and its frames
+  abbrev pub shown_of : Scene R V D G S → Shown
+  shown_of scene = record {
+    scene = listed_scene part_of global_of (book_of scene.rules) scene.kept;
+    frames = course_of part_of (turn_order meaning.plain scene.dispatcher) scene.commands.items;
+    limit = scene.limit;
+    asked = scene.asked;
+    report = scene.report;
+  }
 
   -- a scene is ready: unless a frame was refused, it stands in its world; it is proper, and the commands of its frames are ones that the
-  -- rules know
-  pub record IsReady {D : Type 0} (part_of : D → Part) (systems : Dispatching P P) (w : Slots V) (places : List ℕ) (commands : List (Vec (Command D))) (report : Report) (scene : PlainScene) : Type 0 where
-    pub stands : report.refused ≡ None → Stands systems w places scene
-    pub lawful : (number : ℕ) → All (IsLawful book) (commands_at part_of commands number)
-    pub proper : IsProper book scene
+  -- rules know; every scene that was loaded is, and stays so
+  pub record IsReady (scene : Scene R V D G S) : Type 0 where
+    pub stands : scene.report.refused ≡ None → Stands kinds meaning (book_of scene.rules) scene.dispatcher scene.world scene.places.items (listed_scene part_of global_of (book_of scene.rules) scene.kept)
+    pub lawful : (number : ℕ) → All (IsLawful (book_of scene.rules)) (commands_at part_of scene.commands.items number)
+    pub proper : IsProper (book_of scene.rules) (listed_scene part_of global_of (book_of scene.rules) scene.kept)
 
--- a scene was opened from a JSON: a document under these limits, before any frame, and it can begin
-pub record IsOpened {R : Type 0} (book_of : R → Book) (rules : R) (limits : Limits) (json : Json) (scene : Running R) : Type 0 where
-  pub same_rules : scene.rules ≡ rules
-  pub document : (draft : Draft) × (document_from (book_of rules) limits.indices json ≡ Ok draft) × (scene.shown ≡ opening limits.commands draft) × CanBegin (book_of rules) draft
+  -- a scene was opened from a JSON: a document under these limits, before any frame, and it can begin
+  pub record IsOpened (rules : R) (limits : Limits) (json : Json) (scene : Scene R V D G S) : Type 0 where
+    pub same_rules : rules_of scene ≡ rules
+    pub ready : IsReady scene
+    pub document : (draft : Draft) × (document_from (book_of rules) limits.indices json ≡ Ok draft) × (shown_of scene ≡ opening limits.commands draft) × CanBegin (book_of rules) draft
 
--- a scene was opened from bytes: they read as a JSON, and it was opened from that
-abbrev pub IsOpenedFrom : {R : Type 0} → (R → Book) → R → Limits → List ℕ → Running R → Type 0
-IsOpenedFrom book_of rules limits bytes scene = (json : Json) × (json_of bytes ≡ Some json) × IsOpened book_of rules limits json scene
+  -- a scene was opened from bytes: they read as a JSON, and it was opened from that
+  abbrev pub IsOpenedFrom : R → Limits → List ℕ → Scene R V D G S → Type 0
+  IsOpenedFrom rules limits bytes scene = (json : Json) × (json_of bytes ≡ Some json) × IsOpened rules limits json scene

@@ -7,15 +7,13 @@ ghost use Rattle.scene_rules.specs.Queues.{plain_commands};
 ghost use Rattle.scene_turns.specs.Places.{kinds_of};
 ghost use Rattle.scene_turns.specs.Turns.{placed_as};
 ghost use Rattle.scene_systems.specs.Orders.{turn_order};
-ghost use Rattle.scene_snapshot.specs.KeptScenes.{kept_scene};
-ghost use Rattle.scene_engine.specs.Running.{Stands};
+ghost use Rattle.scene_engine.specs.Running.{Stands, listed_scene};
 
 use scene_frames::laws::a_refusal_in_a_world_is_one_of_the_scene;
 use scene_frames::run_frame;
 use scene_keeping::keep_scene;
 use scene_kept::Kept;
 use scene_rules::{Command, FrameRefusal, Skip};
-use scene_snapshot::ByPlace;
 use scene_systems::SceneDispatcher;
 use scene_turns::{Rules, SceneValue};
 use shred_world::World;
@@ -45,30 +43,26 @@ where
     R::System: Send + Sync,
     requires stands { Stands (kinds_of ⟦<R::Value as SceneValue<R::Data>>⟧.places R.part_of R.columns) (placed_as (λ placed. placed.position) (λ placed. placed.system)
         R.kind_of R.config_of R.declared R.sense R.does) (R.book rules.now)
-        dispatcher.old world.old places.now (kept_scene R.part_of R.global_of
-        ⟦<Vec<Option<R::Data>> as ByPlace<R::Data>>⟧.at_place
-        ⟦<Vec<Option<R::Global>> as ByPlace<R::Global>>⟧.at_place (R.book rules.now) kept.old) }
+        dispatcher.old world.old places.now (listed_scene R.part_of R.global_of (R.book rules.now) kept.old) }
     requires given { All (IsLawful (R.book rules.now)) (plain_commands R.part_of given.now) }
     ensures accepted { OnOk result ((skipped : List ℕ) × Accepts (R.book rules.now) limit
-        (record { order = turn_order (placed_as (λ placed. placed.position) (λ placed. placed.system)
-        R.kind_of R.config_of R.declared R.sense R.does).plain dispatcher.old; commands = plain_commands R.part_of given.now })
-        (kept_scene R.part_of R.global_of
-        ⟦<Vec<Option<R::Data>> as ByPlace<R::Data>>⟧.at_place
-        ⟦<Vec<Option<R::Global>> as ByPlace<R::Global>>⟧.at_place (R.book rules.now) kept.old) (kept_scene R.part_of R.global_of
-        ⟦<Vec<Option<R::Data>> as ByPlace<R::Data>>⟧.at_place
-        ⟦<Vec<Option<R::Global>> as ByPlace<R::Global>>⟧.at_place (R.book rules.now) kept.new) skipped
+        (record {
+          order = turn_order (placed_as (λ placed. placed.position) (λ placed. placed.system)
+              R.kind_of R.config_of R.declared R.sense R.does).plain dispatcher.old;
+          commands = plain_commands R.part_of given.now;
+        })
+        (listed_scene R.part_of R.global_of (R.book rules.now) kept.old) (listed_scene R.part_of R.global_of (R.book rules.now) kept.new) skipped
         × (skips.new.items ≡ skips.old.items ++ skips_of frame skipped)) }
     ensures stands { OnOk result (Stands (kinds_of ⟦<R::Value as SceneValue<R::Data>>⟧.places R.part_of R.columns) (placed_as (λ placed. placed.position) (λ placed. placed.system)
         R.kind_of R.config_of R.declared R.sense R.does) (R.book rules.now)
-        dispatcher.new world.new places.now (kept_scene R.part_of R.global_of
-        ⟦<Vec<Option<R::Data>> as ByPlace<R::Data>>⟧.at_place
-        ⟦<Vec<Option<R::Global>> as ByPlace<R::Global>>⟧.at_place (R.book rules.now) kept.new)) }
+        dispatcher.new world.new places.now (listed_scene R.part_of R.global_of (R.book rules.now) kept.new)) }
     ensures refused { IfErr result (Refuses (R.book rules.now) limit
-        (record { order = turn_order (placed_as (λ placed. placed.position) (λ placed. placed.system)
-        R.kind_of R.config_of R.declared R.sense R.does).plain dispatcher.old; commands = plain_commands R.part_of given.now })
-        (kept_scene R.part_of R.global_of
-        ⟦<Vec<Option<R::Data>> as ByPlace<R::Data>>⟧.at_place
-        ⟦<Vec<Option<R::Global>> as ByPlace<R::Global>>⟧.at_place (R.book rules.now) kept.old)) }
+        (record {
+          order = turn_order (placed_as (λ placed. placed.position) (λ placed. placed.system)
+              R.kind_of R.config_of R.declared R.sense R.does).plain dispatcher.old;
+          commands = plain_commands R.part_of given.now;
+        })
+        (listed_scene R.part_of R.global_of (R.book rules.now) kept.old)) }
     ensures skips { OnErr result (skips.new.items ≡ skips.old.items) }
     ensures kept { OnErr result (kept.new ≡ kept.old) }
     ensures order { turn_order (placed_as (λ placed. placed.position) (λ placed. placed.system)

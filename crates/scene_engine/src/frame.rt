@@ -9,14 +9,13 @@ use crate::load::{Course, course_of, open_in_world};
 use scene_document::{Limits, LoadError, read_document};
 use scene_draft::{JsonError, read_json};
 use scene_rules::{Command, DocRefusal, Report, Skips};
-use scene_snapshot::{ByPlace, kept_text};
+use scene_snapshot::kept_text;
 use scene_staging::places_of_systems;
 use scene_systems::SceneDispatcher;
 use scene_turns::{Rules, SceneValue};
 use serde_json::Value;
 use shred_world::World;
 use std::alloc::{AllocError, Global};
-use std::marker::Model;
 use std::mem;
 use std::sync::Wait;
 use std::thread::Threads;
@@ -37,37 +36,6 @@ where
     asked: u32,
     kept: KeptScene<R::Data, R::Global>,
     report: Report,
-}
-
-impl<R: Rules + Drop> Model for Scene<R>
-where
-    R::Value: Drop,
-{
-    ghost use Rattle.scene_turns.specs.Places.{kinds_of};
-    ghost use Rattle.scene_turns.specs.Turns.{placed_as};
-    ghost use Rattle.scene_systems.specs.Orders.{turn_order};
-    ghost use Rattle.scene_snapshot.specs.KeptScenes.{kept_scene};
-    ghost use Rattle.scene_engine.specs.Running.{Running, course_of, IsReady};
-
-    ghost Value = { Running R };
-
-    ghost view = { λ s. record { rules = s.rules; shown = record {
-      scene = kept_scene R.part_of R.global_of
-        ⟦<Vec<Option<R::Data>> as ByPlace<R::Data>>⟧.at_place
-        ⟦<Vec<Option<R::Global>> as ByPlace<R::Global>>⟧.at_place (R.book s.rules) s.kept;
-      frames = course_of R.part_of (turn_order (placed_as (λ placed. placed.position) (λ placed. placed.system)
-        R.kind_of R.config_of R.declared R.sense R.does).plain s.dispatcher) s.commands.items;
-      limit = s.limit;
-      asked = s.asked;
-      report = s.report;
-    } } };
-
-    ghost invariant = { λ s. IsReady (kinds_of ⟦<R::Value as SceneValue<R::Data>>⟧.places R.part_of R.columns) (placed_as (λ placed. placed.position) (λ placed. placed.system)
-        R.kind_of R.config_of R.declared R.sense R.does) (R.book s.rules) R.part_of
-        s.dispatcher s.world s.places.items s.commands.items s.report
-        (kept_scene R.part_of R.global_of
-        ⟦<Vec<Option<R::Data>> as ByPlace<R::Data>>⟧.at_place
-        ⟦<Vec<Option<R::Global>> as ByPlace<R::Global>>⟧.at_place (R.book s.rules) s.kept) };
 }
 
 /// A frame was not accepted; the report tells why.
@@ -92,13 +60,14 @@ where
     R::Value: Drop,
 {
     ghost use Rattle.serde_json.specs.View.{view};
-    ghost use Rattle.scene_rules.specs.Scenes.{IsProper};
     ghost use Rattle.scene.specs.Limits.{AreLimits};
     ghost use Rattle.scene.specs.Turns.{Advances, Stays, frames_left};
     ghost use Rattle.scene.specs.Outcomes.{IsNoDocument, bounds_of};
     ghost use Rattle.scene_document.specs.Loading.{IsNotLoaded};
     ghost use Rattle.scene_draft.specs.Texts.{scene_json, text_of, ReadsBack};
-    ghost use Rattle.scene_engine.specs.Running.{IsOpened, IsOpenedFrom};
+    ghost use Rattle.scene_turns.specs.Places.{kinds_of};
+    ghost use Rattle.scene_turns.specs.Turns.{placed_as};
+    ghost use Rattle.scene_engine.specs.Running.{shown_of, rules_of, IsReady, IsOpened, IsOpenedFrom};
 
     /// The scene of the document in these bytes, before any frame.
     ///
@@ -111,7 +80,9 @@ where
         bytes: &[u8],
     ) -> Result<Scene<R>, LoadError>
         requires { AreLimits limits }
-        ensures { MatchResult result (IsOpenedFrom R.book rules limits bytes.now)
+        ensures { MatchResult result (IsOpenedFrom (kinds_of ⟦<R::Value as SceneValue<R::Data>>⟧.places R.part_of R.columns) R.part_of R.global_of
+            (placed_as (λ placed. placed.position)
+            (λ placed. placed.system) R.kind_of R.config_of R.declared R.sense R.does) R.book rules limits bytes.now)
             (IsNoDocument (R.book rules) (bounds_of limits) bytes.now) }
     {
         let value = match read_json(alloc, bytes) {
@@ -133,17 +104,20 @@ where
         value: &Value,
     ) -> Result<Scene<R>, LoadError>
         requires { AreLimits limits }
-        ensures { MatchResult result (IsOpened R.book rules limits (view value.now))
+        ensures { MatchResult result (IsOpened (kinds_of ⟦<R::Value as SceneValue<R::Data>>⟧.places R.part_of R.columns) R.part_of R.global_of
+            (placed_as (λ placed. placed.position)
+            (λ placed. placed.system) R.kind_of R.config_of R.declared R.sense R.does) R.book rules limits (view value.now))
             (IsNotLoaded (R.book rules) limits.indices (view value.now)) }
     {
         let draft = match read_document(alloc, &rules, limits, value) {
             Ok(draft) => draft,
             Err(error) => return Err(error),
         };
-        let Ok(places) = places_of_systems(&draft.entries, alloc) else {
+        let Ok(places) = places_of_systems(draft.entries.as_slice(), alloc) else {
             return Err(LoadError::Memory);
         };
-        let Ok((world, kept)) = open_in_world(&rules, limits, &draft, &places, alloc) else {
+        let Ok((world, kept)) = open_in_world(&rules, limits, &draft, places.as_slice(), alloc)
+        else {
             return Err(LoadError::Memory);
         };
         let Ok(course) = course_of(&rules, draft, alloc) else {
@@ -174,40 +148,51 @@ where
 
     /// The frames asked for and not yet accepted.
     pub fn left(&self) -> u32
-        ensures { result ≡ frames_left self.now.shown }
+        ensures { result ≡ frames_left (shown_of (kinds_of ⟦<R::Value as SceneValue<R::Data>>⟧.places R.part_of R.columns) R.part_of R.global_of
+            (placed_as (λ placed. placed.position)
+            (λ placed. placed.system) R.kind_of R.config_of R.declared R.sense R.does) R.book self.now) }
     {
         self.asked.saturating_sub(self.report.frames)
     }
 
-    /// The text of the last accepted scene, which is proper; it reads as the JSON of the scene and as no other.
+    /// The text of the last accepted scene, which reads as the JSON of the scene and as no other.
     ///
     /// Errors: want of memory.
     pub fn snapshot(&self, alloc: Global) -> Result<Vec<u8>, AllocError>
-        ensures text { IfOk result (λ text. text.items ≡ text_of (R.book self.now.rules) self.now.shown.scene) }
+        ensures text { IfOk result (λ text. text.items ≡ text_of (R.book (rules_of self.now)) (shown_of (kinds_of ⟦<R::Value as SceneValue<R::Data>>⟧.places R.part_of R.columns) R.part_of R.global_of
+            (placed_as (λ placed. placed.position)
+            (λ placed. placed.system) R.kind_of R.config_of R.declared R.sense R.does) R.book self.now).scene) }
         ensures reads { IfOk result (λ text. ReadsBack text.items
-            (scene_json (R.book self.now.rules) self.now.shown.scene)) }
-        ensures proper { IsProper (R.book self.now.rules) self.now.shown.scene }
+            (scene_json (R.book (rules_of self.now)) (shown_of (kinds_of ⟦<R::Value as SceneValue<R::Data>>⟧.places R.part_of R.columns) R.part_of R.global_of
+            (placed_as (λ placed. placed.position)
+            (λ placed. placed.system) R.kind_of R.config_of R.declared R.sense R.does) R.book self.now).scene)) }
     {
         kept_text(alloc, &self.rules, &self.kept)
     }
 
     /// The next id of the last accepted scene.
     pub fn next(&self) -> u64
-        ensures { result ≡ self.now.shown.scene.next }
+        ensures { result ≡ (shown_of (kinds_of ⟦<R::Value as SceneValue<R::Data>>⟧.places R.part_of R.columns) R.part_of R.global_of
+            (placed_as (λ placed. placed.position)
+            (λ placed. placed.system) R.kind_of R.config_of R.declared R.sense R.does) R.book self.now).scene.next }
     {
         self.kept.next()
     }
 
     /// How far the scene has come: accepted frames, skipped commands, and the refusal if there is one.
     pub fn report(&self) -> &Report
-        ensures { result.now ≡ self.now.shown.report }
+        ensures { result.now ≡ (shown_of (kinds_of ⟦<R::Value as SceneValue<R::Data>>⟧.places R.part_of R.columns) R.part_of R.global_of
+            (placed_as (λ placed. placed.position)
+            (λ placed. placed.system) R.kind_of R.config_of R.declared R.sense R.does) R.book self.now).report }
     {
         &self.report
     }
 
     /// The report, for whom the scene has ended.
     pub fn into_report(self) -> Report
-        ensures { result ≡ self.shown.report }
+        ensures { result ≡ (shown_of (kinds_of ⟦<R::Value as SceneValue<R::Data>>⟧.places R.part_of R.columns) R.part_of R.global_of
+            (placed_as (λ placed. placed.position)
+            (λ placed. placed.system) R.kind_of R.config_of R.declared R.sense R.does) R.book self).report }
     {
         let Scene { report: told, .. } = self;
         told
@@ -215,8 +200,10 @@ where
 
     /// The rules and the report, for whom the scene has ended.
     pub fn into_parts(self) -> (R, Report)
-        ensures rules { result.0 ≡ self.rules }
-        ensures report { result.1 ≡ self.shown.report }
+        ensures rules { result.0 ≡ rules_of self }
+        ensures report { result.1 ≡ (shown_of (kinds_of ⟦<R::Value as SceneValue<R::Data>>⟧.places R.part_of R.columns) R.part_of R.global_of
+            (placed_as (λ placed. placed.position)
+            (λ placed. placed.system) R.kind_of R.config_of R.declared R.sense R.does) R.book self).report }
     {
         let Scene {
             rules: kept,
@@ -235,6 +222,9 @@ where
     R::System: Send + Sync,
 {
     ghost use Rattle.scene.specs.Turns.{Advances, Stays, frames_left};
+    ghost use Rattle.scene_turns.specs.Places.{kinds_of};
+    ghost use Rattle.scene_turns.specs.Turns.{placed_as};
+    ghost use Rattle.scene_engine.specs.Running.{shown_of, rules_of, IsReady};
 
     /// Runs the next frame: its systems on the dispatcher, then its commands.
     ///
@@ -246,10 +236,26 @@ where
         &mut self,
         rt: &H,
     ) -> Result<(), Refused>
-        requires left { 0 < frames_left self.old.shown }
-        ensures rules { self.new.rules ≡ self.old.rules }
-        ensures ok { OnOk result (Advances (R.book self.old.rules) self.old.shown self.new.shown) }
-        ensures err { OnErr result (Stays (R.book self.old.rules) self.old.shown self.new.shown) }
+        requires ready { IsReady (kinds_of ⟦<R::Value as SceneValue<R::Data>>⟧.places R.part_of R.columns) R.part_of R.global_of
+            (placed_as (λ placed. placed.position)
+            (λ placed. placed.system) R.kind_of R.config_of R.declared R.sense R.does) R.book self.old }
+        requires left { 0 < frames_left (shown_of (kinds_of ⟦<R::Value as SceneValue<R::Data>>⟧.places R.part_of R.columns) R.part_of R.global_of
+            (placed_as (λ placed. placed.position)
+            (λ placed. placed.system) R.kind_of R.config_of R.declared R.sense R.does) R.book self.old) }
+        ensures rules { rules_of self.new ≡ rules_of self.old }
+        ensures ready { IsReady (kinds_of ⟦<R::Value as SceneValue<R::Data>>⟧.places R.part_of R.columns) R.part_of R.global_of
+            (placed_as (λ placed. placed.position)
+            (λ placed. placed.system) R.kind_of R.config_of R.declared R.sense R.does) R.book self.new }
+        ensures ok { OnOk result (Advances (R.book (rules_of self.old)) (shown_of (kinds_of ⟦<R::Value as SceneValue<R::Data>>⟧.places R.part_of R.columns) R.part_of R.global_of
+            (placed_as (λ placed. placed.position)
+            (λ placed. placed.system) R.kind_of R.config_of R.declared R.sense R.does) R.book self.old) (shown_of (kinds_of ⟦<R::Value as SceneValue<R::Data>>⟧.places R.part_of R.columns) R.part_of R.global_of
+            (placed_as (λ placed. placed.position)
+            (λ placed. placed.system) R.kind_of R.config_of R.declared R.sense R.does) R.book self.new)) }
+        ensures err { OnErr result (Stays (R.book (rules_of self.old)) (shown_of (kinds_of ⟦<R::Value as SceneValue<R::Data>>⟧.places R.part_of R.columns) R.part_of R.global_of
+            (placed_as (λ placed. placed.position)
+            (λ placed. placed.system) R.kind_of R.config_of R.declared R.sense R.does) R.book self.old) (shown_of (kinds_of ⟦<R::Value as SceneValue<R::Data>>⟧.places R.part_of R.columns) R.part_of R.global_of
+            (placed_as (λ placed. placed.position)
+            (λ placed. placed.system) R.kind_of R.config_of R.declared R.sense R.does) R.book self.new)) }
     {
         if self.report.refused.is_some() {
             return Err(Refused);
@@ -264,7 +270,7 @@ where
             &self.rules,
             &mut self.dispatcher,
             &mut self.world,
-            &self.places,
+            self.places.as_slice(),
             self.limit,
             frame,
             given,

@@ -11,9 +11,9 @@ ghost use Rattle.scene_acts.specs.Acts.{seen_of};
 ghost use Rattle.scene_turns.specs.Places.{kinds_of};
 ghost use Rattle.scene_turns.specs.Turns.{placed_as, IsOfBook};
 ghost use Rattle.scene_systems.specs.Orders.{turn_order};
-ghost use Rattle.scene_snapshot.specs.KeptScenes.{kept_scene};
 ghost use Rattle.scene_frames.specs.Waiting.{NoneWaits};
-ghost use Rattle.scene_engine.specs.Running.{IsUnrefused, course_of};
+ghost use Rattle.scene.specs.Limits.{AreLimits};
+ghost use Rattle.scene_engine.specs.Running.{IsUnrefused, course_of, listed_scene};
 
 use crate::advance::KeptScene;
 use scene_document::{Limits, commands_of};
@@ -21,7 +21,6 @@ use scene_draft::DocumentDraft;
 use scene_keeping::keep_scene;
 use scene_loading::load_world;
 use scene_rules::Command;
-use scene_snapshot::ByPlace;
 use scene_staging::{open_queues, stage_systems};
 use scene_stores::Store;
 use scene_systems::SceneDispatcher;
@@ -56,20 +55,17 @@ pub(crate) fn open_in_world<R: Rules>(
 ) -> Result<(World<R::Value>, KeptScene<R::Data, R::Global>), AllocError>
 where
     R::Value: Drop,
+    requires limits { AreLimits limits }
     requires document { IsUnrefused R.part_of R.global_of R.kind_of R.config_of
         R.declared R.said_time (R.made_by rules.now) (R.book rules.now) draft.now }
     ensures stands { IfOk result (λ opened. IsSceneWorld (kinds_of ⟦<R::Value as SceneValue<R::Data>>⟧.places R.part_of R.columns) (R.book rules.now) (seen_of opened.0)) }
     ensures none { IfOk result (λ opened. NoneWaits (kinds_of ⟦<R::Value as SceneValue<R::Data>>⟧.places R.part_of R.columns) (seen_of opened.0)) }
     ensures same { IfOk result (λ opened. plain_of (kinds_of ⟦<R::Value as SceneValue<R::Data>>⟧.places R.part_of R.columns) (seen_of opened.0)
-        ≡ kept_scene R.part_of R.global_of
-        ⟦<Vec<Option<R::Data>> as ByPlace<R::Data>>⟧.at_place
-        ⟦<Vec<Option<R::Global>> as ByPlace<R::Global>>⟧.at_place (R.book rules.now) opened.1) }
+        ≡ listed_scene R.part_of R.global_of (R.book rules.now) opened.1) }
     ensures scene { IfOk result (λ opened. (plain : Draft) → (indices : ℕ)
         → IsDraft R.part_of R.global_of R.kind_of R.config_of (R.book rules.now) plain draft.now
         → refusal_of indices plain ≡ None
-        → kept_scene R.part_of R.global_of
-        ⟦<Vec<Option<R::Data>> as ByPlace<R::Data>>⟧.at_place
-        ⟦<Vec<Option<R::Global>> as ByPlace<R::Global>>⟧.at_place (R.book rules.now) opened.1 ≡ first_scene plain) }
+        → listed_scene R.part_of R.global_of (R.book rules.now) opened.1 ≡ first_scene plain) }
 {
     let mut world = load_world(
         rules,

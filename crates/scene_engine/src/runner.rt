@@ -3,13 +3,16 @@ ghost use Rattle.std.specs.Prelude.{◌≡◌, MatchResult};
 ghost use Rattle.scene.specs.Limits.{AreLimits};
 ghost use Rattle.scene.specs.Turns.{RunsOut, nothing_yet};
 ghost use Rattle.scene.specs.Outcomes.{IsRunOf, IsNoDocument, RunsDocument, reading, writing, bounds_of, full_bounds};
+ghost use Rattle.scene_turns.specs.Places.{kinds_of};
+ghost use Rattle.scene_turns.specs.Turns.{placed_as};
+ghost use Rattle.scene_engine.specs.Running.{shown_of, rules_of, IsReady};
 
 use crate::frame::Scene;
 use scene::RunError;
 use scene_devices::{CountedRead, CountedWrite, ReadFailure, read_document, write_text};
 use scene_document::{Limits, LoadError};
 use scene_rules::Report;
-use scene_turns::Rules;
+use scene_turns::{Rules, SceneValue};
 use std::sync::Wait;
 use std::thread::Threads;
 
@@ -56,9 +59,22 @@ where
     R::Data: Send + Sync,
     R::Global: Send + Sync,
     R::System: Send + Sync,
-    requires start { scene.old.shown.report ≡ nothing_yet }
-    ensures rules { scene.new.rules ≡ scene.old.rules }
-    ensures end { RunsOut (R.book scene.old.rules) scene.old.shown scene.new.shown }
+    requires ready { IsReady (kinds_of ⟦<R::Value as SceneValue<R::Data>>⟧.places R.part_of R.columns) R.part_of R.global_of
+        (placed_as (λ placed. placed.position)
+        (λ placed. placed.system) R.kind_of R.config_of R.declared R.sense R.does) R.book scene.old }
+    requires start { (shown_of (kinds_of ⟦<R::Value as SceneValue<R::Data>>⟧.places R.part_of R.columns) R.part_of R.global_of
+        (placed_as (λ placed. placed.position)
+        (λ placed. placed.system) R.kind_of R.config_of R.declared R.sense R.does) R.book scene.old).report ≡ nothing_yet }
+    ensures rules { rules_of scene.new ≡ rules_of scene.old }
+    ensures ready { IsReady (kinds_of ⟦<R::Value as SceneValue<R::Data>>⟧.places R.part_of R.columns) R.part_of R.global_of
+        (placed_as (λ placed. placed.position)
+        (λ placed. placed.system) R.kind_of R.config_of R.declared R.sense R.does) R.book scene.new }
+    ensures end { RunsOut (R.book (rules_of scene.old))
+        (shown_of (kinds_of ⟦<R::Value as SceneValue<R::Data>>⟧.places R.part_of R.columns) R.part_of R.global_of
+        (placed_as (λ placed. placed.position)
+        (λ placed. placed.system) R.kind_of R.config_of R.declared R.sense R.does) R.book scene.old) (shown_of (kinds_of ⟦<R::Value as SceneValue<R::Data>>⟧.places R.part_of R.columns) R.part_of R.global_of
+        (placed_as (λ placed. placed.position)
+        (λ placed. placed.system) R.kind_of R.config_of R.declared R.sense R.does) R.book scene.new) }
 {
     while scene.left() > 0 {
         match scene.run_frame(rt) {
@@ -87,13 +103,7 @@ pub fn run_with<
     H: AllocGlobal + Threads + Wait + Sync,
     I: CountedRead,
     O: CountedWrite,
->(
-    rt: &H,
-    rules: R,
-    limits: Limits,
-    reader: &mut I,
-    writer: &mut O,
-) -> Result<Report, RunError>
+>(rt: &H, rules: R, limits: Limits, reader: &mut I, writer: &mut O) -> Result<Report, RunError>
 where
     R::Value: Drop + Send + Sync,
     R::Data: Send + Sync,
@@ -127,12 +137,7 @@ pub fn run<
     H: AllocGlobal + Threads + Wait + Sync,
     I: CountedRead,
     O: CountedWrite,
->(
-    rt: &H,
-    rules: R,
-    reader: &mut I,
-    writer: &mut O,
-) -> Result<Report, RunError>
+>(rt: &H, rules: R, reader: &mut I, writer: &mut O) -> Result<Report, RunError>
 where
     R::Value: Drop + Send + Sync,
     R::Data: Send + Sync,
