@@ -239,11 +239,11 @@ refused part_of book limit frame commands queues scene mid cause given ran done 
     by (System position text) told = absurd told
     by (GoneReference id) told = (mid, ran.in_order, ran.systems, told)
     by IdsSpent told = (mid, ran.in_order, ran.systems, told)
-    by IndicesSpent told = absurd told
-    by GenerationsSpent told = absurd told
+    by IndicesSpent told = (mid, ran.in_order, ran.systems, told)
+    by GenerationsSpent told = (mid, ran.in_order, ran.systems, told)
     by TooManyCommands told = inr (mid, ran.in_order, ran.systems, told)
     by Memory told = tt
-    by Threads told = absurd told
+    by Threads told = tt
 
 -- a frame is refused where its systems are
 pub refused-systems : (book : Book) (limit : ℕ) (frame : PlainFrame) (scene : PlainScene) (cause : FrameRefusal) → SystemsAreRefused book frame.order scene cause → Refuses book limit frame scene cause
@@ -254,4 +254,4 @@ refused-systems book limit frame scene IndicesSpent told = absurd told
 refused-systems book limit frame scene GenerationsSpent told = absurd told
 refused-systems book limit frame scene TooManyCommands told = inl told
 refused-systems book limit frame scene Memory told = tt
-refused-systems book limit frame scene Threads told = absurd told
+refused-systems book limit frame scene Threads told = tt

@@ -38,5 +38,8 @@ SystemsAreRefused book order scene cause = Says (record {
   system = λ position text. SystemsRefuse book order scene position text;
   gone = λ id. ⊥;
   ids = ⊥;
+  indices = ⊥;
+  generations = ⊥;
   commands = SystemsFill book order scene;
+  threads = ⊥;
 }) cause

@@ -28,7 +28,7 @@ use Rattle.scene_acts.proofs.LookLemmas.{same-noted, stored-part, lives-under}
 use Rattle.scene_acts.proofs.ActLemmas.{life-counted, all-born}
 
 -- an entity that was born is another than one that wasn't
-born-another : (births : Births) (entity named : LifeAt) → 0 < entity.generation.number → entity.generation.lives ≡ true → ¬ (IsBorn births entity) → WasBorn births named → IsAnother entity named
+pub born-another : (births : Births) (entity named : LifeAt) → 0 < entity.generation.number → entity.generation.lives ≡ true → ¬ (IsBorn births entity) → WasBorn births named → IsAnother entity named
 born-another births entity named counts alive unborn born = by (eqb named.id entity.id) refl
   where
     tested : (b : Bool) → eqb entity.generation.number named.generation.number ≡ b → named.id ≡ entity.id → (named.generation.lives && b) ≡ false

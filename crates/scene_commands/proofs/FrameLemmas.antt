@@ -26,8 +26,8 @@ refused-as : (book : Book) (limit : ℕ) (all : List Command) (scene : PlainScen
 refused-as book limit all scene (System position text) within h = h
 refused-as book limit all scene (GoneReference id) within h = absurd h
 refused-as book limit all scene IdsSpent within h = (within, ap (λ commands. play 1 commands scene) (sym (append-nil all)) ∙ h [])
-refused-as book limit all scene IndicesSpent within h = h
-refused-as book limit all scene GenerationsSpent within h = h
+refused-as book limit all scene IndicesSpent within h = absurd h
+refused-as book limit all scene GenerationsSpent within h = absurd h
 refused-as book limit all scene TooManyCommands within h = absurd h
 refused-as book limit all scene Memory within h = h
 refused-as book limit all scene Threads within h = h

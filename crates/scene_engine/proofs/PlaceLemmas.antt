@@ -1,14 +1,27 @@
 -- The places of a document's systems ascend, and each system of a frame stands at one of them.
 use Rattle.std.proofs.Common.{◌≡◌, ◌<◌, ◌+◌, ℕ, zero, suc, Bool, true, false, cond, eqb, ◌||◌, List, [], ◌∷◌, ◌++◌, map, Option, Some, None, refl, ap, sym, ◌∙◌, subst, arith, All, AllPairs}
 use Rattle.std.specs.List.{filter_map, find, cons_option}
+use Rattle.std.specs.Prelude.{slice_get, option_map}
+use Rattle.std.specs.Global.{Vec}
 use Rattle.std.proofs.lemmas.Bool.{eqb-true, eq-eqb}
 use Rattle.std.proofs.lemmas.Option.{none-some, same_Some}
-use Rattle.std.proofs.lemmas.List.Elements.{All-nil, All-cons, All-append, All-weaker}
+use Rattle.std.proofs.lemmas.List.Elements.{All-nil, All-cons, All-head, All-tail, All-append, All-weaker}
 use Rattle.std.proofs.lemmas.List.Kept.{AllPairs-cons}
-use Rattle.scene_rules.specs.Rulebook.{Facts}
-use Rattle.scene_rules.specs.Scenes.{PlainSystem, lives}
+use Rattle.scene_rules.specs.declared.command.Command.{Command}
+use Rattle.scene_rules.specs.Parts.{Json, Name, Part}
+use Rattle.scene_rules.specs.Rulebook.{Book, Facts}
+use Rattle.scene_rules.specs.Scenes.{PlainSystem, IsDescribed, lives}
+use Rattle.scene_rules.specs.Lawful.{IsLawful}
+use Rattle.scene_rules.specs.Queues.{plain_commands}
+use Rattle.scene_draft.specs.declared.draft.EntryDraft.{EntryDraft}
+use Rattle.scene_draft.specs.declared.draft.EntryDraft.TheVariants as entry
+use Rattle.scene_draft.specs.declared.draft.MadeDraft.{MadeDraft}
+use Rattle.scene_draft.specs.declared.draft.CommandDraft.{CommandDraft}
+use Rattle.scene_draft.specs.DraftViews.{plain_draft, plain_system, plain_list, plain_asked, facts_of, seen, config_seen, IsMadeAs, IsOfBook, IsLawfulDraft}
+use Rattle.scene_document.specs.Loading.{commands_at}
+use Rattle.scene_document.proofs.CallerLemmas.{commands-plain, lists-lawful}
 use Rattle.scene_draft.specs.Drafts.{Draft, DraftEntry, DraftSystem, barrier, system}
-use Rattle.scene_document.specs.Openings.{with_facts, systems_at, all_systems, local_systems, staged_systems, frames_of, staged, same_resource}
+use Rattle.scene_document.specs.Openings.{with_facts, systems_at, all_systems, local_systems, staged_systems, frames_of, staged, same_resource, command_of, commands_in, commands_for}
 use Rattle.shred_plan.specs.Plan.{order}
 
 -- the places of systems
@@ -90,3 +103,43 @@ order-there draft frame =
     All-append (λ one. lives one.position (places_of (all_systems draft)) ≡ true) (staged_systems draft) (local_systems draft)
     (all-found (λ one. lives one.position (places_of (all_systems draft)) ≡ true) (λ place. find (λ one. eqb one.position place) (all_systems draft)) (λ place one is. found-there (λ other. eqb other.position place) (all_systems draft) one is) (order same_resource (staged draft.entries 1 draft.entries)))
     (locals-there 1 draft.entries)
+
+-- what holds of all holds of one that is found
+found-holds : (P : PlainSystem → Type 0) (test : PlainSystem → Bool) (systems : List PlainSystem) (one : PlainSystem) → All P systems → find test systems ≡ Some one → P one
+found-holds P test [] one all is = absurd (none-some one is)
+found-holds P test (first ∷ systems) one all is = by (test first) is (found-holds P test systems one (All-tail P first systems all))
+  where
+    by : (b : Bool) → cond b (Some first) (find test systems) ≡ Some one → (find test systems ≡ Some one → P one) → P one
+    by true found later = subst P (same_Some first one found) (All-head P first systems all)
+    by false found later = later found
+
+-- the systems of entries that the rules made are ones that they describe
+described-entries : {S : Type 0} (kind_of : S → Name) (config_of : S → Json) (book : Book) (test : DraftSystem → Bool) (place : ℕ) (entries : List (EntryDraft S)) → All (IsOfBook kind_of config_of book) entries → All (IsDescribed book) (systems_at test place (map plain_draft entries))
+described-entries kind_of config_of book test place [] all = All-nil (IsDescribed book)
+described-entries kind_of config_of book test place (entry.Barrier ∷ entries) all = described-entries kind_of config_of book test (suc place) entries (All-tail (IsOfBook kind_of config_of book) entry.Barrier entries all)
+described-entries kind_of config_of book test place (entry.System draft ∷ entries) all =
+    by (test (plain_system draft)) draft.made (All-head (IsOfBook kind_of config_of book) (entry.System draft) entries all) (described-entries kind_of config_of book test (suc place) entries (All-tail (IsOfBook kind_of config_of book) (entry.System draft) entries all))
+  where
+    by : (b : Bool) (made : Option (MadeDraft S)) → IsMadeAs kind_of config_of book draft.kind.now (config_seen (seen draft.config)) made → All (IsDescribed book) (systems_at test (suc place) (map plain_draft entries))
+        → All (IsDescribed book) (cond b (with_facts place (plain_system draft) (option_map facts_of made)) [] ++ systems_at test (suc place) (map plain_draft entries))
+    by false made is later = later
+    by true None is later = later
+    by true (Some made) is later = All-cons (IsDescribed book) (record { position = place; kind = draft.kind.now; config = config_seen (seen draft.config); access = (facts_of made).access }) (systems_at test (suc place) (map plain_draft entries)) (facts_of made, is.known, refl) later
+
+pub order-described : {S : Type 0} (kind_of : S → Name) (config_of : S → Json) (book : Book) (draft : Draft) (entries : List (EntryDraft S)) (frame : ℕ) → draft.entries ≡ map plain_draft entries → All (IsOfBook kind_of config_of book) entries → All (IsDescribed book) (frames_of draft frame).order
+order-described kind_of config_of book draft entries frame are made =
+    let all : All (IsDescribed book) (all_systems draft) = subst (λ list. All (IsDescribed book) (systems_at (λ one. true) 1 list)) (sym are) (described-entries kind_of config_of book (λ one. true) 1 entries made) in
+    All-append (IsDescribed book) (staged_systems draft) (local_systems draft)
+    (all-found (IsDescribed book) (λ place. find (λ one. eqb one.position place) (all_systems draft)) (λ place one is. found-holds (IsDescribed book) (λ other. eqb other.position place) (all_systems draft) one all is) (order same_resource (staged draft.entries 1 draft.entries)))
+    (subst (λ list. All (IsDescribed book) (systems_at (λ one. one.local) 1 list)) (sym are) (described-entries kind_of config_of book (λ one. one.local) 1 entries made))
+
+-- the commands of a document for a frame are those that were made of its lists
+pub frame-commands : {D : Type 0} (part_of : D → Part) (draft : Draft) (lists : List (Vec (CommandDraft D))) (commands : List (Vec (Command D))) → draft.commands ≡ map (plain_list part_of) lists
+    → map (λ list. plain_commands part_of list.items) commands ≡ map (λ list. filter_map command_of (plain_list part_of list)) lists → (frame : ℕ) → commands_for draft frame ≡ commands_at part_of commands frame
+frame-commands part_of draft lists commands are made zero = refl
+frame-commands part_of draft lists commands are made (suc place) = ap (λ all. commands_in (slice_get all place)) are ∙ commands-plain part_of lists commands made place
+
+pub frame-lawful : {D : Type 0} (part_of : D → Part) (book : Book) (lists : List (Vec (CommandDraft D))) (commands : List (Vec (Command D))) → All (λ list. All (λ one. IsLawfulDraft book (plain_asked part_of one)) list.items) lists
+    → map (λ list. plain_commands part_of list.items) commands ≡ map (λ list. filter_map command_of (plain_list part_of list)) lists → (frame : ℕ) → All (IsLawful book) (commands_at part_of commands frame)
+frame-lawful part_of book lists commands lawful made zero = All-nil (IsLawful book)
+frame-lawful part_of book lists commands lawful made (suc place) = subst (All (IsLawful book)) (commands-plain part_of lists commands made place) (lists-lawful part_of book lists lawful place)

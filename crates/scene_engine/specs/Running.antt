@@ -7,7 +7,7 @@ use Rattle.shred.specs.Dispatching.{Dispatching}
 use Rattle.scene_rules.specs.declared.command.Command.{Command}
 use Rattle.scene_rules.specs.Parts.{Json, Name, Part}
 use Rattle.scene_rules.specs.Rulebook.{Access, Book}
-use Rattle.scene_rules.specs.Scenes.{PlainScene, PlainSystem, PlainFrame}
+use Rattle.scene_rules.specs.Scenes.{PlainScene, PlainSystem, PlainFrame, IsProper}
 use Rattle.scene_draft.specs.declared.draft.DocumentDraft.{DocumentDraft}
 use Rattle.scene_draft.specs.Drafts.{Draft}
 use Rattle.scene_draft.specs.DraftViews.{IsDraft, AreMade}
@@ -23,6 +23,7 @@ use Rattle.scene_draft.specs.Texts.{json_of}
 use Rattle.scene_document.specs.declared.loaded.Limits.{Limits}
 use Rattle.scene_rules.specs.declared.refusals.Report.{Report}
 use Rattle.scene_rules.specs.Lawful.{IsLawful}
+use Rattle.scene.specs.Runs.{CanBegin}
 use Rattle.scene.specs.Turns.{Shown, opening}
 
 -- what a scene is seen as: the rules that it runs under, and what is shown of it
@@ -51,15 +52,17 @@ module _ {V P : Type 0} (kinds : Kinds V) (meaning : Meaning P) (book : Book) wh
     pub places : AreTheirPlaces places (turn_order meaning.plain systems)
     pub same : plain_of kinds (seen_of w) ≡ scene
 
-  -- a scene is ready: unless a frame was refused, it stands in its world, and the commands of its frames are ones that the rules know
+  -- a scene is ready: unless a frame was refused, it stands in its world; it is proper, and the commands of its frames are ones that the
+  -- rules know
   pub record IsReady {D : Type 0} (part_of : D → Part) (systems : Dispatching P P) (w : Slots V) (places : List ℕ) (commands : List (Vec (Command D))) (report : Report) (scene : PlainScene) : Type 0 where
     pub stands : report.refused ≡ None → Stands systems w places scene
     pub lawful : (number : ℕ) → All (IsLawful book) (commands_at part_of commands number)
+    pub proper : IsProper book scene
 
--- a scene was opened from a JSON: a document under these limits, before any frame
+-- a scene was opened from a JSON: a document under these limits, before any frame, and it can begin
 pub record IsOpened {R : Type 0} (book_of : R → Book) (rules : R) (limits : Limits) (json : Json) (scene : Running R) : Type 0 where
   pub same_rules : scene.rules ≡ rules
-  pub document : (draft : Draft) × (document_from (book_of rules) limits.indices json ≡ Ok draft) × (scene.shown ≡ opening limits.commands draft)
+  pub document : (draft : Draft) × (document_from (book_of rules) limits.indices json ≡ Ok draft) × (scene.shown ≡ opening limits.commands draft) × CanBegin (book_of rules) draft
 
 -- a scene was opened from bytes: they read as a JSON, and it was opened from that
 abbrev pub IsOpenedFrom : {R : Type 0} → (R → Book) → R → Limits → List ℕ → Running R → Type 0

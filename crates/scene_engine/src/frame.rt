@@ -92,6 +92,7 @@ where
     R::Value: Drop,
 {
     ghost use Rattle.serde_json.specs.View.{view};
+    ghost use Rattle.scene_rules.specs.Scenes.{IsProper};
     ghost use Rattle.scene.specs.Limits.{AreLimits};
     ghost use Rattle.scene.specs.Turns.{Advances, Stays, frames_left};
     ghost use Rattle.scene.specs.Outcomes.{IsNoDocument, bounds_of};
@@ -178,11 +179,14 @@ where
         self.asked.saturating_sub(self.report.frames)
     }
 
-    /// The text of the last accepted scene, which reads as the JSON of the scene and as no other. Refused for memory alone.
+    /// The text of the last accepted scene, which is proper; it reads as the JSON of the scene and as no other.
+    ///
+    /// Errors: want of memory.
     pub fn snapshot(&self, alloc: Global) -> Result<Vec<u8>, AllocError>
         ensures text { IfOk result (λ text. text.items ≡ text_of (R.book self.now.rules) self.now.shown.scene) }
         ensures reads { IfOk result (λ text. ReadsBack text.items
             (scene_json (R.book self.now.rules) self.now.shown.scene)) }
+        ensures proper { IsProper (R.book self.now.rules) self.now.shown.scene }
     {
         kept_text(alloc, &self.rules, &self.kept)
     }

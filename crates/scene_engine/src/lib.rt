@@ -5,5 +5,7 @@
 mod advance;
 mod frame;
 mod load;
+mod runner;
 
 pub use frame::{Refused, Scene};
+pub use runner::{run, run_to_end, run_with};

@@ -1,35 +1,34 @@
--- An entity that begins to live in a world without parts, under an id of its own.
-use Rattle.std.proofs.Common.{◌≡◌, ◌<◌, ◌+◌, ℕ, Bool, true, false, cond, eqb, max, [], ◌∷◌, Option, Some, None, is_some, refl, ap, sym, ◌∙◌, subst, arith, All}
-use Rattle.std.specs.Prelude.{IsSome, option_and_then, option_map}
+-- An entity that begins to live in a world, under an id of its own.
+use Rattle.std.proofs.Common.{◌≡◌, ◌<◌, ◌≤◌, ◌+◌, ℕ, Bool, true, false, cond, eqb, max, [], ◌∷◌, Option, Some, None, refl, ap, sym, ◌∙◌, subst, arith, All}
+use Rattle.std.specs.Prelude.{IsSome, option_and_then}
 use Rattle.std.specs.Option.{option_map_or, unwrap_or}
 use Rattle.std.specs.FinMap as map
 use Rattle.std.specs.Cmp.{nat_cmp_total}
 use Rattle.std.proofs.lemmas.Bool.{false≢true}
-use Rattle.std.proofs.lemmas.Option.{none-some}
 use Rattle.std.proofs.lemmas.List.Elements.{All-cons, All-weaker}
 use Rattle.shred_world.specs.declared.resource_id.ResourceId.{ResourceId}
 use Rattle.shred_world.specs.ResourceIds.{same_id}
 use Rattle.shred_world.specs.Worlds.{Slots}
-use Rattle.specs_entity.specs.Births.{living, none_born}
+use Rattle.specs_entity.specs.Births.{count, living, none_born}
 use Rattle.specs_entity.specs.Life.{Life, LifeAt}
 use Rattle.specs_markers.specs.Simple.{Noting, Gives, allocated, noted_under, none_noted}
 use Rattle.scene_rules.specs.Ids.{ascending}
 use Rattle.scene_rules.specs.Parts.{Name, is_among}
 use Rattle.scene_rules.specs.Scenes.{lives}
 use Rattle.scene_rules.proofs.CallerLemmas.{is_eq-nat_cmp, same_scene}
-use Rattle.scene_world.specs.Stored.{Stored, part_under}
-use Rattle.scene_world.specs.Rolls.{Roll, id_at, index_of, ids_in, ref_to, part_in}
-use Rattle.scene_world.specs.Standing.{Sight, Kinds, roll_of, column_of, column_in, value_of, plain_of}
+use Rattle.scene_world.specs.Stored.{Stored}
+use Rattle.scene_world.specs.Rolls.{Roll, ids_in, part_in}
+use Rattle.scene_world.specs.Standing.{Sight, Kinds, roll_of, column_of, column_in, value_of}
 use Rattle.scene_world.specs.Lent.{StandApart, entities, markers, allocator, parts, value, queue}
-use Rattle.scene_world.specs.Changes.{but_at}
-use Rattle.scene_world.proofs.CallerLemmas.{living-lives, index-of-id}
-use Rattle.scene_acts.specs.Acts.{seen_of, MayAct}
+use Rattle.scene_world.specs.Changes.{but_at, IsAnother, IsUnnamed}
+use Rattle.scene_world.proofs.CallerLemmas.{living-lives}
+use Rattle.scene_acts.specs.Acts.{seen_of, WasBorn, MayAct}
 use Rattle.scene_acts.specs.Newborns.{ComesToLife, Marks}
-use Rattle.scene_acts.proofs.CallerLemmas.{life-counted}
-use Rattle.scene_loading.specs.Entries.{with_entities, HasNoParts}
+use Rattle.scene_acts.proofs.CallerLemmas.{life-counted, born-another}
+use Rattle.scene_loading.specs.Entries.{with_entities}
 use Rattle.scene_loading.specs.Becoming.{Becomes}
 use Rattle.scene_loading.specs.Notes.{NotesUnder}
-use Rattle.scene_loading.proofs.RollLemmas.{apart-turned, all-ascending, roll-entered, ids-entered}
+use Rattle.scene_loading.proofs.RollLemmas.{apart-turned, all-ascending, roll-entered, ids-entered, part-stays}
 
 -- what is noted where an id was asked for
 noted-there : (noting : Noting) (entity : LifeAt) (id other : ℕ) → noted_under (allocated noting entity (Some id)) other ≡ but_at id (Some entity) (noted_under noting) other
@@ -57,42 +56,8 @@ module _ {V : Type 0} (kinds : Kinds V) (w later : Slots V) (was back : V) where
       now-is : (roll_of kinds (seen_of later)).noting ≡ after
       now-is = ap (λ held. unwrap_or (option_and_then kinds.noting held) none_noted) stands ∙ ap (λ o. unwrap_or o none_noted) new
 
-module _ {V : Type 0} (kinds : Kinds V) where
-  -- no column stores a part where no entity has one
-  pub none-stored : (w : Slots V) → MayAct kinds w → HasNoParts (plain_of kinds (seen_of w)) → (kind : Name) → is_among kind kinds.part_names ≡ true → (index : ℕ) → column_of kinds (seen_of w) kind index ≡ None
-  none-stored w may bare kind known index = by (column_of kinds (seen_of w) kind index) refl
-    where
-      roll : Roll
-      roll = roll_of kinds (seen_of w)
-
-      there : (one : Stored) → column_of kinds (seen_of w) kind index ≡ Some one → (life : Option Life) → living roll.births index ≡ life → IsSome life → ⊥
-      there one e None nobody some = false≢true some
-      there one e (Some life) lived some =
-          let marks = may.roll.marked index life lived in
-          let at : id_at roll index ≡ Some marks.0 = ap (λ o. cond (is_some o) (roll.marker index) None) lived ∙ marks.1.marker in
-          none-some (part_under (ref_to roll) one) (sym (bare marks.0 kind)
-          ∙ ap (λ b. cond b (part_in roll (column_of kinds (seen_of w) kind) marks.0) None) known
-          ∙ ap (option_and_then (λ i. option_map (part_under (ref_to roll)) (column_of kinds (seen_of w) kind i))) (index-of-id roll may.roll marks.0 index at)
-          ∙ ap (option_map (part_under (ref_to roll))) e)
-
-      by : (o : Option Stored) → column_of kinds (seen_of w) kind index ≡ o → column_of kinds (seen_of w) kind index ≡ None
-      by None e = e
-      by (Some one) e = absurd (there one e (living roll.births index) refl (subst (λ o. IsSome o) refl (may.within kind known index (subst (λ o. IsSome o) (sym e) refl))))
-
-  -- no entity has a part where no column stores one
-  none-seen : (w : Sight V) → ((kind : Name) → is_among kind kinds.part_names ≡ true → (index : ℕ) → column_of kinds w kind index ≡ None) → HasNoParts (plain_of kinds w)
-  none-seen w bare id kind = by (is_among kind kinds.part_names) refl
-    where
-      at : (known : is_among kind kinds.part_names ≡ true) (o : Option ℕ) → option_and_then (λ index. option_map (part_under (ref_to (roll_of kinds w))) (column_of kinds w kind index)) o ≡ None
-      at known None = refl
-      at known (Some index) = ap (option_map (part_under (ref_to (roll_of kinds w)))) (bare kind known index)
-
-      by : (b : Bool) → is_among kind kinds.part_names ≡ b → cond b (part_in (roll_of kinds w) (column_of kinds w kind) id) None ≡ None
-      by true known = at known (index_of (roll_of kinds w) id)
-      by false unknown = refl
-
 module _ {V : Type 0} (kinds : Kinds V) (apart : StandApart kinds) (w : Slots V) (alive noted : Sight V) (later : Slots V) (entity : LifeAt) (id : ℕ)
-    (may : MayAct kinds w) (bare : HasNoParts (plain_of kinds (seen_of w))) (absent : lives id (ids_in (roll_of kinds (seen_of w))) ≡ false)
+    (may : MayAct kinds w) (absent : lives id (ids_in (roll_of kinds (seen_of w))) ≡ false)
     (comes : ComesToLife kinds entity (seen_of w) alive) (notes : NotesUnder kinds entity id alive noted) (marks : Marks kinds entity.id id noted (seen_of later)) where
   abbrev old : Roll
   old = roll_of kinds (seen_of w)
@@ -118,18 +83,19 @@ module _ {V : Type 0} (kinds : Kinds V) (apart : StandApart kinds) (w : Slots V)
       ap (λ held. unwrap_or (option_and_then kinds.noting held) none_noted) allocator-last ∙ notes.noting
       ∙ ap (λ held. allocated (unwrap_or (option_and_then kinds.noting held) none_noted) entity (Some id)) (comes.others kinds.allocator_id (apart allocator entities refl refl))
 
-  column-none : (kind : Name) → is_among kind kinds.part_names ≡ true → (index : ℕ) → column_of kinds (seen_of later) kind index ≡ None
-  column-none kind known index =
-      ap (λ held. column_in kinds kind held index)
+  column-stays : (kind : Name) → is_among kind kinds.part_names ≡ true → (index : ℕ) → column_of kinds (seen_of later) kind index ≡ column_of kinds (seen_of w) kind index
+  column-stays kind known index = ap (λ held. column_in kinds kind held index)
       (marks.others (kinds.part_id kind) (apart (parts kind) markers known refl) ∙ notes.others (kinds.part_id kind) (apart (parts kind) allocator known refl)
       ∙ comes.others (kinds.part_id kind) (apart (parts kind) entities known refl))
-      ∙ none-stored kinds w may bare kind known index
 
   value-stays : (name : Name) → is_among name kinds.global_names ≡ true → value_of kinds (seen_of later) name ≡ value_of kinds (seen_of w) name
   value-stays name known =
       ap (λ held. option_and_then (kinds.value name) held)
       (marks.others (kinds.global_id name) (apart (value name) markers known refl) ∙ notes.others (kinds.global_id name) (apart (value name) allocator known refl)
       ∙ comes.others (kinds.global_id name) (apart (value name) entities known refl))
+
+  lives-now : entity.generation.lives ≡ true
+  lives-now = living-lives (roll_of kinds alive).births entity.id entity.generation comes.alive
 
   -- nobody lived there before, who would live on
   free : living old.births entity.id ≡ None
@@ -140,7 +106,7 @@ module _ {V : Type 0} (kinds : Kinds V) (apart : StandApart kinds) (w : Slots V)
       by (Some life) e =
           let both : Some life ≡ Some entity.generation = sym (comes.live_on (record { id = entity.id; generation = life }) e) ∙ comes.alive in
           let same : life ≡ entity.generation = cc in
-          absurd (comes.unborn (living-lives (roll_of kinds alive).births entity.id entity.generation comes.alive, comes.counts, life-counted old.births entity.id entity.generation (e ∙ ap Some same)))
+          absurd (comes.unborn (lives-now, comes.counts, life-counted old.births entity.id entity.generation (e ∙ ap Some same)))
 
   lives-last : (at : ℕ) → living new.births at ≡ but_at entity.id (Some entity.generation) (living old.births) at
   lives-last at = ap (λ b. living b at) births-last ∙ comes.lives at
@@ -160,6 +126,17 @@ module _ {V : Type 0} (kinds : Kinds V) (apart : StandApart kinds) (w : Slots V)
       (all-ascending (λ one. one < max old.noting.next (id + 1)) (id ∷ ids_in old) (All-cons (λ one. one < max old.noting.next (id + 1)) id (ids_in old) (omega arith)
       (All-weaker (λ one. one < old.noting.next) (λ one. one < max old.noting.next (id + 1)) (λ one lower. omega (arith, lower)) (ids_in old) may.below))))
 
+  -- no part stands at its index, and none names it
+  none-there : (kind : Name) → is_among kind kinds.part_names ≡ true → column_of kinds (seen_of w) kind entity.id ≡ None
+  none-there kind known = by (column_of kinds (seen_of w) kind entity.id) refl
+    where
+      by : (o : Option Stored) → column_of kinds (seen_of w) kind entity.id ≡ o → o ≡ None
+      by None e = refl
+      by (Some one) e = absurd (false≢true (subst (λ o. IsSome o) free (may.within kind known entity.id (subst (λ o. IsSome o) (sym e) refl))))
+
+  unnamed : (kind : Name) → is_among kind kinds.part_names ≡ true → IsUnnamed entity (column_of kinds (seen_of w) kind)
+  unnamed kind known index one e = All-weaker (WasBorn old.births) (IsAnother entity) (λ named was. born-another old.births entity named comes.counts lives-now comes.unborn was) one.named (may.born kind known index one e)
+
   -- the world has one entity more
   pub enters : Becomes kinds (with_entities (id ∷ [])) w later
   enters = record {
@@ -169,15 +146,28 @@ module _ {V : Type 0} (kinds : Kinds V) (apart : StandApart kinds) (w : Slots V)
       allocator = subst (λ held. IsSome (option_and_then kinds.noting held)) (sym allocator-last) notes.there;
       roll = roll-entered old new may.roll id absent entity free lives-last marker-last notes-last;
       below = below-last;
-      within = λ kind known index some. absurd (false≢true (subst (λ o. IsSome o) (column-none kind known index) some));
-      born = λ kind known index one e. absurd (none-some one (sym (column-none kind known index) ∙ e));
+      within = λ kind known index some. subst (λ l. IsSome l) (sym (lives-last index)) (there kind known index (eqb index entity.id) (subst (λ o. IsSome o) (column-stays kind known index) some));
+      born = λ kind known index one e. All-weaker (WasBorn old.births) (WasBorn new.births) (λ named was. omega (arith, was, more named.id)) one.named (may.born kind known index one (sym (column-stays kind known index) ∙ e));
     };
-    scene = same_scene _ _ (ap (λ n. n.next) noting-last) ids-last (λ other kind. none-seen kinds (seen_of later) column-none other kind ∙ sym (bare other kind)) (λ name. global name (is_among name kinds.global_names) refl);
+    scene = same_scene _ _ (ap (λ n. n.next) noting-last) ids-last (λ other kind. part other kind (is_among kind kinds.part_names) refl) (λ name. global name (is_among name kinds.global_names) refl);
     queues = λ position. ap (λ held. option_map_or kinds.queued held [])
         (marks.others (kinds.queue_id position) (apart (queue position) markers refl refl) ∙ notes.others (kinds.queue_id position) (apart (queue position) allocator refl refl)
         ∙ comes.others (kinds.queue_id position) (apart (queue position) entities refl refl));
   }
     where
+      there : (kind : Name) → is_among kind kinds.part_names ≡ true → (index : ℕ) (b : Bool) → IsSome (column_of kinds (seen_of w) kind index) → IsSome (cond b (Some entity.generation) (living old.births index))
+      there kind known index true some = refl
+      there kind known index false some = may.within kind known index some
+
+      more : (at : ℕ) → count old.births at ≤ count new.births at
+      more at = subst (λ b. count old.births at ≤ count b at) (sym births-last) (comes.births at)
+
+      part : (other : ℕ) (kind : Name) (b : Bool) → is_among kind kinds.part_names ≡ b
+          → cond b (part_in new (column_of kinds (seen_of later) kind) other) None ≡ cond b (part_in old (column_of kinds (seen_of w) kind) other) None
+      part other kind true known = part-stays old new may.roll id absent entity free lives-last marker-last notes-last
+          (column_of kinds (seen_of w) kind) (column_of kinds (seen_of later) kind) (column-stays kind known) (none-there kind known) (unnamed kind known) other
+      part other kind false unknown = refl
+
       global : (name : Name) (b : Bool) → is_among name kinds.global_names ≡ b → cond b (value_of kinds (seen_of later) name) None ≡ cond b (value_of kinds (seen_of w) name) None
       global name true known = value-stays name known
       global name false unknown = refl

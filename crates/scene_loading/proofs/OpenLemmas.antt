@@ -130,6 +130,12 @@ module _ {V D : Type 0} (places : Places V D) (part_of : D → Part) (columns : 
     born = λ kind known index stored e. absurd (none-some stored (sym (no-part registers kind known index) ∙ e));
   }
 
+  -- nobody was born in it
+  pub open-births : Registers columns seated later → (indices generations : ℕ) → places.births born ≡ Some (none_born indices generations)
+      → (roll_of (kinds_of places part_of columns) (seen_of later)).births ≡ none_born indices generations
+  open-births registers indices generations births =
+      ap (λ held. unwrap_or (option_and_then places.births held) (none_born 0 0)) (at-entities registers) ∙ ap (λ o. unwrap_or o (none_born 0 0)) births
+
   -- no global has a value, where nothing stood before
   no-value : Registers columns seated later → ((id : ResourceId) → value_at w id ≡ None) → (name : Name) → is_among name columns.global_names ≡ true → seen_of later (columns.global_id name) ≡ None
   no-value registers bare name known =

@@ -1,6 +1,6 @@
 -- Who lives once an entity is known under an id of its own.
-use Rattle.std.proofs.Common.{◌≡◌, ℕ, Bool, true, false, cond, eqb, ◌||◌, ◌&&◌, List, [], ◌∷◌, Option, Some, None, is_some, refl, ap, sym, ◌∙◌, All}
-use Rattle.std.specs.Prelude.{option_and_then}
+use Rattle.std.proofs.Common.{◌≡◌, ℕ, Bool, true, false, cond, eqb, ◌||◌, ◌&&◌, List, [], ◌∷◌, map, Option, Some, None, is_some, refl, ap, sym, ◌∙◌, All}
+use Rattle.std.specs.Prelude.{option_and_then, option_map}
 use Rattle.std.proofs.lemmas.Bool.{true≢false, eqb-true, eqb-false, ne_eqb, eq-eqb}
 use Rattle.std.proofs.lemmas.Option.{none-some}
 use Rattle.std.proofs.lemmas.List.Elements.{All-head, All-tail}
@@ -12,8 +12,9 @@ use Rattle.specs_markers.specs.Simple.{noted_under}
 use Rattle.scene_rules.specs.Ids.{ascending}
 use Rattle.scene_rules.specs.Scenes.{lives}
 use Rattle.scene_rules.proofs.CallerLemmas.{lives-ascending, in_order-ascends, same-ids}
-use Rattle.scene_world.specs.Rolls.{Roll, is_life, is_id, id_at, index_if, index_of, ids_in, IsMarked, IsRoll}
-use Rattle.scene_world.specs.Changes.{but_at}
+use Rattle.scene_world.specs.Stored.{Stored, part_with, part_under}
+use Rattle.scene_world.specs.Rolls.{Roll, is_life, is_id, reference, id_at, index_if, index_of, ids_in, ref_to, part_in, IsMarked, IsRoll}
+use Rattle.scene_world.specs.Changes.{but_at, IsAnother, IsUnnamed}
 use Rattle.scene_world.proofs.CallerLemmas.{lives-index, index-of-id, ids-ascend}
 
 -- two numbers are as apart in the other order
@@ -107,3 +108,45 @@ module _ (old new : Roll) (was : IsRoll old) (id : ℕ) (absent : lives id (ids_
       by : (other : ℕ) (b : Bool) → eqb id other ≡ b → is_some (index_of new other) ≡ (eqb id other || lives other (ids_in old))
       by other true same = ap (λ i. is_some (index_of new i)) (sym (eqb-true id other same)) ∙ ap is_some index-here ∙ sym (ap (λ b. b || lives other (ids_in old)) same)
       by other false differ = ap is_some (index-stays other differ) ∙ sym (lives-index old other) ∙ sym (ap (λ b. b || lives other (ids_in old)) differ)
+
+  -- another entity is the reference that it was
+  ref-stays : (one : LifeAt) → IsAnother entity one → ref_to new one ≡ ref_to old one
+  ref-stays one another = by (eqb one.id entity.id) refl another
+    where
+      by : (b : Bool) → eqb one.id entity.id ≡ b → cond b (is_life one.generation (Some entity.generation)) false ≡ false → ref_to new one ≡ ref_to old one
+      by true here isnt =
+          ap (λ l. reference (cond (is_life one.generation l) (id_at new one.id) None)) (born one.id ∙ ap (λ b. cond b (Some entity.generation) (living old.births one.id)) here)
+          ∙ ap (λ t. reference (cond t (id_at new one.id) None)) isnt
+          ∙ sym (ap (λ l. reference (cond (is_life one.generation l) (id_at old one.id) None)) (ap (living old.births) (eqb-true one.id entity.id here) ∙ free))
+      by false away isnt =
+          ap (λ l. reference (cond (is_life one.generation l) (cond (is_some l) (new.marker one.id) None) None)) (born one.id ∙ ap (λ b. cond b (Some entity.generation) (living old.births one.id)) away)
+          ∙ ap (λ m. reference (cond (is_life one.generation (living old.births one.id)) (cond (is_some (living old.births one.id)) m None) None)) (marker one.id ∙ ap (λ b. cond b (Some id) (old.marker one.id)) away)
+
+  refs-stay : (named : List LifeAt) → All (IsAnother entity) named → map (ref_to new) named ≡ map (ref_to old) named
+  refs-stay [] all = refl
+  refs-stay (one ∷ named) all =
+      ap (λ r. r ∷ map (ref_to new) named) (ref-stays one (All-head (IsAnother entity) one named all)) ∙ ap (λ l. ref_to old one ∷ l) (refs-stay named (All-tail (IsAnother entity) one named all))
+
+  -- the parts of a column that stays are those that they were, where none stands at the new index and none names the new entity
+  module _ (column now : ℕ → Option Stored) (stays : (at : ℕ) → now at ≡ column at) (bare : column entity.id ≡ None) (unnamed : IsUnnamed entity column) where
+    pub part-stays : (other : ℕ) → part_in new now other ≡ part_in old column other
+    part-stays other = by (eqb id other) refl
+      where
+        none : (o : Option ℕ) → index_of old id ≡ o → None ≡ option_and_then (λ index. option_map (part_under (ref_to old)) (column index)) o
+        none None e = refl
+        none (Some at) e = absurd (true≢false (sym (lives-index old id ∙ ap is_some e) ∙ absent))
+
+        stored : (at : ℕ) (o : Option Stored) → column at ≡ o → option_map (part_under (ref_to new)) o ≡ option_map (part_under (ref_to old)) o
+        stored at None e = refl
+        stored at (Some one) e = ap (λ refs. Some (part_with one.written refs)) (refs-stay one.named (unnamed at one e))
+
+        found : (o : Option ℕ) → option_and_then (λ index. option_map (part_under (ref_to new)) (now index)) o ≡ option_and_then (λ index. option_map (part_under (ref_to old)) (column index)) o
+        found None = refl
+        found (Some at) = ap (option_map (part_under (ref_to new))) (stays at) ∙ stored at (column at) refl
+
+        by : (b : Bool) → eqb id other ≡ b → part_in new now other ≡ part_in old column other
+        by true same =
+            ap (λ i. part_in new now i) (sym (eqb-true id other same))
+            ∙ ap (option_and_then (λ index. option_map (part_under (ref_to new)) (now index))) index-here ∙ ap (option_map (part_under (ref_to new))) (stays entity.id ∙ bare)
+            ∙ none (index_of old id) refl ∙ ap (part_in old column) (eqb-true id other same)
+        by false differ = ap (option_and_then (λ index. option_map (part_under (ref_to new)) (now index))) (index-stays other differ) ∙ found (index_of old other)

@@ -1,5 +1,5 @@
 -- What is put into a scene, one after another: entities without parts, their parts, and globals.
-use Rattle.std.specs.Prelude.{◌≡◌, ◌+◌, ℕ, max, List, [], ◌∷◌, Option, Some, None, if◌then◌else◌}
+use Rattle.std.specs.Prelude.{◌+◌, ℕ, max, List, [], ◌∷◌, Option, Some, None, if◌then◌else◌}
 use Rattle.std.specs.Str.{bytes_eq}
 use Rattle.scene_rules.specs.Ids.{ascending}
 use Rattle.scene_rules.specs.Parts.{Json, Name, Part}
@@ -20,10 +20,6 @@ next_above (id ∷ ids) next = max (next_above ids next) (id + 1)
 -- the scene in which entities live under these ids too, without parts
 abbrev pub with_entities : List ℕ → PlainScene → PlainScene
 with_entities ids scene = record scene { next = next_above ids scene.next; ids = ids_with ids scene.ids }
-
--- no entity of a scene has a part
-abbrev pub HasNoParts : PlainScene → Type 0
-HasNoParts scene = (id : ℕ) (kind : Name) → scene.part id kind ≡ None
 
 -- the part of each id under each kind, and the value of each global
 abbrev pub Parts : Type 0

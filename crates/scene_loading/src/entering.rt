@@ -1,9 +1,8 @@
 //! Entities that begin to live in a world under ids of their own.
 ghost use Rattle.std.specs.Prelude.{◌≡◌, [], ◌∷◌, map, OnOk};
-ghost use Rattle.scene_world.specs.Standing.{plain_of};
 ghost use Rattle.scene_turns.specs.Places.{kinds_of};
 ghost use Rattle.scene_acts.specs.Acts.{seen_of, MayAct};
-ghost use Rattle.scene_loading.specs.Entries.{with_entities, HasNoParts};
+ghost use Rattle.scene_loading.specs.Entries.{with_entities};
 ghost use Rattle.scene_loading.specs.Becoming.{Becomes};
 ghost use Rattle.scene_loading.specs.Notes.{NotesUnder};
 
@@ -50,13 +49,12 @@ fn note_under<R: Rules>(
     }
 }
 
-/// Lets an entity begin to live under an id, in a world without parts.
+/// Lets an entity begin to live under an id, without parts. The next id is raised above it, where it isn't.
 ///
-/// Errors: want of memory, where somebody lives under the id, and where the entities of the world are at their limits.
-fn enter_entity<R: Rules>(world: &mut World<R::Value>, id: u64) -> Result<(), AllocError>
+/// Errors: want of memory; so is told where somebody lives under the id, where the entities of the world are at their
+/// limits, and where the id is 18,446,744,073,709,551,615.
+pub fn enter_entity<R: Rules>(world: &mut World<R::Value>, id: u64) -> Result<(), AllocError>
     requires may { MayAct (kinds_of ⟦<R::Value as SceneValue<R::Data>>⟧.places R.part_of R.columns) world.old }
-    requires bare { HasNoParts (plain_of
-        (kinds_of ⟦<R::Value as SceneValue<R::Data>>⟧.places R.part_of R.columns) (seen_of world.old)) }
     ensures { OnOk result (Becomes (kinds_of ⟦<R::Value as SceneValue<R::Data>>⟧.places R.part_of R.columns)
         (with_entities (id ∷ [])) world.old world.new) }
 {
@@ -71,7 +69,7 @@ fn enter_entity<R: Rules>(world: &mut World<R::Value>, id: u64) -> Result<(), Al
     mark::<R>(world, entity.id(), id)
 }
 
-/// Lets entities begin to live under the ids that a document says, in a world without parts.
+/// Lets entities begin to live under the ids that a document says, without parts.
 ///
 /// Errors: those of each of them.
 pub(crate) fn enter_entities<R: Rules>(
@@ -79,8 +77,6 @@ pub(crate) fn enter_entities<R: Rules>(
     entities: &[EntityDraft<R::Data>],
 ) -> Result<(), AllocError>
     requires may { MayAct (kinds_of ⟦<R::Value as SceneValue<R::Data>>⟧.places R.part_of R.columns) world.old }
-    requires bare { HasNoParts (plain_of
-        (kinds_of ⟦<R::Value as SceneValue<R::Data>>⟧.places R.part_of R.columns) (seen_of world.old)) }
     ensures { OnOk result (Becomes (kinds_of ⟦<R::Value as SceneValue<R::Data>>⟧.places R.part_of R.columns)
         (with_entities (map (λ entity. entity.id) entities.now)) world.old world.new) }
 {

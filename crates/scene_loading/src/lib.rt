@@ -7,5 +7,6 @@ mod load;
 pub mod opening;
 mod parts;
 
+pub use entering::enter_entity;
 pub use load::load_world;
 pub use opening::open_world;

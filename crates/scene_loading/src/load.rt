@@ -4,10 +4,9 @@ ghost use Rattle.scene_draft.specs.Drafts.{Draft};
 ghost use Rattle.scene_draft.specs.DraftViews.{IsDraft};
 ghost use Rattle.scene_document.specs.Documents.{refusal_of};
 ghost use Rattle.scene_document.specs.Openings.{first_scene};
-ghost use Rattle.scene_world.specs.Standing.{plain_of, StandsFor};
+ghost use Rattle.scene_world.specs.Standing.{StandsFor};
 ghost use Rattle.scene_turns.specs.Places.{kinds_of};
 ghost use Rattle.scene_acts.specs.Acts.{seen_of, MayAct};
-ghost use Rattle.scene_loading.specs.Entries.{HasNoParts};
 ghost use Rattle.scene_loading.specs.Fills.{filled_with};
 ghost use Rattle.scene_loading.specs.Becoming.{Becomes, IsQuiet};
 
@@ -21,7 +20,7 @@ use scene_turns::{Rules, SceneValue};
 use shred_world::World;
 use std::alloc::{AllocError, Global};
 
-/// Puts the entities of a draft into a world without parts, with their parts, and its globals.
+/// Puts the entities of a draft into a world, with their parts, and its globals.
 ///
 /// Errors: those of each entity, part and global.
 fn fill_world<R: Rules>(
@@ -33,8 +32,6 @@ fn fill_world<R: Rules>(
 where
     R::Value: Drop,
     requires may { MayAct (kinds_of ⟦<R::Value as SceneValue<R::Data>>⟧.places R.part_of R.columns) world.old }
-    requires bare { HasNoParts (plain_of
-        (kinds_of ⟦<R::Value as SceneValue<R::Data>>⟧.places R.part_of R.columns) (seen_of world.old)) }
     ensures { OnOk result (Becomes (kinds_of ⟦<R::Value as SceneValue<R::Data>>⟧.places R.part_of R.columns)
         (filled_with R.part_of R.global_of (R.book rules.now) draft.now) world.old world.new) }
 {

@@ -1,6 +1,7 @@
 //! Worlds in which nobody lives yet.
-ghost use Rattle.std.specs.Prelude.{◌≡◌, IfOk};
-ghost use Rattle.scene_world.specs.Standing.{plain_of};
+ghost use Rattle.std.specs.Prelude.{◌≡◌, min, IfOk};
+ghost use Rattle.specs_entity.specs.Births.{none_born};
+ghost use Rattle.scene_world.specs.Standing.{roll_of, plain_of};
 ghost use Rattle.scene_turns.specs.Places.{kinds_of};
 ghost use Rattle.scene_acts.specs.Acts.{MayAct, seen_of};
 ghost use Rattle.scene_loading.specs.Openings.{without_entities};
@@ -12,7 +13,8 @@ use shred_world::World;
 use specs_entity::EntitiesRes;
 use std::alloc::{AllocError, Global};
 
-/// A world of some rules in which nobody lives, with these limits of its entities and this next id, and without queues.
+/// A world of some rules in which nobody lives, with these limits of its entities, those of `EntitiesRes::with_limits`,
+/// and this next id, and without queues.
 ///
 /// Errors: want of memory.
 pub fn open_world<R: Rules>(
@@ -24,6 +26,9 @@ pub fn open_world<R: Rules>(
 where
     R::Value: Drop,
     ensures may { IfOk result (MayAct (kinds_of ⟦<R::Value as SceneValue<R::Data>>⟧.places R.part_of R.columns)) }
+    ensures births { IfOk result (λ world. (roll_of
+        (kinds_of ⟦<R::Value as SceneValue<R::Data>>⟧.places R.part_of R.columns) (seen_of world)).births
+        ≡ none_born (min limits.0 16777216) (min limits.1 2147483647)) }
     ensures quiet { IfOk result (IsQuiet (kinds_of ⟦<R::Value as SceneValue<R::Data>>⟧.places R.part_of R.columns)) }
     ensures scene { IfOk result (λ world. plain_of
         (kinds_of ⟦<R::Value as SceneValue<R::Data>>⟧.places R.part_of R.columns) (seen_of world)

@@ -1,12 +1,8 @@
-use Rattle.std.proofs.Common.{refl, ap, sym, ◌∙◌, subst}
+use Rattle.std.proofs.Common.{ap, ◌∙◌}
 use Rattle.scene_turns.specs.Places.{kinds_of}
-use Rattle.scene_loading.specs.Entries.{HasNoParts}
 use Rattle.scene_loading.specs.Fills.{filled_with}
 use Rattle.scene_loading.proofs.LoadLemmas.{loaded}
 use Rattle.scene_loading.proofs.load.load_world.Goals as goal
-
-pub fill_world-requires-clause-bare : goal.fill_world-requires-clause-bare
-fill_world-requires-clause-bare g c = subst (λ scene. HasNoParts scene) (sym c.in_ok-world.ensures.scene) (λ id kind. refl)
 
 pub returns-in-Ok-clause-stands : goal.returns-in-Ok-clause-stands
 returns-in-Ok-clause-stands g c plain indices is passed =

@@ -1,0 +1,146 @@
+//! A whole run, from the bytes of a document to the bytes of the scene that it reaches.
+ghost use Rattle.std.specs.Prelude.{◌≡◌, MatchResult};
+ghost use Rattle.scene.specs.Limits.{AreLimits};
+ghost use Rattle.scene.specs.Turns.{RunsOut, nothing_yet};
+ghost use Rattle.scene.specs.Outcomes.{IsRunOf, IsNoDocument, RunsDocument, reading, writing, bounds_of, full_bounds};
+
+use crate::frame::Scene;
+use scene::RunError;
+use scene_devices::{CountedRead, CountedWrite, ReadFailure, read_document, write_text};
+use scene_document::{Limits, LoadError};
+use scene_rules::Report;
+use scene_turns::Rules;
+use std::sync::Wait;
+use std::thread::Threads;
+
+/// The report and the text of the run of the document in these bytes.
+///
+/// Errors: `Document`, with the least refusal that stands; `Memory`.
+fn play<R: Rules + Drop + Send + Sync, H: AllocGlobal + Threads + Wait + Sync>(
+    rt: &H,
+    rules: R,
+    limits: Limits,
+    bytes: &[u8],
+) -> Result<(Report, Vec<u8>), LoadError>
+where
+    R::Value: Drop + Send + Sync,
+    R::Data: Send + Sync,
+    R::Global: Send + Sync,
+    R::System: Send + Sync,
+    requires { AreLimits limits }
+    ensures { MatchResult result
+        (λ played. IsRunOf (R.book rules) (bounds_of limits) bytes.now played.0 played.1.items)
+        (IsNoDocument (R.book rules) (bounds_of limits) bytes.now) }
+{
+    let mut scene = match Scene::open(rt.alloc(), rules, limits, bytes) {
+        Ok(scene) => scene,
+        Err(error) => return Err(error),
+    };
+    run_to_end(rt, &mut scene);
+    let text = match scene.snapshot(rt.alloc()) {
+        Ok(text) => text,
+        Err(_) => return Err(LoadError::Memory),
+    };
+    Ok((scene.into_report(), text))
+}
+
+/// Runs the frames of a scene to their end: all that were asked for, or up to the first that is refused.
+///
+/// Asked for is that none has run yet.
+pub fn run_to_end<R: Rules + Drop + Send + Sync, H: AllocGlobal + Threads + Wait + Sync>(
+    rt: &H,
+    scene: &mut Scene<R>,
+)
+where
+    R::Value: Drop + Send + Sync,
+    R::Data: Send + Sync,
+    R::Global: Send + Sync,
+    R::System: Send + Sync,
+    requires start { scene.old.shown.report ≡ nothing_yet }
+    ensures rules { scene.new.rules ≡ scene.old.rules }
+    ensures end { RunsOut (R.book scene.old.rules) scene.old.shown scene.new.shown }
+{
+    while scene.left() > 0 {
+        match scene.run_frame(rt) {
+            Ok(()) => {}
+            Err(_) => return,
+        }
+    }
+}
+
+/// Runs the document that a reader gives, and writes the text of the scene that it reaches.
+///
+/// The reader is read to its end. Where its bytes are no scene, the run is refused by name and nothing is written. Else
+/// all frames asked for are run in a world of entities, with the document's number of workers and kind of store, or those up
+/// to the first that is refused; the text of the scene there is written, by as many writes as that takes, and flushed; and the
+/// report tells the accepted frames, the skipped commands and the refusal.
+///
+/// Errors: `Document`, with the least refusal that stands; `Read`; `Memory`; with each of these nothing was written.
+/// `Write`, with the number of bytes of the text that went out, just its first ones.
+///
+/// No failure of a device is passed over: where there is a report none of them failed in the call, and the reader fails only
+/// where `Read` is told. With a report, `Document` and `Write` the reader is left at its end.
+///
+/// The limits are at most the greatest ones, and `generation` is at least 1.
+pub fn run_with<
+    R: Rules + Drop + Send + Sync,
+    H: AllocGlobal + Threads + Wait + Sync,
+    I: CountedRead,
+    O: CountedWrite,
+>(
+    rt: &H,
+    rules: R,
+    limits: Limits,
+    reader: &mut I,
+    writer: &mut O,
+) -> Result<Report, RunError>
+where
+    R::Value: Drop + Send + Sync,
+    R::Data: Send + Sync,
+    R::Global: Send + Sync,
+    R::System: Send + Sync,
+    requires { AreLimits limits }
+    ensures { RunsDocument (R.book rules) (bounds_of limits) result
+        (reading I.remaining I.fault_count reader.old reader.new)
+        (writing O.contents O.fault_count O.flushed writer.old writer.new) }
+{
+    let bytes = match read_document(rt.alloc(), reader) {
+        Ok(bytes) => bytes,
+        Err(ReadFailure::Read) => return Err(RunError::Read),
+        Err(ReadFailure::Memory) => return Err(RunError::Memory),
+    };
+    let (report, text) = match play(rt, rules, limits, bytes.as_slice()) {
+        Ok(played) => played,
+        Err(LoadError::Document(refusal)) => return Err(RunError::Document(refusal)),
+        Err(LoadError::Memory) => return Err(RunError::Memory),
+    };
+    match write_text(writer, text.as_slice()) {
+        Ok(()) => Ok(report),
+        Err(error) => Err(RunError::Write(error.sent)),
+    }
+}
+
+/// Runs the document that a reader gives under the greatest limits, and writes the text of the scene that it reaches, as
+/// `run_with` does.
+pub fn run<
+    R: Rules + Drop + Send + Sync,
+    H: AllocGlobal + Threads + Wait + Sync,
+    I: CountedRead,
+    O: CountedWrite,
+>(
+    rt: &H,
+    rules: R,
+    reader: &mut I,
+    writer: &mut O,
+) -> Result<Report, RunError>
+where
+    R::Value: Drop + Send + Sync,
+    R::Data: Send + Sync,
+    R::Global: Send + Sync,
+    R::System: Send + Sync,
+    ensures { RunsDocument (R.book rules) full_bounds result
+        (reading I.remaining I.fault_count reader.old reader.new)
+        (writing O.contents O.fault_count O.flushed writer.old writer.new) }
+{
+    run_with(rt, rules, Limits::FULL, reader, writer)
+}
