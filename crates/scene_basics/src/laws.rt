@@ -8,7 +8,7 @@ ghost use Rattle.scene_document.specs.Documents.{document_of};
 ghost use Rattle.scene_rules.specs.Frames.{Reaches};
 ghost use Rattle.scene.specs.Runs.{CanBegin, Ran};
 ghost use Rattle.scene.specs.Outcomes.{Bounds, IsRunOf};
-ghost use Rattle.scene_laws.specs.OneOutcome.{OneOutcome, HadMemory, SameButPlace};
+ghost use Rattle.scene_laws.specs.OneOutcome.{OneOutcome, HadMeans, SameButPlace};
 ghost use Rattle.scene_laws.specs.References.{KeepsReferences, RefsLiveUnder};
 ghost use Rattle.scene_basics.specs.Names.{part_kinds};
 ghost use Rattle.scene_basics.specs.Systems.{basics};
@@ -27,27 +27,29 @@ pub fn a_turn_keeps_references()
     ensures { KeepsReferences basics }
 {}
 
-/// A document that can begin has one report and reaches one scene, but for a want of memory.
+/// A document that can begin has one report and reaches one scene, but where a frame is refused for want of memory or of a thread, or
+/// at a limit of the world's entities.
 pub fn a_document_has_one_outcome()
     ensures report { (limit : ℕ) (draft : Draft) (one other : Report) (scene after : PlainScene)
-        → CanBegin basics draft → HadMemory one → HadMemory other → Ran basics limit draft one scene
+        → CanBegin basics draft → HadMeans one → HadMeans other → Ran basics limit draft one scene
         → Ran basics limit draft other after → one ≡ other }
     ensures scene { (limit : ℕ) (draft : Draft) (one other : Report) (scene after : PlainScene)
-        → CanBegin basics draft → HadMemory one → HadMemory other → Ran basics limit draft one scene
+        → CanBegin basics draft → HadMeans one → HadMeans other → Ran basics limit draft one scene
         → Ran basics limit draft other after → scene ≡ after }
 {
     one_outcome(&Basics);
 }
 
-/// Documents that differ in their workers and their store alone have one report and one text, but for a want of memory.
+/// Documents that differ in their workers and their store alone have one report and one text, but where a frame is refused for want
+/// of memory or of a thread, or at a limit of the world's entities.
 pub fn workers_and_store_do_not_show()
     ensures report { (bounds : Bounds) (input other : List ℕ) (one two : Draft) (first second : Report)
-        (text more : List ℕ) → HadMemory first → HadMemory second
+        (text more : List ℕ) → HadMeans first → HadMeans second
         → document_of basics bounds.indices input ≡ Ok one → document_of basics bounds.indices other ≡ Ok two
         → SameButPlace one two → IsRunOf basics bounds input first text → IsRunOf basics bounds other second more
         → first ≡ second }
     ensures text { (bounds : Bounds) (input other : List ℕ) (one two : Draft) (first second : Report)
-        (text more : List ℕ) → HadMemory first → HadMemory second
+        (text more : List ℕ) → HadMeans first → HadMeans second
         → document_of basics bounds.indices input ≡ Ok one → document_of basics bounds.indices other ≡ Ok two
         → SameButPlace one two → IsRunOf basics bounds input first text → IsRunOf basics bounds other second more
         → text ≡ more }

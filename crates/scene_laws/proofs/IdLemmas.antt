@@ -1,19 +1,19 @@
 -- Lemmas on ids, over commands, systems and frames.
 use Rattle.std.proofs.Common.{◌≡◌, ◌≢◌, ◌<◌, ◌≤◌, ◌+◌, ℕ, zero, suc, Bool, true, false, not, ◌||◌, cond, eqb, List, [], ◌∷◌, ◌++◌, refl, sym, ◌∙◌, ap, subst, ⊎_elim, arith}
-use Rattle.std.specs.List.{All, list_all, filter}
+use Rattle.std.specs.List.{All, filter}
 use Rattle.std.proofs.lemmas.Bool.{false≢true, or_parts, cases_Bool}
 use Rattle.std.proofs.lemmas.Bool.Decides.{Decides-eqb}
-use Rattle.std.proofs.lemmas.List.Elements.{All-cons, All-head, All-tail, All-filter}
+use Rattle.std.proofs.lemmas.List.Elements.{All-cons, All-filter}
 use Rattle.std.proofs.lemmas.List.Kept.{AllPairs-filter}
 use Rattle.std.proofs.lemmas.List.Quantifiers.{all_pairs_push}
 use Rattle.std.proofs.lemmas.List.Folds.{list_any-append}
 use Rattle.scene_rules.specs.declared.refusals.Skip.{Skip}
-use Rattle.scene_rules.specs.Parts.{Name, Part, under}
+use Rattle.scene_rules.specs.Parts.{Name, Part}
 use Rattle.scene_rules.specs.Rulebook.{Book, Command, spawn, kill, put, take}
 use Rattle.scene_rules.specs.Scenes.{PlainScene, PlainSystem, PlainFrame, IdsFit, lives}
-use Rattle.scene_rules.specs.Commands.{Applied, changed, skipped, ids_spent, apply, refs_live, last_next, Played, played, spent, behind, go_on, play}
+use Rattle.scene_rules.specs.Commands.{changed, apply, Played, played, spent, play}
 use Rattle.scene_rules.specs.Frames.{Queues, SystemsRun, all_commands, Accepts, Reaches}
-use Rattle.scene_rules.proofs.CallerLemmas.{spawned, spawn-makes, tested-makes, play-keeps, lives-last}
+use Rattle.scene_rules.proofs.CallerLemmas.{spawned, spawn-makes, tested-makes, play-keeps}
 use Rattle.scene_laws.specs.Ids.{IdsGoOn, Gives, TakesAway}
 
 -- the places that were skipped

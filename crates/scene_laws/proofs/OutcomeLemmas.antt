@@ -15,22 +15,22 @@ use Rattle.scene_draft.specs.Texts.{text_of}
 use Rattle.scene_rules.specs.Frames.{Reaches, Ended}
 use Rattle.scene.specs.Runs.{CanBegin, Ran}
 use Rattle.scene.specs.Outcomes.{Bounds, IsRunOf}
-use Rattle.scene_laws.specs.OneOutcome.{OneOutcome, HadMemory, SameButPlace}
+use Rattle.scene_laws.specs.OneOutcome.{OneOutcome, HadMeans, SameButPlace}
 use Rattle.scene_laws.proofs.SoundLemmas.{IsGood, lone-turn, turn-good, frame-good}
 use Rattle.scene_laws.proofs.TurnLemmas.{runs-one}
 
 module _ (book : Book) (declares : (kind : Name) (config : Json) (facts : Facts) → book.system kind config ≡ known facts → DeclaresKnown book facts.access) where
-  -- two runs of frames from a good scene that had memory are one
-  pub frames-one : (limit : ℕ) (frames : ℕ → PlainFrame) (asked : ℕ) (start scene after : PlainScene) (one other : Report) → OneOutcome book → IsGood book start → ((number : ℕ) → All (IsDescribed book) (frames number).order) → ((number : ℕ) → All (IsLawful book) (frames number).commands) → HadMemory one → HadMemory other → Reaches book limit frames one.frames start scene one.skips → Ended book limit frames asked one scene → Reaches book limit frames other.frames start after other.skips → Ended book limit frames asked other after → (one ≡ other) × (scene ≡ after)
-  frames-one limit frames asked start scene after one other lone good described lawful first_memory second_memory =
+  -- two runs of frames from a good scene that had means are one
+  pub frames-one : (limit : ℕ) (frames : ℕ → PlainFrame) (asked : ℕ) (start scene after : PlainScene) (one other : Report) → OneOutcome book → IsGood book start → ((number : ℕ) → All (IsDescribed book) (frames number).order) → ((number : ℕ) → All (IsLawful book) (frames number).commands) → HadMeans one → HadMeans other → Reaches book limit frames one.frames start scene one.skips → Ended book limit frames asked one scene → Reaches book limit frames other.frames start after other.skips → Ended book limit frames asked other after → (one ≡ other) × (scene ≡ after)
+  frames-one limit frames asked start scene after one other lone good described lawful first_means second_means =
       runs-one book (IsGood book) (IsDescribed book) (lone-turn book lone) (turn-good book declares) limit frames described
       (λ number mid next places is accepts. frame-good book declares limit (frames number) mid next places (described number) (lawful number) is accepts)
-      asked start scene after one other good first_memory second_memory
+      asked start scene after one other good first_means second_means
 
-  -- two runs of a document that had memory are one
-  pub ran-one : (limit : ℕ) (draft : Draft) (one other : Report) (scene after : PlainScene) → OneOutcome book → CanBegin book draft → HadMemory one → HadMemory other → Ran book limit draft one scene → Ran book limit draft other after → (one ≡ other) × (scene ≡ after)
-  ran-one limit draft one other scene after lone begins first_memory second_memory first second =
-      frames-one limit (frames_of draft) draft.frames (first_scene draft) scene after one other lone (record { proper = begins.proper; stand = begins.stand }) begins.described begins.lawful first_memory second_memory first.0 first.1 second.0 second.1
+  -- two runs of a document that had means are one
+  pub ran-one : (limit : ℕ) (draft : Draft) (one other : Report) (scene after : PlainScene) → OneOutcome book → CanBegin book draft → HadMeans one → HadMeans other → Ran book limit draft one scene → Ran book limit draft other after → (one ≡ other) × (scene ≡ after)
+  ran-one limit draft one other scene after lone begins first_means second_means first second =
+      frames-one limit (frames_of draft) draft.frames (first_scene draft) scene after one other lone (record { proper = begins.proper; stand = begins.stand }) begins.described begins.lawful first_means second_means first.0 first.1 second.0 second.1
 
 -- a document with the workers and the store of another
 abbrev pub placed_as : Draft → Draft → Draft
@@ -49,12 +49,12 @@ abbrev pub draft_or : Draft → Result Draft DocRefusal → Draft
 draft_or other (Ok draft) = draft
 draft_or other (Err refusal) = other
 
--- the runs of two documents that differ in their workers and store, and had memory, have one report and one text
-pub runs-as-one : (book : Book) → ((kind : Name) (config : Json) (facts : Facts) → book.system kind config ≡ known facts → DeclaresKnown book facts.access) → (bounds : Bounds) (input other : List ℕ) (one two : Draft) (first second : Report) (text more : List ℕ) → OneOutcome book → HadMemory first → HadMemory second → document_of book bounds.indices input ≡ Ok one → document_of book bounds.indices other ≡ Ok two → SameButPlace one two → IsRunOf book bounds input first text → IsRunOf book bounds other second more → (first ≡ second) × (text ≡ more)
-runs-as-one book declares bounds input other one two first second text more lone first_memory second_memory is_one is_two same run run_too =
+-- the runs of two documents that differ in their workers and store, and had means, have one report and one text
+pub runs-as-one : (book : Book) → ((kind : Name) (config : Json) (facts : Facts) → book.system kind config ≡ known facts → DeclaresKnown book facts.access) → (bounds : Bounds) (input other : List ℕ) (one two : Draft) (first second : Report) (text more : List ℕ) → OneOutcome book → HadMeans first → HadMeans second → document_of book bounds.indices input ≡ Ok one → document_of book bounds.indices other ≡ Ok two → SameButPlace one two → IsRunOf book bounds input first text → IsRunOf book bounds other second more → (first ≡ second) × (text ≡ more)
+runs-as-one book declares bounds input other one two first second text more lone first_means second_means is_one is_two same run run_too =
     let draft : run.draft ≡ one = ap (draft_or one) (sym run.document ∙ is_one) in
     let draft_too : run_too.draft ≡ two = ap (draft_or two) (sym run_too.document ∙ is_two) in
     let ran : Ran book bounds.commands two first run.scene = ran-as book bounds.commands one two first run.scene same (subst (λ some. Ran book bounds.commands some first run.scene) draft run.ran) in
     let ran_too : Ran book bounds.commands two second run_too.scene = subst (λ some. Ran book bounds.commands some second run_too.scene) draft_too run_too.ran in
-    let end = ran-one book declares bounds.commands two first second run.scene run_too.scene lone (subst (CanBegin book) draft_too run_too.begins) first_memory second_memory ran ran_too in
+    let end = ran-one book declares bounds.commands two first second run.scene run_too.scene lone (subst (CanBegin book) draft_too run_too.begins) first_means second_means ran ran_too in
     (end.0, run.written ∙ (ap (text_of book) end.1 ∙ sym run_too.written))

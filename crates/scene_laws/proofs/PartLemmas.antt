@@ -1,9 +1,8 @@
 -- Lemmas on runs in two parts.
-use Rattle.std.proofs.Common.{◌≡◌, ◌≢◌, ◌<◌, ◌+◌, ℕ, zero, suc, List, [], ◌∷◌, ◌++◌, drop, slice_get, Option, Some, None, option_map, MatchOption, refl, sym, ◌∙◌, ap, subst, arith}
+use Rattle.std.proofs.Common.{◌≡◌, ◌<◌, ◌+◌, ℕ, zero, suc, List, [], ◌∷◌, ◌++◌, drop, slice_get, Option, Some, None, option_map, MatchOption, refl, sym, ◌∙◌, ap, subst, arith}
 use Rattle.std.proofs.lemmas.List.{append-nil, append_assoc}
-use Rattle.std.proofs.lemmas.Option.{none-some, MatchOption-at_none}
+use Rattle.std.proofs.lemmas.Option.{MatchOption-at_none}
 use Rattle.scene_rules.specs.declared.refusals.FrameRefusal.{FrameRefusal}
-use Rattle.scene_rules.specs.declared.refusals.FrameRefusal.TheVariants.{Memory}
 use Rattle.scene_rules.specs.declared.refusals.Report.{Report}
 use Rattle.scene_rules.specs.declared.refusals.Skip.{Skip}
 use Rattle.scene_rules.specs.Parts.{Json, Name}
@@ -15,8 +14,9 @@ use Rattle.scene_draft.specs.Drafts.{Draft}
 use Rattle.scene_document.specs.Openings.{first_scene, frames_of, commands_in}
 use Rattle.scene_rules.specs.Frames.{Accepts, Refuses, Reaches, Ended}
 use Rattle.scene.specs.Runs.{CanBegin, Ran}
-use Rattle.scene_laws.specs.OneOutcome.{OneOutcome, HadMemory}
+use Rattle.scene_laws.specs.OneOutcome.{OneOutcome, HadMeans}
 use Rattle.scene_laws.specs.Parts.{frames_behind, later_skip, later_skips, later_refused, joined, IsInTwoParts}
+use Rattle.scene_laws.proofs.TurnLemmas.{HadMeansFor}
 use Rattle.scene_laws.proofs.OutcomeLemmas.{ran-one}
 
 -- later skips of both of two lists
@@ -83,19 +83,14 @@ joined-ended book limit frames others count asked more report scene (Some told) 
     let next : count + suc report ≡ suc (count + report) = omega arith in
     (omega (arith, total, ended.0), ap (λ n. count + n) ended.1 ∙ next, subst (λ frame. Refuses book limit frame scene told.1) (same report ∙ ap frames next) ended.2)
 
--- the cause of a refusal that is there, or another
-abbrev pub cause_or : FrameRefusal → Option (ℕ × FrameRefusal) → FrameRefusal
-cause_or other None = other
-cause_or other (Some told) = told.1
-
--- a report of two parts had memory where the later had
-joined-memory : (count : ℕ) (refused : Option (ℕ × FrameRefusal)) → ((number : ℕ) → refused ≢ Some (number, Memory)) → (number : ℕ) → option_map (later_refused count) refused ≢ Some (number, Memory)
-joined-memory count None memory number same = none-some (number, Memory) same
-joined-memory count (Some told) memory number same = memory told.0 (ap (λ cause. Some (told.0, cause)) (ap (cause_or told.1) same))
+-- a report of two parts had means where the later had
+joined-means : (count : ℕ) (refused : Option (ℕ × FrameRefusal)) → HadMeansFor refused → HadMeansFor (option_map (later_refused count) refused)
+joined-means count None means = tt
+joined-means count (Some told) means = means
 
 -- the whole leads where its two parts lead, with the report of both
-pub parts-one : (book : Book) → ((kind : Name) (config : Json) (facts : Facts) → book.system kind config ≡ known facts → DeclaresKnown book facts.access) → (limit : ℕ) (whole first second : Draft) (all one other : Report) (mid after end : PlainScene) → OneOutcome book → CanBegin book whole → HadMemory all → HadMemory other → IsInTwoParts whole first second → Ran book limit first one mid → one.refused ≡ None → first_scene second ≡ mid → Ran book limit second other after → Ran book limit whole all end → (all ≡ joined one other) × (end ≡ after)
-parts-one book declares limit whole first second all one other mid after end lone begins_whole all_memory memory parts ran none begins rest ran_all =
+pub parts-one : (book : Book) → ((kind : Name) (config : Json) (facts : Facts) → book.system kind config ≡ known facts → DeclaresKnown book facts.access) → (limit : ℕ) (whole first second : Draft) (all one other : Report) (mid after end : PlainScene) → OneOutcome book → CanBegin book whole → HadMeans all → HadMeans other → IsInTwoParts whole first second → Ran book limit first one mid → one.refused ≡ None → first_scene second ≡ mid → Ran book limit second other after → Ran book limit whole all end → (all ≡ joined one other) × (end ≡ after)
+parts-one book declares limit whole first second all one other mid after end lone begins_whole all_means means parts ran none begins rest ran_all =
     let count : one.frames ≡ first.frames = MatchOption-at_none (one.frames ≡ first.frames) (λ refused. (one.frames < first.frames) × (refused.0 ≡ suc one.frames) × Refuses book limit (frames_of first (suc one.frames)) mid refused.1) none ran.1 in
     let frames : frames_of whole ≡ frames_of first = same-frames whole first parts.entries parts.commands in
     let start : first_scene whole ≡ first_scene first = same-scene whole first parts.next parts.entities parts.globals in
@@ -104,4 +99,4 @@ parts-one book declares limit whole first second all one other mid after end lon
     let late : Reaches book limit (frames_behind one.frames (frames_of whole)) other.frames mid after other.skips = reaches-same book limit (frames_of second) (frames_behind one.frames (frames_of whole)) other.frames mid after other.skips behind (subst (λ s. Reaches book limit (frames_of second) other.frames s after other.skips) begins rest.0) in
     let reached : Reaches book limit (frames_of whole) (one.frames + other.frames) (first_scene whole) after (one.skips ++ later_skips one.frames other.skips) = reaches-then book limit (frames_of whole) one.frames other.frames (first_scene whole) mid after one.skips other.skips early late in
     let ended : Ended book limit (frames_of whole) whole.frames (joined one other) after = joined-ended book limit (frames_of whole) (frames_of second) one.frames whole.frames second.frames other.frames after other.refused behind (parts.frames ∙ ap (λ n. n + second.frames) (sym count)) rest.1 in
-    ran-one book declares limit whole all (joined one other) end after lone begins_whole all_memory (joined-memory one.frames other.refused memory) ran_all (reached, ended)
+    ran-one book declares limit whole all (joined one other) end after lone begins_whole all_means (joined-means one.frames other.refused means) ran_all (reached, ended)

@@ -44,7 +44,7 @@ parts-text book declares kinds names limits whole first systems frames commands 
       frames = goes.total;
     } in
     let end = parts-one book declares limits.commands goes.all goes.begin third at_once early late two.scene three.scene one.scene lone
-    (subst (CanBegin book) all one.begins) one.memory three.memory parts
+    (subst (CanBegin book) all one.begins) one.means three.means parts
     (subst (λ some. Ran book limits.commands some early two.scene) begin two.ran) none
     (scene-back book two.scene kinds names two.readable)
     (subst (λ some. Ran book limits.commands some late three.scene) draft three.ran)

@@ -1,19 +1,15 @@
 -- Lemmas on proper scenes: systems, commands and frames leave a scene proper.
-use Rattle.std.proofs.Common.{◌≡◌, ℕ, Bool, true, false, not, ◌&&◌, ◌||◌, cond, eqb, List, [], ◌∷◌, ◌++◌, map, Option, Some, None, option_map, ◌⊎◌, inl, inr, refl, sym, ◌∙◌, ap, subst, All}
-use Rattle.std.specs.List.{list_any, filter, fold, flat_map}
+use Rattle.std.proofs.Common.{◌≡◌, ℕ, Bool, true, false, ◌||◌, cond, List, [], ◌∷◌, Some, refl, sym, subst, All}
+use Rattle.std.specs.List.{fold, flat_map}
 use Rattle.std.specs.Str.{bytes_eq}
-use Rattle.std.proofs.lemmas.Bool.{false≢true, and_parts, or_parts}
-use Rattle.std.proofs.lemmas.Bool.Decides.{Decides-eqb}
-use Rattle.std.proofs.lemmas.Option.{none-some, same_Some}
+use Rattle.std.proofs.lemmas.Bool.{false≢true}
 use Rattle.std.proofs.lemmas.Slice.Eq.{bytes_eq-Decides}
 use Rattle.std.proofs.lemmas.List.Elements.{All-head, All-tail, All-nil}
-use Rattle.serde_json.specs.Data.{null}
-use Rattle.scene_rules.specs.Parts.{Json, Name, Ref, living, gone, Part, is_among, under}
-use Rattle.scene_rules.specs.Rulebook.{Book, Access, Facts, known, Outcome, Command, spawn, kill, put, take}
+use Rattle.scene_rules.specs.Parts.{Json, Name, is_among}
+use Rattle.scene_rules.specs.Rulebook.{Book, Access, Facts, known, Outcome, Command}
 use Rattle.scene_rules.specs.Laws.{DeclaresKnown}
-use Rattle.scene_rules.specs.Lawful.{IsKnownPart, IsLawful}
-use Rattle.scene_rules.specs.Scenes.{PlainScene, PlainSystem, PlainFrame, Steps, IsProper, IsDescribed, PartsStand, PartsOwned, PartsAdmitted, GlobalsReadable, RefsLive, fragment, with_left, lives}
-use Rattle.scene_rules.specs.Commands.{apply, changed, is_to, without_ref, part_without, is_gone, holds_gone, first_gone, refs_live}
+use Rattle.scene_rules.specs.Lawful.{IsLawful}
+use Rattle.scene_rules.specs.Scenes.{PlainScene, PlainSystem, PlainFrame, Steps, IsProper, IsDescribed, PartsStand, PartsOwned, RefsLive, fragment, with_left, lives}
 use Rattle.scene_rules.proofs.CallerLemmas.{admitted-fragment, living-fragment, readable-fragment, admitted-left, living-left, readable-left, play-keeps, IsBetween, apply-between, admitted-again, proper-between}
 use Rattle.scene_rules.specs.Frames.{Queues, SystemsRun, entered, by_place, all_commands, Accepts}
 use Rattle.scene.specs.Engine.{AllLawful}

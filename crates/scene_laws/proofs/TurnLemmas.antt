@@ -1,5 +1,5 @@
 -- Lemmas on runs where each system allows one outcome.
-use Rattle.std.proofs.Common.{◌≡◌, ◌≢◌, ◌<◌, ◌≤◌, ℕ, zero, suc, Bool, true, false, cond, List, [], ◌∷◌, ◌++◌, length, Option, Some, None, unwrap_or, MatchOption, ◌⊎◌, inl, inr, refl, sym, ◌∙◌, ap, subst, ⊎_elim, arith, All}
+use Rattle.std.proofs.Common.{◌≡◌, ◌<◌, ◌≤◌, ℕ, zero, suc, Bool, true, false, cond, List, [], ◌∷◌, ◌++◌, length, Option, Some, None, unwrap_or, MatchOption, ◌⊎◌, inl, inr, refl, sym, ◌∙◌, ap, subst, ⊎_elim, arith, All}
 use Rattle.std.specs.Prelude.{nat_lt}
 use Rattle.std.proofs.Math.Path.{fun_ext}
 use Rattle.std.proofs.lemmas.Bool.{cases_lt, cases_eq}
@@ -15,7 +15,7 @@ use Rattle.scene_rules.specs.Rulebook.{Book, Access, Fragment, Outcome, Command,
 use Rattle.scene_rules.specs.Scenes.{PlainScene, PlainSystem, PlainFrame, Steps, fragment, with_left}
 use Rattle.scene_rules.specs.Commands.{Played, played, spent, play, first_gone, CommandsAccepted, CommandsRefused, skips_of}
 use Rattle.scene_rules.specs.Frames.{Queues, SystemsRun, SystemsRefuse, SystemsFill, all_commands, Accepts, Refuses, Reaches, Ended}
-use Rattle.scene_laws.specs.OneOutcome.{SameLeft, SameOutcome}
+use Rattle.scene_laws.specs.OneOutcome.{SameLeft, SameOutcome, IsOfScene, HadMeans}
 use Rattle.scene_rules.proofs.CallerLemmas.{led_to}
 use Rattle.scene_laws.proofs.IdLemmas.{skipped_in}
 
@@ -63,32 +63,36 @@ same-cause book b c one other e f = ap (λ x. cause_in x book one) e ∙ ap (cau
 accepted-cause : (book : Book) (limit : ℕ) (commands : List Command) (scene after : PlainScene) (places : List ℕ) → CommandsAccepted book limit commands scene after places → cause_of book limit commands scene ≡ None
 accepted-cause book limit commands scene after places done = same-cause book (nat_lt limit (length commands)) false (play 1 commands scene) (played after places) (not-past limit (length commands) done.within) done.played_on ∙ ap gone_cause done.none_gone
 
--- commands that are refused, and not for want of memory, have that cause
-refused-cause : (book : Book) (limit : ℕ) (commands : List Command) (scene : PlainScene) (cause : FrameRefusal) → cause ≢ Memory → CommandsRefused book limit commands scene cause → cause_of book limit commands scene ≡ Some cause
+-- commands that are refused for a cause of the scene have that cause
+refused-cause : (book : Book) (limit : ℕ) (commands : List Command) (scene : PlainScene) (cause : FrameRefusal) → IsOfScene cause → CommandsRefused book limit commands scene cause → cause_of book limit commands scene ≡ Some cause
 refused-cause book limit commands scene (System position text) other told = absurd told
 refused-cause book limit commands scene (GoneReference id) other told = same-cause book (nat_lt limit (length commands)) false (play 1 commands scene) (played told.0 told.1) (not-past limit (length commands) told.2) told.3 ∙ ap gone_cause told.4
 refused-cause book limit commands scene IdsSpent other told = same-cause book (nat_lt limit (length commands)) false (play 1 commands scene) spent (not-past limit (length commands) told.0) told.1
-refused-cause book limit commands scene IndicesSpent other told = absurd told
-refused-cause book limit commands scene GenerationsSpent other told = absurd told
+refused-cause book limit commands scene IndicesSpent other told = absurd other
+refused-cause book limit commands scene GenerationsSpent other told = absurd other
 refused-cause book limit commands scene TooManyCommands other told = ap (λ x. cause_in x book (play 1 commands scene)) (is-past limit (length commands) told)
-refused-cause book limit commands scene Memory other told = absurd (other refl)
-refused-cause book limit commands scene Threads other told = absurd told
+refused-cause book limit commands scene Memory other told = absurd other
+refused-cause book limit commands scene Threads other told = absurd other
+
+-- the end of a run that had means
+abbrev pub HadMeansFor : Option (ℕ × FrameRefusal) → Type 0
+HadMeansFor end = MatchOption end (Unit {0}) (λ refused. IsOfScene refused.1)
 
 -- why a frame is refused: a system refuses, or fills its queue, or the commands after the systems have a cause
 abbrev pub Why : Book → ℕ → PlainFrame → PlainScene → FrameRefusal → Type 0
 Why book limit frame scene cause = ((position : ℕ) × (text : List ℕ) × SystemsRefuse book frame.order scene position text × (cause ≡ System position text)) ⊎ ((SystemsFill book frame.order scene × (cause ≡ TooManyCommands)) ⊎ ((mid : PlainScene) × (queues : Queues) × SystemsRun book frame.order scene mid queues × (cause_of book limit (all_commands frame queues) mid ≡ Some cause)))
 
--- a frame that is refused, and not for want of memory, is refused for one of these reasons
-why : (book : Book) (limit : ℕ) (frame : PlainFrame) (scene : PlainScene) (cause : FrameRefusal) → cause ≢ Memory → Refuses book limit frame scene cause → Why book limit frame scene cause
+-- a frame that is refused for a cause of the scene is refused for one of these reasons
+why : (book : Book) (limit : ℕ) (frame : PlainFrame) (scene : PlainScene) (cause : FrameRefusal) → IsOfScene cause → Refuses book limit frame scene cause → Why book limit frame scene cause
 why book limit frame scene (System position text) other told = inl (position, text, told, refl)
 why book limit frame scene (GoneReference id) other told = inr (inr (told.0, told.1, told.2, refused-cause book limit (all_commands frame told.1) told.0 (GoneReference id) other told.3))
 why book limit frame scene IdsSpent other told = inr (inr (told.0, told.1, told.2, refused-cause book limit (all_commands frame told.1) told.0 IdsSpent other told.3))
-why book limit frame scene IndicesSpent other told = absurd told
-why book limit frame scene GenerationsSpent other told = absurd told
+why book limit frame scene IndicesSpent other told = absurd other
+why book limit frame scene GenerationsSpent other told = absurd other
 why book limit frame scene TooManyCommands other (inl told) = inr (inl (told, refl))
 why book limit frame scene TooManyCommands other (inr told) = inr (inr (told.0, told.1, told.2, refused-cause book limit (all_commands frame told.1) told.0 TooManyCommands other told.3))
-why book limit frame scene Memory other told = absurd (other refl)
-why book limit frame scene Threads other told = absurd told
+why book limit frame scene Memory other told = absurd other
+why book limit frame scene Threads other told = absurd other
 
 -- Where good scenes stay good, and what is asked of a known system on a good scene is one outcome, runs are one.
 module _ (book : Book) (Good : PlainScene → Type 0) (Known : PlainSystem → Type 0)
@@ -200,7 +204,7 @@ module _ (book : Book) (Good : PlainScene → Type 0) (Known : PlainSystem → T
         (cases_eq count less)
 
     -- no run ends before another that goes on
-    ends-first : (count more : ℕ) (start one other : PlainScene) (skips some : List Skip) (cause : FrameRefusal) → Good start → cause ≢ Memory → count < more → Reaches book limit frames count start one skips → Refuses book limit (frames (suc count)) one cause → Reaches book limit frames more start other some → ⊥
+    ends-first : (count more : ℕ) (start one other : PlainScene) (skips some : List Skip) (cause : FrameRefusal) → Good start → IsOfScene cause → count < more → Reaches book limit frames count start one skips → Refuses book limit (frames (suc count)) one cause → Reaches book limit frames more start other some → ⊥
     ends-first count more start one other skips some cause good known below reached refused longer =
         let through = reaches-through more count start other some below longer in
         let same : one ≡ through.0 = (reaches-one count start one through.0 skips through.2 good reached through.4).0 in
@@ -214,33 +218,33 @@ module _ (book : Book) (Good : PlainScene → Type 0) (Known : PlainSystem → T
         here None all = omega (arith, all)
         here (Some refused) told = omega (arith, told.0)
 
-    -- of two runs that had memory none ends first
-    not-less : (asked : ℕ) (start scene after : PlainScene) (one other : Report) → Good start → ((number : ℕ) → one.refused ≢ Some (number, Memory)) → Reaches book limit frames one.frames start scene one.skips → Ended book limit frames asked one scene → Reaches book limit frames other.frames start after other.skips → other.frames ≤ asked → one.frames < other.frames → ⊥
-    not-less asked start scene after one other good memory reached ended longer within below = here one.refused memory ended
+    -- of two runs that had means none ends first
+    not-less : (asked : ℕ) (start scene after : PlainScene) (one other : Report) → Good start → HadMeans one → Reaches book limit frames one.frames start scene one.skips → Ended book limit frames asked one scene → Reaches book limit frames other.frames start after other.skips → other.frames ≤ asked → one.frames < other.frames → ⊥
+    not-less asked start scene after one other good means reached ended longer within below = here one.refused means ended
       where
-        here : (o : Option (ℕ × FrameRefusal)) → ((number : ℕ) → o ≢ Some (number, Memory)) → MatchOption o (one.frames ≡ asked) (λ refused. (one.frames < asked) × (refused.0 ≡ suc one.frames) × Refuses book limit (frames (suc one.frames)) scene refused.1) → ⊥
+        here : (o : Option (ℕ × FrameRefusal)) → HadMeansFor o → MatchOption o (one.frames ≡ asked) (λ refused. (one.frames < asked) × (refused.0 ≡ suc one.frames) × Refuses book limit (frames (suc one.frames)) scene refused.1) → ⊥
         here None known all = omega (arith, all, within, below)
-        here (Some refused) known told = ends-first one.frames other.frames start scene after one.skips other.skips refused.1 good (λ same. known refused.0 (ap (λ cause. Some (refused.0, cause)) same)) below reached told.2 longer
+        here (Some refused) known told = ends-first one.frames other.frames start scene after one.skips other.skips refused.1 good known below reached told.2 longer
 
     -- two ends of one run are the same
-    ended-one : (asked count : ℕ) (scene : PlainScene) (one other : Option (ℕ × FrameRefusal)) → Good scene → ((number : ℕ) → one ≢ Some (number, Memory)) → ((number : ℕ) → other ≢ Some (number, Memory)) → MatchOption one (count ≡ asked) (λ refused. (count < asked) × (refused.0 ≡ suc count) × Refuses book limit (frames (suc count)) scene refused.1) → MatchOption other (count ≡ asked) (λ refused. (count < asked) × (refused.0 ≡ suc count) × Refuses book limit (frames (suc count)) scene refused.1) → one ≡ other
-    ended-one asked count scene None None good first_memory second_memory first second = refl
-    ended-one asked count scene None (Some other) good first_memory second_memory first second = absurd (omega (arith, first, second.0))
-    ended-one asked count scene (Some one) None good first_memory second_memory first second = absurd (omega (arith, first.0, second))
-    ended-one asked count scene (Some one) (Some other) good first_memory second_memory first second =
+    ended-one : (asked count : ℕ) (scene : PlainScene) (one other : Option (ℕ × FrameRefusal)) → Good scene → HadMeansFor one → HadMeansFor other → MatchOption one (count ≡ asked) (λ refused. (count < asked) × (refused.0 ≡ suc count) × Refuses book limit (frames (suc count)) scene refused.1) → MatchOption other (count ≡ asked) (λ refused. (count < asked) × (refused.0 ≡ suc count) × Refuses book limit (frames (suc count)) scene refused.1) → one ≡ other
+    ended-one asked count scene None None good first_means second_means first second = refl
+    ended-one asked count scene None (Some other) good first_means second_means first second = absurd (omega (arith, first, second.0))
+    ended-one asked count scene (Some one) None good first_means second_means first second = absurd (omega (arith, first.0, second))
+    ended-one asked count scene (Some one) (Some other) good first_means second_means first second =
         let cause : one.1 ≡ other.1 = why-one limit (frames (suc count)) scene one.1 other.1 (each (suc count)) good
-        (why book limit (frames (suc count)) scene one.1 (λ same. first_memory one.0 (ap (λ c. Some (one.0, c)) same)) first.2)
-        (why book limit (frames (suc count)) scene other.1 (λ same. second_memory other.0 (ap (λ c. Some (other.0, c)) same)) second.2) in
+        (why book limit (frames (suc count)) scene one.1 first_means first.2)
+        (why book limit (frames (suc count)) scene other.1 second_means second.2) in
         ap (λ number. Some (number, one.1)) (first.1 ∙ sym second.1) ∙ ap (λ c. Some (other.0, c)) cause
 
-    -- two runs of the same frames that had memory have one report, and reach one scene
-    pub runs-one : (asked : ℕ) (start scene after : PlainScene) (one other : Report) → Good start → ((number : ℕ) → one.refused ≢ Some (number, Memory)) → ((number : ℕ) → other.refused ≢ Some (number, Memory)) → Reaches book limit frames one.frames start scene one.skips → Ended book limit frames asked one scene → Reaches book limit frames other.frames start after other.skips → Ended book limit frames asked other after → (one ≡ other) × (scene ≡ after)
-    runs-one asked start scene after one other good first_memory second_memory reached ended reached_too ended_too =
-        let not_below : one.frames < other.frames → ⊥ = not-less asked start scene after one other good first_memory reached ended reached_too (ended-within asked other after ended_too) in
-        let not_above : other.frames < one.frames → ⊥ = not-less asked start after scene other one good second_memory reached_too ended_too reached (ended-within asked one scene ended) in
+    -- two runs of the same frames that had means have one report, and reach one scene
+    pub runs-one : (asked : ℕ) (start scene after : PlainScene) (one other : Report) → Good start → HadMeans one → HadMeans other → Reaches book limit frames one.frames start scene one.skips → Ended book limit frames asked one scene → Reaches book limit frames other.frames start after other.skips → Ended book limit frames asked other after → (one ≡ other) × (scene ≡ after)
+    runs-one asked start scene after one other good first_means second_means reached ended reached_too ended_too =
+        let not_below : one.frames < other.frames → ⊥ = not-less asked start scene after one other good first_means reached ended reached_too (ended-within asked other after ended_too) in
+        let not_above : other.frames < one.frames → ⊥ = not-less asked start after scene other one good second_means reached_too ended_too reached (ended-within asked one scene ended) in
         let count : one.frames ≡ other.frames = ⊎_elim (λ below. absurd (not_below below)) (λ above. ⊎_elim (λ past. absurd (not_above past)) (λ within. omega (arith, above, within)) (cases_lt other.frames one.frames)) (cases_lt one.frames other.frames) in
         let end = reaches-one one.frames start scene after one.skips other.skips good reached (subst (λ n. Reaches book limit frames n start after other.skips) (sym count) reached_too) in
-        let refused : one.refused ≡ other.refused = ended-one asked one.frames scene one.refused other.refused (reaches-good one.frames start scene one.skips good reached) first_memory second_memory ended
+        let refused : one.refused ≡ other.refused = ended-one asked one.frames scene one.refused other.refused (reaches-good one.frames start scene one.skips good reached) first_means second_means ended
         (subst (λ s. MatchOption other.refused (one.frames ≡ asked) (λ told. (one.frames < asked) × (told.0 ≡ suc one.frames) × Refuses book limit (frames (suc one.frames)) s told.1)) (sym end.0)
         (subst (λ n. MatchOption other.refused (n ≡ asked) (λ told. (n < asked) × (told.0 ≡ suc n) × Refuses book limit (frames (suc n)) after told.1)) (sym count) ended_too)) in
         ((λ i. record { frames = count i; skips = end.1 i; refused = refused i }), end.0)

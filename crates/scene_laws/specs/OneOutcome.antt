@@ -1,6 +1,7 @@
 -- One outcome: what a system is lent determines what becomes of its turn.
-use Rattle.std.specs.Prelude.{◌≡◌, ◌≢◌, ℕ, true, Some}
-use Rattle.scene_rules.specs.declared.refusals.FrameRefusal.TheVariants.{Memory}
+use Rattle.std.specs.Prelude.{◌≡◌, ℕ, true, MatchOption}
+use Rattle.scene_rules.specs.declared.refusals.FrameRefusal.{FrameRefusal}
+use Rattle.scene_rules.specs.declared.refusals.FrameRefusal.TheVariants.{System, GoneReference, IdsSpent, IndicesSpent, GenerationsSpent, TooManyCommands, Memory, Threads}
 use Rattle.scene_rules.specs.declared.refusals.Report.{Report}
 use Rattle.scene_rules.specs.Parts.{Json, Name, is_among}
 use Rattle.scene_rules.specs.Rulebook.{Book, Access, Facts, known, Fragment, Outcome, leaves, refuses, fills}
@@ -36,9 +37,21 @@ pub record IsSoundFragment (book : Book) (lent : Fragment) : Type 0 where
 abbrev pub OneOutcome : Book → Type 0
 OneOutcome book = (kind : Name) (config : Json) (facts : Facts) → book.system kind config ≡ known facts → (old : Fragment) → IsSoundFragment book old → (one other : Outcome) → book.meets kind config old one → book.meets kind config old other → SameOutcome facts.access one other
 
--- a report does not end in a want of memory
-abbrev pub HadMemory : Report → Type 0
-HadMemory report = (number : ℕ) → report.refused ≢ Some (number, Memory)
+-- A cause is of the scene, and not of where it runs: a want of memory or of a thread is as little of the scene as a limit of the
+-- world's entities, an index or a birth that a spawn didn't find.
+abbrev pub IsOfScene : FrameRefusal → Type 0
+IsOfScene (System position text) = Unit {0}
+IsOfScene (GoneReference id) = Unit {0}
+IsOfScene IdsSpent = Unit {0}
+IsOfScene IndicesSpent = ⊥
+IsOfScene GenerationsSpent = ⊥
+IsOfScene TooManyCommands = Unit {0}
+IsOfScene Memory = ⊥
+IsOfScene Threads = ⊥
+
+-- a run had what it needs: if a frame is refused, then for a cause that is of the scene
+abbrev pub HadMeans : Report → Type 0
+HadMeans report = MatchOption report.refused (Unit {0}) (λ refused. IsOfScene refused.1)
 
 -- two documents differ in their workers and their store alone
 pub record SameButPlace (one other : Draft) : Type 0 where

@@ -9,10 +9,10 @@ use Rattle.scene_draft.specs.Drafts.{Draft, DraftEntry, DraftCommand, whole_32, 
 use Rattle.scene_draft.specs.Texts.{scene_json, text_of, ReadsBack}
 use Rattle.scene_document.specs.Documents.{document_from}
 use Rattle.scene.specs.Runs.{CanBegin, Ran}
-use Rattle.scene_laws.specs.OneOutcome.{HadMemory}
+use Rattle.scene_laws.specs.OneOutcome.{HadMeans}
 use Rattle.scene_laws.specs.Printed.{CanBeRead}
 
--- a document that a JSON is was run to its end, not for want of memory, with this report and this text of the scene that it reached,
+-- a document that a JSON is was run to its end, and had what it needs, with this report and this text of the scene that it reached,
 -- which can be read again
 pub record IsFinished (book : Book) (limits : Limits) (json : Json) (report : Report) (text : List ℕ) : Type 0 where
   pub draft : Draft
@@ -20,7 +20,7 @@ pub record IsFinished (book : Book) (limits : Limits) (json : Json) (report : Re
   pub document : document_from book limits.indices json ≡ Ok draft
   pub begins : CanBegin book draft
   pub ran : Ran book limits.commands draft report scene
-  pub memory : HadMemory report
+  pub means : HadMeans report
   pub readable : CanBeRead book scene
   pub written : text ≡ text_of book scene
   pub reads : ReadsBack text (scene_json book scene)

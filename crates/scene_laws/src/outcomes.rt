@@ -6,35 +6,36 @@ ghost use Rattle.scene_draft.specs.Drafts.{Draft};
 ghost use Rattle.scene_document.specs.Documents.{document_of};
 ghost use Rattle.scene.specs.Runs.{CanBegin, Ran};
 ghost use Rattle.scene.specs.Outcomes.{Bounds, IsRunOf};
-ghost use Rattle.scene_laws.specs.OneOutcome.{OneOutcome, HadMemory, SameButPlace};
+ghost use Rattle.scene_laws.specs.OneOutcome.{OneOutcome, HadMeans, SameButPlace};
 
 use scene_rules::Rules;
 
 /// Where each system allows one outcome of what it may be lent, told by what it writes, a document that can begin has one: two
-/// runs of it that do not end in a want of memory have the same report and reach the same scene.
+/// runs of it, in which no frame is refused for want of memory or of a thread or at a limit of the world's entities, have the same
+/// report and reach the same scene.
 pub fn one_outcome<R: Rules>(rules: &R)
     ensures report { (limit : ℕ) (draft : Draft) (one other : Report) (scene after : PlainScene)
-        → OneOutcome (R.book rules.now) → CanBegin (R.book rules.now) draft → HadMemory one → HadMemory other
+        → OneOutcome (R.book rules.now) → CanBegin (R.book rules.now) draft → HadMeans one → HadMeans other
         → Ran (R.book rules.now) limit draft one scene → Ran (R.book rules.now) limit draft other after
         → one ≡ other }
     ensures scene { (limit : ℕ) (draft : Draft) (one other : Report) (scene after : PlainScene)
-        → OneOutcome (R.book rules.now) → CanBegin (R.book rules.now) draft → HadMemory one → HadMemory other
+        → OneOutcome (R.book rules.now) → CanBegin (R.book rules.now) draft → HadMeans one → HadMeans other
         → Ran (R.book rules.now) limit draft one scene → Ran (R.book rules.now) limit draft other after
         → scene ≡ after }
 {}
 
 /// Where each system allows one outcome, neither the workers nor the store that a document names change what its run
-/// answers: the runs of two documents that differ in those alone, and do not end in a want of memory, have the same
-/// report and the same text.
+/// answers: the runs of two documents that differ in those alone, in which no frame is refused for want of memory or of a thread
+/// or at a limit of the world's entities, have the same report and the same text.
 pub fn workers_and_store_change_nothing<R: Rules>(rules: &R)
     ensures report { (bounds : Bounds) (input other : List ℕ) (one two : Draft) (first second : Report)
-        (text more : List ℕ) → OneOutcome (R.book rules.now) → HadMemory first → HadMemory second
+        (text more : List ℕ) → OneOutcome (R.book rules.now) → HadMeans first → HadMeans second
         → document_of (R.book rules.now) bounds.indices input ≡ Ok one
         → document_of (R.book rules.now) bounds.indices other ≡ Ok two → SameButPlace one two
         → IsRunOf (R.book rules.now) bounds input first text
         → IsRunOf (R.book rules.now) bounds other second more → first ≡ second }
     ensures text { (bounds : Bounds) (input other : List ℕ) (one two : Draft) (first second : Report)
-        (text more : List ℕ) → OneOutcome (R.book rules.now) → HadMemory first → HadMemory second
+        (text more : List ℕ) → OneOutcome (R.book rules.now) → HadMeans first → HadMeans second
         → document_of (R.book rules.now) bounds.indices input ≡ Ok one
         → document_of (R.book rules.now) bounds.indices other ≡ Ok two → SameButPlace one two
         → IsRunOf (R.book rules.now) bounds input first text

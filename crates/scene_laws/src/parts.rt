@@ -8,27 +8,27 @@ ghost use Rattle.scene_document.specs.Openings.{first_scene};
 ghost use Rattle.scene_draft.specs.Texts.{text_of};
 ghost use Rattle.scene_rules.specs.Frames.{Reaches};
 ghost use Rattle.scene.specs.Runs.{CanBegin, Ran};
-ghost use Rattle.scene_laws.specs.OneOutcome.{OneOutcome, HadMemory};
+ghost use Rattle.scene_laws.specs.OneOutcome.{OneOutcome, HadMeans};
 ghost use Rattle.scene_laws.specs.Parts.{frames_behind, later_skips, joined, IsInTwoParts};
 
 use scene_rules::Rules;
 
 /// Frames and then more of them are the frames together; so a document whose first frames are all accepted, and whose
 /// rest begins with the scene that those reached, leads where the whole leads, with the same report, where each system
-/// allows one outcome and no run ends in a want of memory.
+/// allows one outcome and no run ends in a want of memory or of a thread or at a limit of the world's entities.
 pub fn frames_in_two_parts<R: Rules>(rules: &R)
     ensures chain { (limit : ℕ) (frames : ℕ → PlainFrame) (count more : ℕ) (scene mid after : PlainScene)
         (skips rest : List Skip) → Reaches (R.book rules.now) limit frames count scene mid skips
         → Reaches (R.book rules.now) limit (frames_behind count frames) more mid after rest
         → Reaches (R.book rules.now) limit frames (count + more) scene after (skips ++ later_skips count rest) }
     ensures report { (limit : ℕ) (whole first second : Draft) (all one other : Report) (mid after end : PlainScene)
-        → OneOutcome (R.book rules.now) → CanBegin (R.book rules.now) whole → HadMemory all → HadMemory other
+        → OneOutcome (R.book rules.now) → CanBegin (R.book rules.now) whole → HadMeans all → HadMeans other
         → IsInTwoParts whole first second
         → Ran (R.book rules.now) limit first one mid → one.refused ≡ None → first_scene second ≡ mid
         → Ran (R.book rules.now) limit second other after → Ran (R.book rules.now) limit whole all end
         → all ≡ joined one other }
     ensures text { (limit : ℕ) (whole first second : Draft) (all one other : Report) (mid after end : PlainScene)
-        → OneOutcome (R.book rules.now) → CanBegin (R.book rules.now) whole → HadMemory all → HadMemory other
+        → OneOutcome (R.book rules.now) → CanBegin (R.book rules.now) whole → HadMeans all → HadMeans other
         → IsInTwoParts whole first second
         → Ran (R.book rules.now) limit first one mid → one.refused ≡ None → first_scene second ≡ mid
         → Ran (R.book rules.now) limit second other after → Ran (R.book rules.now) limit whole all end

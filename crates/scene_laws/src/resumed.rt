@@ -1,10 +1,10 @@
 //! A run that is printed, put back and run on.
-ghost use Rattle.std.specs.Prelude.{◌≡◌, Some, IfOk, IsTrue};
+ghost use Rattle.std.specs.Prelude.{◌≡◌, ◌↔◌, Some, IfOk, IsTrue};
 ghost use Rattle.scene_rules.specs.declared.refusals.Report.{Report};
 ghost use Rattle.serde_json.specs.View.{view};
 ghost use Rattle.scene_draft.specs.Texts.{json_of};
 ghost use Rattle.scene.specs.Limits.{AreLimits};
-ghost use Rattle.scene_laws.specs.OneOutcome.{OneOutcome, HadMemory};
+ghost use Rattle.scene_laws.specs.OneOutcome.{OneOutcome, HadMeans};
 ghost use Rattle.scene_laws.specs.Printed.{with_course};
 ghost use Rattle.scene_laws.specs.Resumed.{IsFinished, GoesOn};
 
@@ -31,6 +31,8 @@ pub enum ResumeError {
     Load(LoadError),
     /// A frame of the first part was refused.
     Refused,
+    /// A frame was refused for a cause that is not of the scene: want of memory or of a thread, or a limit of the world's entities.
+    Means,
     /// Memory was wanting.
     Memory,
 }
@@ -53,19 +55,20 @@ struct Finished<R: Drop> {
     text: Vec<u8>,
 }
 
-/// Whether a report does not end in a want of memory.
-fn had_memory(report: &Report) -> bool
-    ensures { IsTrue result → HadMemory report.now }
+/// Whether a run had what it needs: no frame was refused for want of memory or of a thread, or at a limit of the world's entities.
+fn had_means(report: &Report) -> bool
+    ensures { IsTrue result ↔ HadMeans report.now }
 {
     match &report.refused {
-        Some((_, FrameRefusal::Memory)) => false,
+        Some((_, FrameRefusal::Memory | FrameRefusal::Threads)) => false,
+        Some((_, FrameRefusal::IndicesSpent | FrameRefusal::GenerationsSpent)) => false,
         _ => true,
     }
 }
 
 /// Runs the document that a JSON is to its end.
 ///
-/// Errors: `Load`, where it is none; `Memory`, also where a frame was refused for it.
+/// Errors: `Load`, where it is none; `Means`, where a frame was refused for a cause that is not of the scene; `Memory`.
 fn finish<R: Rules + Drop, H: AllocGlobal>(
     rt: &H,
     rules: R,
@@ -83,8 +86,8 @@ fn finish<R: Rules + Drop, H: AllocGlobal>(
     run_to_end(rt, &mut scene);
     let text = scene.snapshot(rt.alloc())?;
     let (rules, report) = scene.into_parts();
-    if !had_memory(&report) {
-        return Err(ResumeError::Memory);
+    if !had_means(&report) {
+        return Err(ResumeError::Means);
     }
     Ok(Finished {
         rules,
@@ -136,8 +139,9 @@ fn read_back(alloc: Global, text: &[u8]) -> Result<Value, ResumeError>
 ///
 /// The limits are at most the greatest ones, and `generation` is at least 1.
 ///
-/// Errors: `Load`, with the least refusal that stands of the first of the three documents that is none; `Refused`, where a frame
-/// of the first part is refused; `Memory`, also where a frame is refused for it.
+/// Errors: `Load`, with the least refusal that stands of the first of the three documents that is none; `Means`, where a frame is
+/// refused for want of memory or of a thread, or at a limit of the world's entities; `Refused`, where a frame of the first part is
+/// refused otherwise; `Memory`.
 pub fn run_in_parts<R: Rules + Drop, H: AllocGlobal>(
     rt: &H,
     rules: R,

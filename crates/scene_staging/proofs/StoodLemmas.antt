@@ -31,13 +31,15 @@ pub record ShowsSame {V : Type 0} (kinds : Kinds V) (w later : Sight V) : Type 0
   pub globals : (name : Name) → is_among name kinds.global_names ≡ true → later (kinds.global_id name) ≡ w (kinds.global_id name)
 
 module _ {V : Type 0} (kinds : Kinds V) (w later : Sight V) (shows : ShowsSame kinds w later) where
-  same-roll : roll_of kinds later ≡ roll_of kinds w
+  -- who lives is the same
+  pub same-roll : roll_of kinds later ≡ roll_of kinds w
   same-roll =
       ap (λ e. roll_in kinds e (later kinds.markers_id) (later kinds.allocator_id)) shows.entities
       ∙ ap (λ m. roll_in kinds (w kinds.entities_id) m (later kinds.allocator_id)) shows.markers
       ∙ ap (λ a. roll_in kinds (w kinds.entities_id) (w kinds.markers_id) a) shows.allocator
 
-  same-column : (kind : Name) → is_among kind kinds.part_names ≡ true → column_of kinds later kind ≡ column_of kinds w kind
+  -- and so is each column
+  pub same-column : (kind : Name) → is_among kind kinds.part_names ≡ true → column_of kinds later kind ≡ column_of kinds w kind
   same-column kind known = ap (column_in kinds kind) (shows.parts kind known)
 
   -- the same scene is seen
@@ -126,7 +128,8 @@ module _ {V D : Type 0} (places : Places V D) where
     place-elsewhere : (positions : List ℕ) (place : Place) → is_known (kinds_of places part_of columns) place ≡ true → ((position : ℕ) → same_place place (queue position) ≡ false) → IsElsewhere places positions (id_of_place (kinds_of places part_of columns) place)
     place-elsewhere positions place known other = elsewhere positions (id_of_place (kinds_of places part_of columns) place) (λ position. apart place (queue position) known refl ∙ other position)
 
-    shows-same : (positions : List ℕ) (w later : Slots V) → StandsElse places positions w later → ShowsSame (kinds_of places part_of columns) (seen_in (holding_of w)) (seen_in (holding_of later))
+    -- so they show the same where queues were put in
+    pub shows-same : (positions : List ℕ) (w later : Slots V) → StandsElse places positions w later → ShowsSame (kinds_of places part_of columns) (seen_in (holding_of w)) (seen_in (holding_of later))
     shows-same positions w later stands = record {
       entities = seen entities refl (λ position. refl);
       markers = seen markers refl (λ position. refl);
