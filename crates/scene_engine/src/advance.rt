@@ -20,7 +20,8 @@ use shred_world::World;
 use std::sync::Wait;
 use std::thread::Threads;
 
-/// What is kept of a scene: the data of each entity by the places of their kinds, and the globals by those of their names.
+/// What is kept of a scene: the data of each entity by the places of their kinds, and the globals by those of their
+/// names.
 pub(crate) type KeptScene<D, G> = Kept<Vec<Option<D>>, Vec<Option<G>>>;
 
 /// Runs a frame in a world, and keeps the scene after it. Errors: those of the frame; the scene before is kept.
@@ -41,7 +42,8 @@ where
     R::Data: Send + Sync,
     R::Global: Send + Sync,
     R::System: Send + Sync,
-    requires stands { Stands (kinds_of ⟦<R::Value as SceneValue<R::Data>>⟧.places R.part_of R.columns) (placed_as (λ placed. placed.position) (λ placed. placed.system)
+    requires stands { Stands (kinds_of ⟦<R::Value as SceneValue<R::Data>>⟧.places R.part_of R.columns) (placed_as (λ
+        placed. placed.position) (λ placed. placed.system)
         R.kind_of R.config_of R.declared R.sense R.does) (R.book rules.now)
         dispatcher.old world.old places.now (listed_scene R.part_of R.global_of (R.book rules.now) kept.old) }
     requires given { All (IsLawful (R.book rules.now)) (plain_commands R.part_of given.now) }
@@ -51,9 +53,11 @@ where
               R.kind_of R.config_of R.declared R.sense R.does).plain dispatcher.old;
           commands = plain_commands R.part_of given.now;
         })
-        (listed_scene R.part_of R.global_of (R.book rules.now) kept.old) (listed_scene R.part_of R.global_of (R.book rules.now) kept.new) skipped
+        (listed_scene R.part_of R.global_of (R.book rules.now) kept.old) (listed_scene R.part_of R.global_of (R.book
+        rules.now) kept.new) skipped
         × (skips.new.items ≡ skips.old.items ++ skips_of frame skipped)) }
-    ensures stands { OnOk result (Stands (kinds_of ⟦<R::Value as SceneValue<R::Data>>⟧.places R.part_of R.columns) (placed_as (λ placed. placed.position) (λ placed. placed.system)
+    ensures stands { OnOk result (Stands (kinds_of ⟦<R::Value as SceneValue<R::Data>>⟧.places R.part_of R.columns)
+        (placed_as (λ placed. placed.position) (λ placed. placed.system)
         R.kind_of R.config_of R.declared R.sense R.does) (R.book rules.now)
         dispatcher.new world.new places.now (listed_scene R.part_of R.global_of (R.book rules.now) kept.new)) }
     ensures refused { IfErr result (Refuses (R.book rules.now) limit
@@ -66,7 +70,8 @@ where
     ensures skips { OnErr result (skips.new.items ≡ skips.old.items) }
     ensures kept { OnErr result (kept.new ≡ kept.old) }
     ensures order { turn_order (placed_as (λ placed. placed.position) (λ placed. placed.system)
-        R.kind_of R.config_of R.declared R.sense R.does).plain dispatcher.new ≡ turn_order (placed_as (λ placed. placed.position) (λ placed. placed.system)
+        R.kind_of R.config_of R.declared R.sense R.does).plain dispatcher.new ≡ turn_order (placed_as (λ placed.
+        placed.position) (λ placed. placed.system)
         R.kind_of R.config_of R.declared R.sense R.does).plain dispatcher.old }
 {
     a_refusal_in_a_world_is_one_of_the_scene(rules);

@@ -20,8 +20,8 @@ use std::mem;
 use std::sync::Wait;
 use std::thread::Threads;
 
-/// A scene that runs frame by frame: a world of entities, the systems of its document on a dispatcher, and what is kept of
-/// the last accepted scene.
+/// A scene that runs frame by frame: a world of entities, the systems of its document on a dispatcher, and what is
+/// kept of the last accepted scene.
 #[derive(Drop)]
 pub struct Scene<R: Rules + Drop>
 where
@@ -80,7 +80,8 @@ where
         bytes: &[u8],
     ) -> Result<Scene<R>, LoadError>
         requires { AreLimits limits }
-        ensures { MatchResult result (IsOpenedFrom (kinds_of ⟦<R::Value as SceneValue<R::Data>>⟧.places R.part_of R.columns) R.part_of R.global_of
+        ensures { MatchResult result (IsOpenedFrom (kinds_of ⟦<R::Value as SceneValue<R::Data>>⟧.places R.part_of
+            R.columns) R.part_of R.global_of
             (placed_as (λ placed. placed.position)
             (λ placed. placed.system) R.kind_of R.config_of R.declared R.sense R.does) R.book rules limits bytes.now)
             (IsNoDocument (R.book rules) (bounds_of limits) bytes.now) }
@@ -104,9 +105,11 @@ where
         value: &Value,
     ) -> Result<Scene<R>, LoadError>
         requires { AreLimits limits }
-        ensures { MatchResult result (IsOpened (kinds_of ⟦<R::Value as SceneValue<R::Data>>⟧.places R.part_of R.columns) R.part_of R.global_of
+        ensures { MatchResult result (IsOpened (kinds_of ⟦<R::Value as SceneValue<R::Data>>⟧.places R.part_of
+            R.columns) R.part_of R.global_of
             (placed_as (λ placed. placed.position)
-            (λ placed. placed.system) R.kind_of R.config_of R.declared R.sense R.does) R.book rules limits (view value.now))
+            (λ placed. placed.system) R.kind_of R.config_of R.declared R.sense R.does) R.book rules limits (view
+            value.now))
             (IsNotLoaded (R.book rules) limits.indices (view value.now)) }
     {
         let draft = match read_document(alloc, &rules, limits, value) {
@@ -148,7 +151,8 @@ where
 
     /// The frames asked for and not yet accepted.
     pub fn left(&self) -> u32
-        ensures { result ≡ frames_left (shown_of (kinds_of ⟦<R::Value as SceneValue<R::Data>>⟧.places R.part_of R.columns) R.part_of R.global_of
+        ensures { result ≡ frames_left (shown_of (kinds_of ⟦<R::Value as SceneValue<R::Data>>⟧.places R.part_of
+            R.columns) R.part_of R.global_of
             (placed_as (λ placed. placed.position)
             (λ placed. placed.system) R.kind_of R.config_of R.declared R.sense R.does) R.book self.now) }
     {
@@ -159,11 +163,13 @@ where
     ///
     /// Errors: want of memory.
     pub fn snapshot(&self, alloc: Global) -> Result<Vec<u8>, AllocError>
-        ensures text { IfOk result (λ text. text.items ≡ text_of (R.book (rules_of self.now)) (shown_of (kinds_of ⟦<R::Value as SceneValue<R::Data>>⟧.places R.part_of R.columns) R.part_of R.global_of
+        ensures text { IfOk result (λ text. text.items ≡ text_of (R.book (rules_of self.now)) (shown_of (kinds_of
+            ⟦<R::Value as SceneValue<R::Data>>⟧.places R.part_of R.columns) R.part_of R.global_of
             (placed_as (λ placed. placed.position)
             (λ placed. placed.system) R.kind_of R.config_of R.declared R.sense R.does) R.book self.now).scene) }
         ensures reads { IfOk result (λ text. ReadsBack text.items
-            (scene_json (R.book (rules_of self.now)) (shown_of (kinds_of ⟦<R::Value as SceneValue<R::Data>>⟧.places R.part_of R.columns) R.part_of R.global_of
+            (scene_json (R.book (rules_of self.now)) (shown_of (kinds_of ⟦<R::Value as SceneValue<R::Data>>⟧.places
+            R.part_of R.columns) R.part_of R.global_of
             (placed_as (λ placed. placed.position)
             (λ placed. placed.system) R.kind_of R.config_of R.declared R.sense R.does) R.book self.now).scene)) }
     {
@@ -172,7 +178,8 @@ where
 
     /// The next id of the last accepted scene.
     pub fn next(&self) -> u64
-        ensures { result ≡ (shown_of (kinds_of ⟦<R::Value as SceneValue<R::Data>>⟧.places R.part_of R.columns) R.part_of R.global_of
+        ensures { result ≡ (shown_of (kinds_of ⟦<R::Value as SceneValue<R::Data>>⟧.places R.part_of R.columns)
+            R.part_of R.global_of
             (placed_as (λ placed. placed.position)
             (λ placed. placed.system) R.kind_of R.config_of R.declared R.sense R.does) R.book self.now).scene.next }
     {
@@ -181,7 +188,8 @@ where
 
     /// How far the scene has come: accepted frames, skipped commands, and the refusal if there is one.
     pub fn report(&self) -> &Report
-        ensures { result.now ≡ (shown_of (kinds_of ⟦<R::Value as SceneValue<R::Data>>⟧.places R.part_of R.columns) R.part_of R.global_of
+        ensures { result.now ≡ (shown_of (kinds_of ⟦<R::Value as SceneValue<R::Data>>⟧.places R.part_of R.columns)
+            R.part_of R.global_of
             (placed_as (λ placed. placed.position)
             (λ placed. placed.system) R.kind_of R.config_of R.declared R.sense R.does) R.book self.now).report }
     {
@@ -190,7 +198,8 @@ where
 
     /// The report, for whom the scene has ended.
     pub fn into_report(self) -> Report
-        ensures { result ≡ (shown_of (kinds_of ⟦<R::Value as SceneValue<R::Data>>⟧.places R.part_of R.columns) R.part_of R.global_of
+        ensures { result ≡ (shown_of (kinds_of ⟦<R::Value as SceneValue<R::Data>>⟧.places R.part_of R.columns)
+            R.part_of R.global_of
             (placed_as (λ placed. placed.position)
             (λ placed. placed.system) R.kind_of R.config_of R.declared R.sense R.does) R.book self).report }
     {
@@ -201,7 +210,8 @@ where
     /// The rules and the report, for whom the scene has ended.
     pub fn into_parts(self) -> (R, Report)
         ensures rules { result.0 ≡ rules_of self }
-        ensures report { result.1 ≡ (shown_of (kinds_of ⟦<R::Value as SceneValue<R::Data>>⟧.places R.part_of R.columns) R.part_of R.global_of
+        ensures report { result.1 ≡ (shown_of (kinds_of ⟦<R::Value as SceneValue<R::Data>>⟧.places R.part_of
+            R.columns) R.part_of R.global_of
             (placed_as (λ placed. placed.position)
             (λ placed. placed.system) R.kind_of R.config_of R.declared R.sense R.does) R.book self).report }
     {
@@ -228,32 +238,40 @@ where
 
     /// Runs the next frame: its systems on the dispatcher, then its commands.
     ///
-    /// An accepted frame takes the scene to the one after, whatever the number of workers. A refused frame leaves the scene
-    /// as it was, and the report tells the frame and the cause; from then on each further call is refused and changes nothing.
+    /// An accepted frame takes the scene to the one after, whatever the number of workers. A refused frame leaves the
+    /// scene as it was, and the report tells the frame and the cause; from then on each further call is refused and
+    /// changes nothing.
     ///
     /// Asked for is that frames are left.
     pub fn run_frame<H: AllocGlobal + Threads + Wait + Sync>(
         &mut self,
         rt: &H,
     ) -> Result<(), Refused>
-        requires ready { IsReady (kinds_of ⟦<R::Value as SceneValue<R::Data>>⟧.places R.part_of R.columns) R.part_of R.global_of
+        requires ready { IsReady (kinds_of ⟦<R::Value as SceneValue<R::Data>>⟧.places R.part_of R.columns) R.part_of
+            R.global_of
             (placed_as (λ placed. placed.position)
             (λ placed. placed.system) R.kind_of R.config_of R.declared R.sense R.does) R.book self.old }
-        requires left { 0 < frames_left (shown_of (kinds_of ⟦<R::Value as SceneValue<R::Data>>⟧.places R.part_of R.columns) R.part_of R.global_of
+        requires left { 0 < frames_left (shown_of (kinds_of ⟦<R::Value as SceneValue<R::Data>>⟧.places R.part_of
+            R.columns) R.part_of R.global_of
             (placed_as (λ placed. placed.position)
             (λ placed. placed.system) R.kind_of R.config_of R.declared R.sense R.does) R.book self.old) }
         ensures rules { rules_of self.new ≡ rules_of self.old }
-        ensures ready { IsReady (kinds_of ⟦<R::Value as SceneValue<R::Data>>⟧.places R.part_of R.columns) R.part_of R.global_of
+        ensures ready { IsReady (kinds_of ⟦<R::Value as SceneValue<R::Data>>⟧.places R.part_of R.columns) R.part_of
+            R.global_of
             (placed_as (λ placed. placed.position)
             (λ placed. placed.system) R.kind_of R.config_of R.declared R.sense R.does) R.book self.new }
-        ensures ok { OnOk result (Advances (R.book (rules_of self.old)) (shown_of (kinds_of ⟦<R::Value as SceneValue<R::Data>>⟧.places R.part_of R.columns) R.part_of R.global_of
+        ensures ok { OnOk result (Advances (R.book (rules_of self.old))
+            (shown_of (kinds_of ⟦<R::Value as SceneValue<R::Data>>⟧.places R.part_of R.columns) R.part_of R.global_of
             (placed_as (λ placed. placed.position)
-            (λ placed. placed.system) R.kind_of R.config_of R.declared R.sense R.does) R.book self.old) (shown_of (kinds_of ⟦<R::Value as SceneValue<R::Data>>⟧.places R.part_of R.columns) R.part_of R.global_of
+            (λ placed. placed.system) R.kind_of R.config_of R.declared R.sense R.does) R.book self.old) (shown_of
+            (kinds_of ⟦<R::Value as SceneValue<R::Data>>⟧.places R.part_of R.columns) R.part_of R.global_of
             (placed_as (λ placed. placed.position)
             (λ placed. placed.system) R.kind_of R.config_of R.declared R.sense R.does) R.book self.new)) }
-        ensures err { OnErr result (Stays (R.book (rules_of self.old)) (shown_of (kinds_of ⟦<R::Value as SceneValue<R::Data>>⟧.places R.part_of R.columns) R.part_of R.global_of
+        ensures err { OnErr result (Stays (R.book (rules_of self.old))
+            (shown_of (kinds_of ⟦<R::Value as SceneValue<R::Data>>⟧.places R.part_of R.columns) R.part_of R.global_of
             (placed_as (λ placed. placed.position)
-            (λ placed. placed.system) R.kind_of R.config_of R.declared R.sense R.does) R.book self.old) (shown_of (kinds_of ⟦<R::Value as SceneValue<R::Data>>⟧.places R.part_of R.columns) R.part_of R.global_of
+            (λ placed. placed.system) R.kind_of R.config_of R.declared R.sense R.does) R.book self.old) (shown_of
+            (kinds_of ⟦<R::Value as SceneValue<R::Data>>⟧.places R.part_of R.columns) R.part_of R.global_of
             (placed_as (λ placed. placed.position)
             (λ placed. placed.system) R.kind_of R.config_of R.declared R.sense R.does) R.book self.new)) }
     {

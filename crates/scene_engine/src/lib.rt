@@ -1,5 +1,5 @@
-//! A scene in a world of entities: a JSON document is loaded into a world, its systems run frame by frame on a dispatcher under
-//! rules of the caller's own, and the scene that they reach is printed again.
+//! A scene in a world of entities: a JSON document is loaded into a world, its systems run frame by frame on a
+//! dispatcher under rules of the caller's own, and the scene that they reach is printed again.
 #![tactic(auto)]
 
 mod advance;

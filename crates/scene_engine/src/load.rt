@@ -58,9 +58,12 @@ where
     requires limits { AreLimits limits }
     requires document { IsUnrefused R.part_of R.global_of R.kind_of R.config_of
         R.declared R.said_time (R.made_by rules.now) (R.book rules.now) draft.now }
-    ensures stands { IfOk result (λ opened. IsSceneWorld (kinds_of ⟦<R::Value as SceneValue<R::Data>>⟧.places R.part_of R.columns) (R.book rules.now) (seen_of opened.0)) }
-    ensures none { IfOk result (λ opened. NoneWaits (kinds_of ⟦<R::Value as SceneValue<R::Data>>⟧.places R.part_of R.columns) (seen_of opened.0)) }
-    ensures same { IfOk result (λ opened. plain_of (kinds_of ⟦<R::Value as SceneValue<R::Data>>⟧.places R.part_of R.columns) (seen_of opened.0)
+    ensures stands { IfOk result (λ opened. IsSceneWorld (kinds_of ⟦<R::Value as SceneValue<R::Data>>⟧.places
+        R.part_of R.columns) (R.book rules.now) (seen_of opened.0)) }
+    ensures none { IfOk result (λ opened. NoneWaits (kinds_of ⟦<R::Value as SceneValue<R::Data>>⟧.places R.part_of
+        R.columns) (seen_of opened.0)) }
+    ensures same { IfOk result (λ opened. plain_of (kinds_of ⟦<R::Value as SceneValue<R::Data>>⟧.places R.part_of
+        R.columns) (seen_of opened.0)
         ≡ listed_scene R.part_of R.global_of (R.book rules.now) opened.1) }
     ensures scene { IfOk result (λ opened. (plain : Draft) → (indices : ℕ)
         → IsDraft R.part_of R.global_of R.kind_of R.config_of (R.book rules.now) plain draft.now
@@ -91,15 +94,18 @@ where
         R.declared R.said_time (R.made_by rules.now) (R.book rules.now) draft }
     ensures frames { IfOk result (λ course. (plain : Draft) → (frame : ℕ)
         → IsDraft R.part_of R.global_of R.kind_of R.config_of (R.book rules.now) plain draft.entry
-        → frames_of plain frame ≡ course_of R.part_of (turn_order (placed_as (λ placed. placed.position) (λ placed. placed.system)
+        → frames_of plain frame ≡ course_of R.part_of (turn_order (placed_as (λ placed. placed.position) (λ placed.
+        placed.system)
         R.kind_of R.config_of R.declared R.sense R.does).plain course.dispatcher) course.commands.items
         frame) }
     ensures lawful { IfOk result (λ course. (frame : ℕ)
         → All (IsLawful (R.book rules.now)) (commands_at R.part_of course.commands.items frame)) }
-    ensures staged { IfOk result (λ course. All (IsOfBook (placed_as (λ placed. placed.position) (λ placed. placed.system)
+    ensures staged { IfOk result (λ course. All (IsOfBook (placed_as (λ placed. placed.position) (λ placed.
+        placed.system)
         R.kind_of R.config_of R.declared R.sense R.does) (R.book rules.now))
         course.dispatcher.staging.systems) }
-    ensures locals { IfOk result (λ course. All (IsOfBook (placed_as (λ placed. placed.position) (λ placed. placed.system)
+    ensures locals { IfOk result (λ course. All (IsOfBook (placed_as (λ placed. placed.position) (λ placed.
+        placed.system)
         R.kind_of R.config_of R.declared R.sense R.does) (R.book rules.now)) course.dispatcher.locals) }
     ensures asked { IfOk result (λ course. course.asked ≡ draft.entry.frames) }
 {

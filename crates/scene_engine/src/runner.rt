@@ -59,20 +59,25 @@ where
     R::Data: Send + Sync,
     R::Global: Send + Sync,
     R::System: Send + Sync,
-    requires ready { IsReady (kinds_of ⟦<R::Value as SceneValue<R::Data>>⟧.places R.part_of R.columns) R.part_of R.global_of
+    requires ready { IsReady (kinds_of ⟦<R::Value as SceneValue<R::Data>>⟧.places R.part_of R.columns) R.part_of
+        R.global_of
         (placed_as (λ placed. placed.position)
         (λ placed. placed.system) R.kind_of R.config_of R.declared R.sense R.does) R.book scene.old }
-    requires start { (shown_of (kinds_of ⟦<R::Value as SceneValue<R::Data>>⟧.places R.part_of R.columns) R.part_of R.global_of
+    requires start { (shown_of (kinds_of ⟦<R::Value as SceneValue<R::Data>>⟧.places R.part_of R.columns) R.part_of
+        R.global_of
         (placed_as (λ placed. placed.position)
-        (λ placed. placed.system) R.kind_of R.config_of R.declared R.sense R.does) R.book scene.old).report ≡ nothing_yet }
+        (λ placed. placed.system) R.kind_of R.config_of R.declared R.sense R.does) R.book scene.old).report ≡
+        nothing_yet }
     ensures rules { rules_of scene.new ≡ rules_of scene.old }
-    ensures ready { IsReady (kinds_of ⟦<R::Value as SceneValue<R::Data>>⟧.places R.part_of R.columns) R.part_of R.global_of
+    ensures ready { IsReady (kinds_of ⟦<R::Value as SceneValue<R::Data>>⟧.places R.part_of R.columns) R.part_of
+        R.global_of
         (placed_as (λ placed. placed.position)
         (λ placed. placed.system) R.kind_of R.config_of R.declared R.sense R.does) R.book scene.new }
     ensures end { RunsOut (R.book (rules_of scene.old))
         (shown_of (kinds_of ⟦<R::Value as SceneValue<R::Data>>⟧.places R.part_of R.columns) R.part_of R.global_of
         (placed_as (λ placed. placed.position)
-        (λ placed. placed.system) R.kind_of R.config_of R.declared R.sense R.does) R.book scene.old) (shown_of (kinds_of ⟦<R::Value as SceneValue<R::Data>>⟧.places R.part_of R.columns) R.part_of R.global_of
+        (λ placed. placed.system) R.kind_of R.config_of R.declared R.sense R.does) R.book scene.old) (shown_of
+        (kinds_of ⟦<R::Value as SceneValue<R::Data>>⟧.places R.part_of R.columns) R.part_of R.global_of
         (placed_as (λ placed. placed.position)
         (λ placed. placed.system) R.kind_of R.config_of R.declared R.sense R.does) R.book scene.new) }
 {
@@ -86,16 +91,16 @@ where
 
 /// Runs the document that a reader gives, and writes the text of the scene that it reaches.
 ///
-/// The reader is read to its end. Where its bytes are no scene, the run is refused by name and nothing is written. Else
-/// all frames asked for are run in a world of entities, with the document's number of workers and kind of store, or those up
-/// to the first that is refused; the text of the scene there is written, by as many writes as that takes, and flushed; and the
-/// report tells the accepted frames, the skipped commands and the refusal.
+/// The reader is read to its end. Where its bytes are no scene, the run is refused by name and nothing is written.
+/// Else all frames asked for are run in a world of entities, with the document's number of workers and kind of store,
+/// or those up to the first that is refused; the text of the scene there is written, by as many writes as that takes,
+/// and flushed; and the report tells the accepted frames, the skipped commands and the refusal.
 ///
 /// Errors: `Document`, with the least refusal that stands; `Read`; `Memory`; with each of these nothing was written.
 /// `Write`, with the number of bytes of the text that went out, just its first ones.
 ///
-/// No failure of a device is passed over: where there is a report none of them failed in the call, and the reader fails only
-/// where `Read` is told. With a report, `Document` and `Write` the reader is left at its end.
+/// No failure of a device is passed over: where there is a report none of them failed in the call, and the reader
+/// fails only where `Read` is told. With a report, `Document` and `Write` the reader is left at its end.
 ///
 /// The limits are at most the greatest ones, and `generation` is at least 1.
 pub fn run_with<
@@ -130,8 +135,8 @@ where
     }
 }
 
-/// Runs the document that a reader gives under the greatest limits, and writes the text of the scene that it reaches, as
-/// `run_with` does.
+/// Runs the document that a reader gives under the greatest limits, and writes the text of the scene that it reaches,
+/// as `run_with` does.
 pub fn run<
     R: Rules + Drop + Send + Sync,
     H: AllocGlobal + Threads + Wait + Sync,

@@ -165,17 +165,20 @@ none-left kinds apart places w later empty stays others place = by (lives place 
 
 -- a spawn that finds none is one that is to be done
 comes-to-spawn : {V : Type 0} (kinds : Kinds V) (limit : ℕ) (commands : List Command) (scene : PlainScene) (at_limit : Births → Type 0) → SpawnFindsNone kinds limit commands scene at_limit → (length commands ≤ limit) × ComesToSpawn commands scene
-comes-to-spawn kinds limit commands scene at_limit none = (none.within, record {
-  before = none.before;
-  parts = none.parts;
-  after = none.after;
-  are = none.are;
-  mid = plain_of kinds (seen_of none.between);
-  places = none.places;
-  played_on = lead-played 1 none.before scene (plain_of kinds (seen_of none.between)) none.places none.lead;
-  made = none.to_be_done.after;
-  to_be_done = none.to_be_done.is;
-})
+comes-to-spawn kinds limit commands scene at_limit none = (
+  none.within,
+  record {
+    before = none.before;
+    parts = none.parts;
+    after = none.after;
+    are = none.are;
+    mid = plain_of kinds (seen_of none.between);
+    places = none.places;
+    played_on = lead-played 1 none.before scene (plain_of kinds (seen_of none.between)) none.places none.lead;
+    made = none.to_be_done.after;
+    to_be_done = none.to_be_done.is;
+  },
+)
 
 -- what refuses a frame in a world refuses it for the scene
 pub refused-plain : {V : Type 0} (kinds : Kinds V) (book : Book) (limit : ℕ) (frame : PlainFrame) (scene : PlainScene) (cause : FrameRefusal) → RefusedIn kinds book limit frame scene cause → Refuses book limit frame scene cause

@@ -65,7 +65,8 @@ fn act_queues<R: Rules>(
     alloc: Global,
 ) -> Result<(), FrameRefusal>
     requires may { MayAct (kinds_of ⟦<R::Value as SceneValue<R::Data>>⟧.places R.part_of R.columns) world.old }
-    requires lawful { All (λ queue. All (IsLawful (R.book rules.now)) (plain_commands R.part_of (waiting queue))) queues.now }
+    requires lawful { All (λ queue. All (IsLawful (R.book rules.now)) (plain_commands R.part_of (waiting queue)))
+        queues.now }
     requires room { earlier + length (waiting_in R.part_of queues.now) ≤ 4294967295 }
     ensures ran { OnOk result (RunsTo frame (earlier + 1) (waiting_in R.part_of queues.now)
         (plain_of (kinds_of ⟦<R::Value as SceneValue<R::Data>>⟧.places R.part_of R.columns) (seen_of world.old))
@@ -103,7 +104,8 @@ fn act_both<R: Rules>(
 ) -> Result<(), FrameRefusal>
     requires may { MayAct (kinds_of ⟦<R::Value as SceneValue<R::Data>>⟧.places R.part_of R.columns) world.old }
     requires given { All (IsLawful (R.book rules.now)) (plain_commands R.part_of given.now) }
-    requires lawful { All (λ queue. All (IsLawful (R.book rules.now)) (plain_commands R.part_of (waiting queue))) queues.now }
+    requires lawful { All (λ queue. All (IsLawful (R.book rules.now)) (plain_commands R.part_of (waiting queue)))
+        queues.now }
     requires room { length given.now + length (waiting_in R.part_of queues.now) ≤ 4294967295 }
     ensures ran { OnOk result (RunsTo frame 1 (plain_commands R.part_of given.now ++ waiting_in R.part_of queues.now)
         (plain_of (kinds_of ⟦<R::Value as SceneValue<R::Data>>⟧.places R.part_of R.columns) (seen_of world.old))
@@ -132,7 +134,8 @@ fn act_both<R: Rules>(
 fn look<R: Rules>(rules: &R, world: &World<R::Value>, alloc: Global) -> Result<(), FrameRefusal>
     requires may { MayAct (kinds_of ⟦<R::Value as SceneValue<R::Data>>⟧.places R.part_of R.columns) world.now }
     ensures ok { OnOk result (first_gone (R.book rules.now)
-        (plain_of (kinds_of ⟦<R::Value as SceneValue<R::Data>>⟧.places R.part_of R.columns) (seen_of world.now)) ≡ None) }
+        (plain_of (kinds_of ⟦<R::Value as SceneValue<R::Data>>⟧.places R.part_of R.columns) (seen_of world.now)) ≡
+        None) }
     ensures refused { IfErr result (GoneIn (R.book rules.now)
         (plain_of (kinds_of ⟦<R::Value as SceneValue<R::Data>>⟧.places R.part_of R.columns) (seen_of world.now))) }
 {
@@ -162,16 +165,19 @@ where
     requires may { MayAct (kinds_of ⟦<R::Value as SceneValue<R::Data>>⟧.places R.part_of R.columns) world.old }
     requires ascend { PlacesAscend places.now }
     requires given { All (IsLawful (R.book rules.now)) (plain_commands R.part_of given.now) }
-    requires lawful { All (λ queue. All (IsLawful (R.book rules.now)) (plain_commands R.part_of (waiting queue))) queues.items }
+    requires lawful { All (λ queue. All (IsLawful (R.book rules.now)) (plain_commands R.part_of (waiting queue)))
+        queues.items }
     requires room { length given.now + length (waiting_in R.part_of queues.items) ≤ 4294967295 }
-    ensures ran { OnOk result (RunsTo frame 1 (plain_commands R.part_of given.now ++ waiting_in R.part_of queues.items)
+    ensures ran { OnOk result (RunsTo frame 1 (plain_commands R.part_of given.now ++ waiting_in R.part_of
+        queues.items)
         (plain_of (kinds_of ⟦<R::Value as SceneValue<R::Data>>⟧.places R.part_of R.columns) (seen_of world.old))
         (plain_of (kinds_of ⟦<R::Value as SceneValue<R::Data>>⟧.places R.part_of R.columns) (seen_of world.new))
         skips.old.items skips.new.items) }
     ensures may { OnOk result (MayAct
         (kinds_of ⟦<R::Value as SceneValue<R::Data>>⟧.places R.part_of R.columns) world.new) }
     ensures none_gone { OnOk result (first_gone (R.book rules.now)
-        (plain_of (kinds_of ⟦<R::Value as SceneValue<R::Data>>⟧.places R.part_of R.columns) (seen_of world.new)) ≡ None) }
+        (plain_of (kinds_of ⟦<R::Value as SceneValue<R::Data>>⟧.places R.part_of R.columns) (seen_of world.new)) ≡
+        None) }
     ensures empty { OnOk result (NoneWaitsAt
         (kinds_of ⟦<R::Value as SceneValue<R::Data>>⟧.places R.part_of R.columns) places.now (seen_of world.new)) }
     ensures apart { OnOk result (StaysApart
@@ -195,14 +201,14 @@ where
 /// Runs the commands of a frame in a world: those that are given, and then those that wait in the queues at places, by
 /// their places. Then it looks for references that are gone.
 ///
-/// Where they are accepted, the scene that stands in the world is the one to which they lead, the skipped ones are noted
-/// behind the skips by the frame and their place, and the queues at these places are empty.
+/// Where they are accepted, the scene that stands in the world is the one to which they lead, the skipped ones are
+/// noted behind the skips by the frame and their place, and the queues at these places are empty.
 ///
 /// Asked for is that the places ascend, and that the commands are ones that the rules know.
 ///
-/// Errors: `TooManyCommands`, where there are more than `limit`; `IdsSpent`, `IndicesSpent` and `GenerationsSpent` of a
-/// spawn; `GoneReference`, with the least id that holds one; `Memory`, also where there is no queue at a place. The skips
-/// are as they were; what was carried out before stays in the world.
+/// Errors: `TooManyCommands`, where there are more than `limit`; `IdsSpent`, `IndicesSpent` and `GenerationsSpent` of
+/// a spawn; `GoneReference`, with the least id that holds one; `Memory`, also where there is no queue at a place. The
+/// skips are as they were; what was carried out before stays in the world.
 pub fn run_commands<R: Rules>(
     rules: &R,
     world: &mut World<R::Value>,
@@ -219,13 +225,15 @@ where
     requires ascend { PlacesAscend places.now }
     requires given { All (IsLawful (R.book rules.now)) (plain_commands R.part_of given.now) }
     requires lawful { All (λ place. All (IsLawful (R.book rules.now))
-        (commands_of (kinds_of ⟦<R::Value as SceneValue<R::Data>>⟧.places R.part_of R.columns) (seen_of world.old) place))
+        (commands_of (kinds_of ⟦<R::Value as SceneValue<R::Data>>⟧.places R.part_of R.columns) (seen_of world.old)
+        place))
         places.now }
     ensures accepted { OnOk result ((skipped : List ℕ) × CommandsAccepted (R.book rules.now) limit
         (plain_commands R.part_of given.now ++ waiting_at
         (kinds_of ⟦<R::Value as SceneValue<R::Data>>⟧.places R.part_of R.columns) places.now (seen_of world.old))
         (plain_of (kinds_of ⟦<R::Value as SceneValue<R::Data>>⟧.places R.part_of R.columns) (seen_of world.old))
-        (plain_of (kinds_of ⟦<R::Value as SceneValue<R::Data>>⟧.places R.part_of R.columns) (seen_of world.new)) skipped
+        (plain_of (kinds_of ⟦<R::Value as SceneValue<R::Data>>⟧.places R.part_of R.columns) (seen_of world.new))
+        skipped
         × (skips.new.items ≡ skips.old.items ++ skips_of frame skipped)) }
     ensures may { OnOk result (MayAct
         (kinds_of ⟦<R::Value as SceneValue<R::Data>>⟧.places R.part_of R.columns) world.new) }

@@ -25,26 +25,26 @@ use shred_world::World;
 use std::sync::Wait;
 use std::thread::Threads;
 
-/// What rules are held to: the parts and globals of their columns are those of their book, and no two of the values of a
-/// scene stand under one id.
+/// What rules are held to: the parts and globals of their columns are those of their book, and no two of the values
+/// of a scene stand under one id.
 fn rules_stand<R: Rules>(rules: &R)
     ensures named { AreNamedIn R.columns (R.book rules.now) }
     ensures apart { StandApart (kinds_of ⟦<R::Value as SceneValue<R::Data>>⟧.places R.part_of R.columns) }
 {}
 
-/// Runs a frame in a world in which a scene stands: the systems of a dispatcher, then the given commands, then those of the
-/// systems by their places. Then it looks for references that are gone.
+/// Runs a frame in a world in which a scene stands: the systems of a dispatcher, then the given commands, then those
+/// of the systems by their places. Then it looks for references that are gone.
 ///
-/// Where the frame is accepted, the scene that stands in the world is the one after it, whatever the number of workers, the
-/// skipped commands are noted behind the skips, no command waits, and the systems may run again.
+/// Where the frame is accepted, the scene that stands in the world is the one after it, whatever the number of
+/// workers, the skipped commands are noted behind the skips, no command waits, and the systems may run again.
 ///
 /// Asked for is that the systems are the rules' own, that `places` are ascending and have the position of each system,
 /// that no command waits, and that the given commands are ones that the rules know.
 ///
-/// Errors: `System`, with the position and the text of the first system that refuses; `TooManyCommands`, where a system
-/// has a full queue and more to ask for, or all commands are more than `limit`; those of `run_commands`; `Memory`; `Threads`,
-/// only with two workers or more. The skips are as they were; the world is what the systems and commands before have made
-/// of it, in which the scene before the frame is no more.
+/// Errors: `System`, with the position and the text of the first system that refuses; `TooManyCommands`, where a
+/// system has a full queue and more to ask for, or all commands are more than `limit`; those of `run_commands`;
+/// `Memory`; `Threads`, only with two workers or more. The skips are as they were; the world is what the systems and
+/// commands before have made of it, in which the scene before the frame is no more.
 pub fn run_frame<R: Rules + Send + Sync, H: AllocGlobal + Threads + Wait + Sync>(
     rt: &H,
     rules: &R,
@@ -61,10 +61,13 @@ where
     R::Data: Send + Sync,
     R::Global: Send + Sync,
     R::System: Send + Sync,
-    requires ready { AreReady (kinds_of ⟦<R::Value as SceneValue<R::Data>>⟧.places R.part_of R.columns) (placed_as (λ placed. placed.position) (λ placed. placed.system)
+    requires ready { AreReady (kinds_of ⟦<R::Value as SceneValue<R::Data>>⟧.places R.part_of R.columns) (placed_as
+        (λ placed. placed.position) (λ placed. placed.system)
         R.kind_of R.config_of R.declared R.sense R.does) (R.book rules.now) dispatcher.old (holding_of world.old) }
-    requires none { NoneWaits (kinds_of ⟦<R::Value as SceneValue<R::Data>>⟧.places R.part_of R.columns) (seen_of world.old) }
-    requires places { AreTheirPlaces places.now (turn_order (placed_as (λ placed. placed.position) (λ placed. placed.system)
+    requires none { NoneWaits (kinds_of ⟦<R::Value as SceneValue<R::Data>>⟧.places R.part_of R.columns) (seen_of
+        world.old) }
+    requires places { AreTheirPlaces places.now (turn_order (placed_as (λ placed. placed.position) (λ placed.
+        placed.system)
         R.kind_of R.config_of R.declared R.sense R.does).plain dispatcher.old) }
     requires given { All (IsLawful (R.book rules.now)) (plain_commands R.part_of given.now) }
     ensures accepted { OnOk result ((skipped : List ℕ) × Accepts (R.book rules.now) limit
@@ -73,12 +76,17 @@ where
               R.kind_of R.config_of R.declared R.sense R.does).plain dispatcher.old;
           commands = plain_commands R.part_of given.now;
         })
-        (plain_of (kinds_of ⟦<R::Value as SceneValue<R::Data>>⟧.places R.part_of R.columns) (seen_of world.old)) (plain_of (kinds_of ⟦<R::Value as SceneValue<R::Data>>⟧.places R.part_of R.columns) (seen_of world.new)) skipped
+        (plain_of (kinds_of ⟦<R::Value as SceneValue<R::Data>>⟧.places R.part_of R.columns) (seen_of world.old))
+        (plain_of (kinds_of ⟦<R::Value as SceneValue<R::Data>>⟧.places R.part_of R.columns) (seen_of world.new))
+        skipped
         × (skips.new.items ≡ skips.old.items ++ skips_of frame skipped)) }
-    ensures ready { OnOk result (AreReady (kinds_of ⟦<R::Value as SceneValue<R::Data>>⟧.places R.part_of R.columns) (placed_as (λ placed. placed.position) (λ placed. placed.system)
+    ensures ready { OnOk result (AreReady (kinds_of ⟦<R::Value as SceneValue<R::Data>>⟧.places R.part_of R.columns)
+        (placed_as (λ placed. placed.position) (λ placed. placed.system)
         R.kind_of R.config_of R.declared R.sense R.does) (R.book rules.now) dispatcher.new (holding_of world.new)) }
-    ensures none { OnOk result (NoneWaits (kinds_of ⟦<R::Value as SceneValue<R::Data>>⟧.places R.part_of R.columns) (seen_of world.new)) }
-    ensures refused { IfErr result (RefusedIn (kinds_of ⟦<R::Value as SceneValue<R::Data>>⟧.places R.part_of R.columns) (R.book rules.now) limit
+    ensures none { OnOk result (NoneWaits (kinds_of ⟦<R::Value as SceneValue<R::Data>>⟧.places R.part_of R.columns)
+        (seen_of world.new)) }
+    ensures refused { IfErr result (RefusedIn (kinds_of ⟦<R::Value as SceneValue<R::Data>>⟧.places R.part_of
+        R.columns) (R.book rules.now) limit
         (record {
           order = turn_order (placed_as (λ placed. placed.position) (λ placed. placed.system)
               R.kind_of R.config_of R.declared R.sense R.does).plain dispatcher.old;
@@ -87,7 +95,8 @@ where
         (plain_of (kinds_of ⟦<R::Value as SceneValue<R::Data>>⟧.places R.part_of R.columns) (seen_of world.old))) }
     ensures skips { OnErr result (skips.new.items ≡ skips.old.items) }
     ensures order { turn_order (placed_as (λ placed. placed.position) (λ placed. placed.system)
-        R.kind_of R.config_of R.declared R.sense R.does).plain dispatcher.new ≡ turn_order (placed_as (λ placed. placed.position) (λ placed. placed.system)
+        R.kind_of R.config_of R.declared R.sense R.does).plain dispatcher.new ≡ turn_order (placed_as (λ placed.
+        placed.position) (λ placed. placed.system)
         R.kind_of R.config_of R.declared R.sense R.does).plain dispatcher.old }
     ensures workers { dispatcher.new.workers ≡ dispatcher.old.workers }
     ensures threads { dispatcher.old.workers < 2 → IfErr result (λ cause. ¬ (WantsThread cause)) }

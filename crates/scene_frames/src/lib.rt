@@ -1,5 +1,5 @@
-//! Frames that run in a world in which a scene stands: the systems on their dispatcher, then the commands, then a look for
-//! references that are gone.
+//! Frames that run in a world in which a scene stands: the systems on their dispatcher, then the commands, then a
+//! look for references that are gone.
 #![tactic(auto)]
 
 mod commands;

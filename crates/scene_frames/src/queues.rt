@@ -17,8 +17,10 @@ fn take_queue<R: Rules>(
     place: u32,
 ) -> Result<Queue<R::Data>, AllocError>
     ensures queue { IfOk result (λ queue. plain_commands R.part_of (waiting queue)
-        ≡ commands_of (kinds_of ⟦<R::Value as SceneValue<R::Data>>⟧.places R.part_of R.columns) (seen_of world.old) place) }
-    ensures beside { OnOk result (StaysBeside (kinds_of ⟦<R::Value as SceneValue<R::Data>>⟧.places R.part_of R.columns)
+        ≡ commands_of (kinds_of ⟦<R::Value as SceneValue<R::Data>>⟧.places R.part_of R.columns) (seen_of world.old)
+        place) }
+    ensures beside { OnOk result (StaysBeside (kinds_of ⟦<R::Value as SceneValue<R::Data>>⟧.places R.part_of
+        R.columns)
         (place ∷ []) world.old world.new) }
 {
     let id = <R::Value as SceneValue<R::Data>>::queue_id(place);
@@ -46,7 +48,8 @@ pub(crate) fn take_queues<R: Rules>(
     ensures queues { IfOk result (λ queues. map (λ queue. plain_commands R.part_of (waiting queue)) queues.items
         ≡ map (commands_of (kinds_of ⟦<R::Value as SceneValue<R::Data>>⟧.places R.part_of R.columns)
         (seen_of world.old)) places.now) }
-    ensures beside { OnOk result (StaysBeside (kinds_of ⟦<R::Value as SceneValue<R::Data>>⟧.places R.part_of R.columns)
+    ensures beside { OnOk result (StaysBeside (kinds_of ⟦<R::Value as SceneValue<R::Data>>⟧.places R.part_of
+        R.columns)
         places.now world.old world.new) }
 {
     let mut queues = Vec::new(alloc);
@@ -67,7 +70,8 @@ where
     R::Value: Drop,
     ensures empty { OnOk result (commands_of
         (kinds_of ⟦<R::Value as SceneValue<R::Data>>⟧.places R.part_of R.columns) (seen_of world.new) place ≡ []) }
-    ensures beside { OnOk result (StaysBeside (kinds_of ⟦<R::Value as SceneValue<R::Data>>⟧.places R.part_of R.columns)
+    ensures beside { OnOk result (StaysBeside (kinds_of ⟦<R::Value as SceneValue<R::Data>>⟧.places R.part_of
+        R.columns)
         (place ∷ []) world.old world.new) }
 {
     queue.clear();
@@ -86,7 +90,8 @@ fn last_of<D: Drop>(queues: &mut Vec<Queue<D>>, alloc: Global) -> Queue<D> {
     }
 }
 
-/// Puts an empty queue in at each of some places, the room of which is that of these queues, of the first for the first.
+/// Puts an empty queue in at each of some places, the room of which is that of these queues, of the first for the
+/// first.
 ///
 /// Errors: want of memory.
 pub(crate) fn put_queues<R: Rules>(
@@ -100,7 +105,8 @@ where
     requires ascend { PlacesAscend places.now }
     ensures empty { OnOk result (NoneWaitsAt
         (kinds_of ⟦<R::Value as SceneValue<R::Data>>⟧.places R.part_of R.columns) places.now (seen_of world.new)) }
-    ensures beside { OnOk result (StaysBeside (kinds_of ⟦<R::Value as SceneValue<R::Data>>⟧.places R.part_of R.columns)
+    ensures beside { OnOk result (StaysBeside (kinds_of ⟦<R::Value as SceneValue<R::Data>>⟧.places R.part_of
+        R.columns)
         places.now world.old world.new) }
 {
     queues.reverse();
