@@ -18,6 +18,7 @@ use specs_entity::Entity;
 use std::alloc::{AllocError, Global};
 
 /// Rules under which an entity belongs to another and has a rank, and a world has an era.
+#[derive(Clone, Copy, Debug)]
 pub struct Owning;
 
 /// A system that rests. No document has one: these rules make none.

@@ -18,6 +18,7 @@ use specs_entity::Entity;
 use std::alloc::{AllocError, Global};
 
 /// Rules under which entities have a position and a velocity.
+#[derive(Clone, Copy, Debug)]
 pub struct Drifting;
 
 /// The system: each position gains the velocity of its entity.
