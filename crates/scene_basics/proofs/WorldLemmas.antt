@@ -221,7 +221,7 @@ module _ (kind : Name) (known : is_among kind part_kinds ≡ true) (numeric : by
           sum,
           lives-index (basic_roll seen) id ∙ ap is_some there,
           ap (λ n. added n (add id)) (number-of-id kind numeric known access declared seen id ∙ number-was id ∙ ap (option_and_then (λ i. value (whole_at before i))) there ∙ ap value refused.has_part)
-          ∙ ap (added (Some refused.part.0)) (agree id index there ∙ refused.has_item),
+              ∙ ap (added (Some refused.part.0)) (agree id index there ∙ refused.has_item),
           λ fits. not-refused sum (is_signed-fits sum fits) refused.refused,
         )
       where
@@ -242,7 +242,7 @@ adds-runs {T} system kind gain add known numeric declared only makes seen left a
     done : Adds kind gain seen left → IsLentFit basic_kinds meant system seen → LeavesLawfully basic_kinds meant system seen left []
     done adds lent =
         let gained_so : Gains kind (add (seen_by system seen)) (seen_by system seen) (seen_by system left) =
-            gains kind known numeric adds.before adds.after seen left adds.writes gain (add (seen_by system seen)) agree (declared_access system) declared adds.changed in
+        gains kind known numeric adds.before adds.after seen left adds.writes gain (add (seen_by system seen)) agree (declared_access system) declared adds.changed in
         let made : Makes (Some system) (seen_by system seen) (leaves (seen_by system left) []) = makes (seen_by system seen) (leaves (seen_by system left) []) (gained_so, refl) in
         record {
           did = made;
@@ -273,7 +273,7 @@ asks-runs {T} system ask nothing seen makes same result commands ends = record {
     done : Asking ask (lent_for ask seen) (leaves (lent_for ask seen) commands) → IsLentFit basic_kinds meant system seen → LeavesLawfully basic_kinds meant system seen seen commands
     done asks lent =
         let made : Makes (Some system) (seen_by system seen) (leaves (seen_by system seen) commands) =
-            subst (λ (left : Fragment). Makes (Some system) (seen_by system seen) (leaves left commands)) same (makes (leaves (lent_for ask seen) commands) asks) in
+        subst (λ (left : Fragment). Makes (Some system) (seen_by system seen) (leaves left commands)) same (makes (leaves (lent_for ask seen) commands) asks) in
         record {
           did = made;
           lawful = lawfully system seen seen commands refl made lent;

@@ -46,11 +46,7 @@ fn register_numbers(
 }
 
 /// Puts owners of which there is none into a world. Errors: want of memory.
-fn register_owners(
-    world: &mut World<Value>,
-    store: Store,
-    alloc: Global,
-) -> Result<(), AllocError>
+fn register_owners(world: &mut World<Value>, store: Store, alloc: Global) -> Result<(), AllocError>
     ensures { OnOk result (HasOwners world.old world.new) }
 {
     let owners: MaskedStorage<Owner> = MaskedStorage::new(alloc, scene_storage(alloc, store));

@@ -101,7 +101,10 @@ fn in_order(alloc: Global, ids: BTreeSet<u64>) -> Result<Vec<u64>, AllocError>
 }
 
 /// The ids of those that live, in order. Errors: want of memory, and where there are no entities.
-pub(crate) fn ids_in_order<W: Holder<Value>>(alloc: Global, view: &W) -> Result<Vec<u64>, AllocError>
+pub(crate) fn ids_in_order<W: Holder<Value>>(
+    alloc: Global,
+    view: &W,
+) -> Result<Vec<u64>, AllocError>
     ensures { IfOk result (λ ids. ids.items ≡ ids_in (basic_roll (W.slots view.now))) }
 {
     let Some(value) = view.value(ResourceId::from_type_id(0)) else {

@@ -22,8 +22,8 @@ pub returns : goal.returns
 returns g c =
     let old : Fragment = lent_for c.args.ask (g.W.Holder.slots c.args.view.now) in
     let all : take c.loop-place.place c.as_slice-ids.result.now ≡ old.ids =
-        take_all c.loop-place.place c.as_slice-ids.result.now c.loop-place-test.false
-        ∙ c.as_slice-ids.ensures.value ∙ c.in-Ok.ensures ∙ sym (lent-ids c.args.ask (g.W.Holder.slots c.args.view.now)) in
+    take_all c.loop-place.place c.as_slice-ids.result.now c.loop-place-test.false
+    ∙ c.as_slice-ids.ensures.value ∙ c.in-Ok.ensures ∙ sym (lent-ids c.args.ask (g.W.Holder.slots c.args.view.now)) in
     let room : length (plain_commands part_of (waiting c.loop-place.queue)) ≤ queue_room = omega (arith, length-map (waiting c.loop-place.queue) (plain_command part_of), c.loop-place.queue.room, c.loop-place.queue.commands.ok.0) in
     (refl, c.loop-place.invariant ∙ ap (filter_map (asked_for c.args.ask old)) all, room)
 

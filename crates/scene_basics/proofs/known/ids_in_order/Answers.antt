@@ -16,9 +16,9 @@ pub returns : goal.returns
 returns g c =
     let roll : Roll = basic_roll (g.W.Holder.slots c.args.view.now) in
     let births : roll.births ≡ c.in-Some-view.entities.now =
-        ap (λ held. unwrap_or (option_and_then births_in held) (none_born 0 0))
-        (lent-some (g.W.Holder.slots c.args.view.now) (id_of 0 0) c.from_type_id.result c.from_type_id.ensures c.value.result c.value.ensures c.in-Some.value c.in-Some.is)
-        ∙ ap (λ o. unwrap_or o (none_born 0 0)) (sym c.view.ensures ∙ ap option_copied c.in-Some-view.is) in
+    ap (λ held. unwrap_or (option_and_then births_in held) (none_born 0 0))
+    (lent-some (g.W.Holder.slots c.args.view.now) (id_of 0 0) c.from_type_id.result c.from_type_id.ensures c.value.result c.value.ensures c.in-Some.value c.in-Some.is)
+    ∙ ap (λ o. unwrap_or o (none_born 0 0)) (sym c.view.ensures ∙ ap option_copied c.in-Some-view.is) in
     let items : List LifeAt = c.in_ok-living.living.items in
     subst (λ (ids : List ℕ). IfOk c.in_order.result (λ list. list.items ≡ ids))
     (c.in_ok-ids.ensures ∙ ap (λ (entities : List LifeAt). ascending (filter_map (λ (entity : LifeAt). known_at roll entity.id) entities)) c.as_slice.ensures.value
