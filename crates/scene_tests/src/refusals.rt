@@ -2,7 +2,9 @@
 use crate::runs::is_refused;
 use scene::DocRefusal;
 use std::alloc::AllocError;
+use std::sync::Wait;
 use std::test::Fail;
+use std::thread::Threads;
 
 /// The worked refusals.
 const WORKED: [(&str, DocRefusal); 7] = [
@@ -176,7 +178,7 @@ const LISTS: [(&str, DocRefusal); 20] = [
 ];
 
 /// The first document of a table that is not refused by the name beside it.
-fn first_wrong<'a, H: AllocGlobal>(
+fn first_wrong<'a, H: AllocGlobal + Threads + Wait + Sync>(
     rt: &H,
     rows: &'a [(&'static str, DocRefusal)],
 ) -> Option<&'a str> {

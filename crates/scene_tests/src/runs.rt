@@ -1,7 +1,9 @@
 //! What a run and the program make of a document in memory.
 use scene::{Counted, DocRefusal, RunError, run};
 use scene_basics::Basics;
-use scene_basics::program::program;
+use scene_basics::program::{program, world_program};
+use std::sync::Wait;
+use std::thread::Threads;
 
 /// A document with the text that goes out.
 pub struct Accepted {
@@ -9,8 +11,18 @@ pub struct Accepted {
     pub text: &'static str,
 }
 
-/// Whether the program answers this status, writes this text and tells this line.
-pub fn program_tells<H: AllocGlobal>(
+/// Whether the program over plain maps answers this status, writes this text and tells this line.
+fn maps_tell<H: AllocGlobal>(rt: &H, document: &str, status: u8, text: &str, line: &str) -> bool {
+    let mut reader = Counted::new(document.as_bytes());
+    let mut out = Counted::new(Vec::new(rt.alloc()));
+    let mut err = Counted::new(Vec::new(rt.alloc()));
+    program(rt, &mut reader, &mut out, &mut err) == status
+        && out.get_ref().as_slice() == text.as_bytes()
+        && err.get_ref().as_slice() == line.as_bytes()
+}
+
+/// Whether the program over a world answers this status, writes this text and tells this line.
+fn world_tells<H: AllocGlobal + Threads + Wait + Sync>(
     rt: &H,
     document: &str,
     status: u8,
@@ -20,9 +32,20 @@ pub fn program_tells<H: AllocGlobal>(
     let mut reader = Counted::new(document.as_bytes());
     let mut out = Counted::new(Vec::new(rt.alloc()));
     let mut err = Counted::new(Vec::new(rt.alloc()));
-    program(rt, &mut reader, &mut out, &mut err) == status
+    world_program(rt, &mut reader, &mut out, &mut err) == status
         && out.get_ref().as_slice() == text.as_bytes()
         && err.get_ref().as_slice() == line.as_bytes()
+}
+
+/// Whether the program, over plain maps and over a world, answers this status, writes this text and tells this line.
+pub fn program_tells<H: AllocGlobal + Threads + Wait + Sync>(
+    rt: &H,
+    document: &str,
+    status: u8,
+    text: &str,
+    line: &str,
+) -> bool {
+    maps_tell(rt, document, status, text, line) && world_tells(rt, document, status, text, line)
 }
 
 /// Whether a run gives a report that names this frame as refused, or none, and writes this text.
@@ -75,11 +98,19 @@ fn line_of(refusal: DocRefusal) -> &'static str {
 }
 
 /// Whether all frames of a document are done, and the scene that they reach has this text.
-pub fn is_accepted<H: AllocGlobal>(rt: &H, document: &str, text: &str) -> bool {
+pub fn is_accepted<H: AllocGlobal + Threads + Wait + Sync>(
+    rt: &H,
+    document: &str,
+    text: &str,
+) -> bool {
     program_tells(rt, document, 0, text, "") && run_reaches(rt, document, None, text)
 }
 
 /// Whether the document is refused by this name, by a run and by the program.
-pub fn is_refused<H: AllocGlobal>(rt: &H, document: &str, refusal: DocRefusal) -> bool {
+pub fn is_refused<H: AllocGlobal + Threads + Wait + Sync>(
+    rt: &H,
+    document: &str,
+    refusal: DocRefusal,
+) -> bool {
     program_tells(rt, document, 1, "", line_of(refusal)) && run_refuses(rt, document, refusal)
 }
