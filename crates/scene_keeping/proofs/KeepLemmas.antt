@@ -2,6 +2,8 @@
 use Rattle.std.proofs.Common.{◌≡◌, ◌<◌, ◌+◌, ℕ, take, get_or, Bool, true, false, cond, eqb, ◌||◌, List, [], ◌∷◌, ◌++◌, map, length, All, Option, Some, None, IsSome, is_some, option_map, refl, ap, sym, subst, ◌∙◌}
 use Rattle.std.specs.Prelude.{option_and_then, slice_get}
 use Rattle.std.specs.List.{list_any}
+use Rattle.std.specs.List.Sorted.{IsPermutation}
+use Rattle.std.proofs.lemmas.List.Sorted.{All-permutation, list_any-IsPermutation}
 use Rattle.std.specs.Global.{Vec}
 use Rattle.std.specs.Ordering.{nat_cmp}
 use Rattle.std.specs.FinMap as finite
@@ -9,7 +11,7 @@ use Rattle.std.specs.Cmp.{nat_cmp_total}
 use Rattle.std.proofs.lemmas.Bool.{false≢true, eqb-true, eq-eqb}
 use Rattle.std.proofs.lemmas.List.Elements.{All-nil, All-head, All-tail, All-push, All-weaker}
 use Rattle.std.proofs.lemmas.List.{length-map, take_more}
-use Rattle.specs_entity.specs.Births.{IsAlive, living}
+use Rattle.specs_entity.specs.Births.{Births, IsAlive, living}
 use Rattle.specs_entity.specs.Life.{LifeAt}
 use Rattle.scene_rules.specs.Parts.{Json, Name, Part, is_among, place_of, living as reaching}
 use Rattle.scene_rules.specs.Rulebook.{Book}
@@ -85,6 +87,13 @@ any-holds P index (entity ∷ entities) all some = by (eqb entity.id index) refl
     by : (b : Bool) → eqb entity.id index ≡ b → (b || list_any (λ one. eqb one.id index) entities) ≡ true → (list_any (λ one. eqb one.id index) entities ≡ true → (one : LifeAt) × (one.id ≡ index) × P one) → (one : LifeAt) × (one.id ≡ index) × P one
     by true same some later = (entity, eqb-true entity.id index same, All-head P entity entities all)
     by false apart some later = later some
+
+-- in another order they are all that live still
+pub living-permuted : (births : Births) (entities others : List LifeAt) → IsPermutation entities others → AreLiving births entities → AreLiving births others
+living-permuted births entities others permuted living_all = record {
+  alive = All-permutation (IsAlive births) entities others permuted living_all.alive;
+  all = λ entity alive. sym (list_any-IsPermutation (λ one. eqb one.id entity.id) entities others permuted) ∙ living_all.all entity alive;
+}
 
 module _ {V D G : Type 0} (kinds : Kinds V) (part_of : D → Part) (w : Sight V) (names : List Name) where
   -- what holds of an entity of which is kept

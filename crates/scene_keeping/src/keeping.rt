@@ -1,6 +1,7 @@
 //! The scene that stands in a world, kept.
 ghost use Rattle.std.specs.Prelude.{◌≡◌, IfOk, OnOk};
 ghost use Rattle.std.specs.FinMap as map;
+ghost use Rattle.std.specs.List.Sorted.{IsPermutation};
 ghost use Rattle.scene_rules.specs.Lent.{texts};
 ghost use Rattle.scene_world.specs.Standing.{roll_of, plain_of, IsSceneWorld};
 ghost use Rattle.scene_turns.specs.Places.{kinds_of};
@@ -37,10 +38,18 @@ pub fn keep_scene<R: Rules>(
 {
     let globals = globals_in::<R>(world, rules.global_names(), alloc)?;
     let next = next_in::<R>(world)?;
-    let entities = living_in::<R>(world)?;
+    let mut entities = living_in::<R>(world)?;
+    sort_by_id::<R>(world, &mut entities);
     let mut kept = Kept::new(alloc, next, globals);
     keep_entities(rules, world, &entities, &mut kept, alloc)?;
     Ok(kept)
+}
+
+/// Puts entities in the order of their ids, so that each is entered behind the one before it.
+fn sort_by_id<R: Rules>(world: &World<R::Value>, entities: &mut Vec<Entity>)
+    ensures { IsPermutation entities.old.items entities.new.items }
+{
+    entities.sort_unstable_by_key(|entity| id_marked::<R>(world, entity.id()));
 }
 
 /// Enters living entities into what is kept, of which there is none yet. Errors: want of memory.
