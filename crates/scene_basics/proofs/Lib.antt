@@ -1,3 +1,9 @@
+pub mod ColumnLemmas
+pub mod KnownLemmas
+pub mod AddLemmas
+pub mod SightLemmas
+pub mod AskedLemmas
+pub mod WorldLemmas
 pub mod TurnLemmas
 pub mod GainLemmas
 pub mod LineLemmas

@@ -6,5 +6,13 @@ pub mod Asks
 pub mod Turns
 pub mod Systems
 pub mod RuleLaws
+pub mod Values
+pub mod Columns
+pub mod Registering
+pub mod Apart
+pub mod Known
+pub mod Adding
+pub mod Asked
+pub mod WorldLaws
 pub mod Lines
 pub mod Program

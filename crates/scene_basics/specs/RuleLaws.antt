@@ -15,7 +15,7 @@ use Rattle.serde_json.specs.Data.{unsigned, negative, float, null, boolean, numb
 use Rattle.serde_json.specs.Find.{as_number, as_i64, as_null}
 use Rattle.serde_json.specs.Written.{has_float}
 use Rattle.scene_rules.specs.Parts.{Json, Name, Part, is_among}
-use Rattle.scene_rules.specs.Rulebook.{Facts, unknown, known, misshapen}
+use Rattle.scene_rules.specs.Rulebook.{Facts, known, misshapen}
 use Rattle.scene_rules.specs.Laws.{Ascend, DeclaresKnown}
 use Rattle.scene_basics.specs.declared.data.Datum.{Datum}
 use Rattle.scene_basics.specs.declared.data.Datum.TheVariants.{Whole, Owner}

@@ -5,11 +5,18 @@
 //! `program` runs a document and tells what became of it by a status and a line, which `lines` has.
 #![tactic(auto)]
 
+mod adding;
+mod asking;
+mod columns;
 pub mod data;
+mod known;
 pub mod laws;
 pub mod lines;
 pub mod program;
 pub mod rules;
 pub mod systems;
+mod turning;
+pub mod values;
 
 pub use rules::Basics;
+pub use values::{Owner, Value, Whole};

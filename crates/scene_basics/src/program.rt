@@ -5,6 +5,8 @@ ghost use Rattle.scene_basics.specs.Program.{RunsProgram};
 use crate::lines::{status, write_line};
 use crate::rules::Basics;
 use scene::{CountedRead, CountedWrite, run};
+use std::sync::Wait;
+use std::thread::Threads;
 
 /// Runs the document that `reader` gives, writes the text of the scene that it reaches to `out`, and answers the status.
 ///
@@ -23,6 +25,26 @@ pub fn program<H: AllocGlobal, R: CountedRead, O: CountedWrite, E: CountedWrite>
         (E.contents err.old) (E.contents err.new) (E.fault_count err.old) (E.fault_count err.new) }
 {
     let outcome = run(rt, Basics, reader, out);
+    write_line(err, &outcome);
+    status(&outcome)
+}
+
+/// Runs the document that `reader` gives in a world of entities, its systems on a dispatcher with the document's number
+/// of workers, and writes the text of the scene that it reaches to `out`, as `program` does.
+///
+/// The status and the line are those of `program`.
+pub fn world_program<
+    H: AllocGlobal + Threads + Wait + Sync,
+    R: CountedRead,
+    O: CountedWrite,
+    E: CountedWrite,
+>(rt: &H, reader: &mut R, out: &mut O, err: &mut E) -> u8
+    ensures { RunsProgram result
+        (reading R.remaining R.fault_count reader.old reader.new)
+        (writing O.contents O.fault_count O.flushed out.old out.new)
+        (E.contents err.old) (E.contents err.new) (E.fault_count err.old) (E.fault_count err.new) }
+{
+    let outcome = scene_engine::run(rt, Basics, reader, out);
     write_line(err, &outcome);
     status(&outcome)
 }

@@ -262,7 +262,7 @@ fn command_for(
 /// Puts a command into a queue, if there is one.
 ///
 /// Errors: `Full`, `Memory`; the queue is then as it was.
-fn ask_for(queue: &mut Queue<Datum>, command: Option<Command<Datum>>) -> Result<(), Stop>
+pub(crate) fn ask_for(queue: &mut Queue<Datum>, command: Option<Command<Datum>>) -> Result<(), Stop>
     ensures ok { OnOk result (plain_commands part_of (waiting queue.new)
         ≡ plain_commands part_of (waiting queue.old) ++ option_to_list (option_map (plain_command part_of) command)) }
     ensures err { IfErr result

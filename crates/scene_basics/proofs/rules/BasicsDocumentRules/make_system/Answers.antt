@@ -1,4 +1,4 @@
-use Rattle.std.proofs.Common.{◌≡◌, true, cond, Option, Some, None, is_some, ◌∙◌, ap, sym, refl}
+use Rattle.std.proofs.Common.{◌≡◌, true, cond, Option, Some, is_some, ◌∙◌, ap, sym, refl}
 use Rattle.serde_json.specs.View.{view}
 use Rattle.serde_json.specs.Find.{as_null}
 use Rattle.scene_rules.specs.Rulebook.{known, misshapen}

@@ -1,0 +1,131 @@
+-- Parts of the four kinds in the values of a world.
+use Rattle.std.proofs.Common.{◌≡◌, ℕ, ℤ, Bool, true, false, cond, eqb, List, [], ◌∷◌, length, Option, Some, None, Result, Ok, Err, refl, ap, sym, ◌∙◌, subst}
+use Rattle.std.specs.Prelude.{IsSome, OnOk, option_map, slice_get}
+use Rattle.std.specs.Option.{option_flatten}
+use Rattle.std.specs.Str.{bytes_eq}
+use Rattle.std.specs.FinMap as slots
+use Rattle.std.proofs.lemmas.Bool.{true≢false, eqb-true, eq-eqb}
+use Rattle.shred_world.specs.declared.resource_id.ResourceId.{ResourceId}
+use Rattle.shred_world.specs.ResourceIds.{same_id}
+use Rattle.shred_world.specs.Worlds.{Slots, value_at}
+use Rattle.shred_world.proofs.CallerLemmas.{ids_total}
+use Rattle.specs_entity.specs.Life.{LifeAt}
+use Rattle.specs_layouts.specs.Parts.{Puts, HasNone}
+use Rattle.scene_rules.specs.Parts.{Name}
+use Rattle.scene_world.specs.Changes.{but_at}
+use Rattle.scene_turns.specs.Putting.{PutsIn, Registers}
+use Rattle.scene_basics.specs.Names.{hp_kind, owner_kind, pos_kind, vel_kind}
+use Rattle.scene_basics.specs.Numbers.{counting, referring}
+use Rattle.scene_basics.specs.Values.{Numbers, Owners, whole_at, owner_at}
+use Rattle.scene_basics.specs.Columns.{part_id, whole_stored, owner_stored, number_column, owner_column, basic_columns}
+use Rattle.scene_basics.specs.Registering.{HasNumbers, HasOwners}
+use Rattle.scene_basics.specs.Apart.{each-kind}
+use Rattle.scene_basics.specs.declared.values.Value.{Value}
+use Rattle.scene_basics.specs.declared.values.Value.TheVariants.{NumbersValue, OwnersValue}
+
+-- what is put at an index is there alone, whatever is made of it
+put-at : {A B : Type 0} (f : A → B) (before after : ℕ → Option A) (index : ℕ) (part : A) → Puts before index (Some part) after
+    → (at : ℕ) → option_map f (after at) ≡ but_at index (Some (f part)) (λ i. option_map f (before i)) at
+put-at f before after index part puts at = by (eqb at index) refl
+  where
+    by : (b : Bool) → eqb at index ≡ b → option_map f (after at) ≡ cond (eqb at index) (Some (f part)) (option_map f (before at))
+    by true e = ap (λ i. option_map f (after i)) (eqb-true at index e) ∙ ap (option_map f) puts.here ∙ sym (ap (λ b. cond b (Some (f part)) (option_map f (before at))) e)
+    by false e = ap (option_map f) (puts.others at (λ same. true≢false (sym (eq-eqb at index same) ∙ e))) ∙ sym (ap (λ b. cond b (Some (f part)) (option_map f (before at))) e)
+
+-- a list of one is its first
+pub one-alone : {A : Type 0} (xs : List A) (x : A) → length xs ≡ 1 → Some x ≡ slice_get xs 0 → (x ∷ []) ≡ xs
+one-alone [] x one first = cc
+one-alone (y ∷ []) x one first = cc
+one-alone (y ∷ z ∷ zs) x one first = cc
+
+-- an owner that is put in names its entity, and its id is written for it
+pub put-owner : (before after : Owners) (index id : ℕ) (entity : LifeAt) → Puts (owner_at before) index (Some (record { 0 = entity })) (owner_at after)
+    → PutsIn owner_column index (referring id) (entity ∷ []) (OwnersValue before) (OwnersValue after)
+put-owner before after index id entity puts = record {
+  one = owner_stored (record { 0 = entity });
+  is = record { names = refl; writes = refl };
+  there = put-at owner_stored (owner_at before) (owner_at after) index (record { 0 = entity }) puts;
+}
+
+-- a number that is put in names nobody
+pub put-number : (before after : Numbers) (index : ℕ) (number : ℤ) → Puts (whole_at before) index (Some (record { 0 = number })) (whole_at after)
+    → PutsIn number_column index (counting number) [] (NumbersValue before) (NumbersValue after)
+put-number before after index number puts = record {
+  one = whole_stored (record { 0 = number });
+  is = record { names = refl; writes = refl };
+  there = put-at whole_stored (whole_at before) (whole_at after) index (record { 0 = number }) puts;
+}
+
+-- what follows where something was done
+pub where-done : {T E P Q : Type 0} (outcome : Result T E) → (P → Q) → OnOk outcome P → OnOk outcome Q
+where-done (Ok value) follows done = follows done
+where-done (Err error) follows done = tt
+
+-- storages of the four kinds that are put in one after the other are registered
+module _ (w with_hp with_owners with_pos later : Slots Value) (one : HasNumbers (part_id hp_kind) w with_hp) (two : HasOwners with_hp with_owners)
+    (three : HasNumbers (part_id pos_kind) with_owners with_pos) (four : HasNumbers (part_id vel_kind) with_pos later) where
+  -- what stands at an id after one more was put in
+  with-one : (v : Value) (id : ResourceId) (was is : Slots Value) → is ≡ slots.insert was id (Some v) → (q : ResourceId) → slots.get is q ≡ cond (same_id q id) (Some (Some v)) (slots.get was q)
+  with-one v id was is put q = ap (λ m. slots.get m q) put ∙ slots.get-insert ids_total was id (Some v) q
+
+  abbrev last : ResourceId → Option (Option Value)
+  last q = cond (same_id q (part_id vel_kind)) (Some (Some (NumbersValue four.numbers)))
+      (cond (same_id q (part_id pos_kind)) (Some (Some (NumbersValue three.numbers)))
+      (cond (same_id q (part_id owner_kind)) (Some (Some (OwnersValue two.owners)))
+      (cond (same_id q (part_id hp_kind)) (Some (Some (NumbersValue one.numbers))) (slots.get w q))))
+
+  stands : (q : ResourceId) → slots.get later q ≡ last q
+  stands q =
+      with-one (NumbersValue four.numbers) (part_id vel_kind) with_pos later four.put q
+      ∙ ap (cond (same_id q (part_id vel_kind)) (Some (Some (NumbersValue four.numbers))))
+      (with-one (NumbersValue three.numbers) (part_id pos_kind) with_owners with_pos three.put q
+      ∙ ap (cond (same_id q (part_id pos_kind)) (Some (Some (NumbersValue three.numbers))))
+      (with-one (OwnersValue two.owners) (part_id owner_kind) with_hp with_owners two.put q
+      ∙ ap (cond (same_id q (part_id owner_kind)) (Some (Some (OwnersValue two.owners))))
+      (with-one (NumbersValue one.numbers) (part_id hp_kind) w with_hp one.put q)))
+
+  -- what stands under a kind stores nothing
+  empty-numbers : (kind : Name) → bytes_eq kind owner_kind ≡ false → (numbers : Numbers) → HasNone (whole_at numbers) → slots.get later (part_id kind) ≡ Some (Some (NumbersValue numbers))
+      → (v : Value) → value_at later (part_id kind) ≡ Some v → (index : ℕ) → basic_columns.stored kind v index ≡ None
+  empty-numbers kind other numbers none there v e index =
+      let same : NumbersValue numbers ≡ v = let h : Some (NumbersValue numbers) ≡ Some v = sym (ap option_flatten there) ∙ e in cc in
+      ap (λ b. cond b (owner_column v index) (number_column v index)) other
+      ∙ subst (λ x. number_column x index ≡ None) same (ap (option_map whole_stored) (none index))
+
+  empty-owners : (v : Value) → value_at later (part_id owner_kind) ≡ Some v → (index : ℕ) → basic_columns.stored owner_kind v index ≡ None
+  empty-owners v e index =
+      let same : OwnersValue two.owners ≡ v = let h : Some (OwnersValue two.owners) ≡ Some v = sym (ap option_flatten (stands (part_id owner_kind))) ∙ e in cc in
+      subst (λ x. owner_column x index ≡ None) same (ap (option_map owner_stored) (two.none index))
+
+  abbrev IsThere : Name → Type 0
+  IsThere kind = IsSome (value_at later (part_id kind))
+
+  abbrev IsBare : Name → Type 0
+  IsBare kind = (v : Value) → value_at later (part_id kind) ≡ Some v → (index : ℕ) → basic_columns.stored kind v index ≡ None
+
+  there-at : (id : ResourceId) (v : Value) → slots.get later id ≡ Some (Some v) → IsSome (value_at later id)
+  there-at id v e = subst (λ o. IsSome (option_flatten o)) (sym e) refl
+
+  pub registers-all : Registers basic_columns w later
+  registers-all = record {
+    there = each-kind IsThere
+        (there-at (part_id hp_kind) (NumbersValue one.numbers) (stands (part_id hp_kind)))
+        (there-at (part_id owner_kind) (OwnersValue two.owners) (stands (part_id owner_kind)))
+        (there-at (part_id pos_kind) (NumbersValue three.numbers) (stands (part_id pos_kind)))
+        (there-at (part_id vel_kind) (NumbersValue four.numbers) (stands (part_id vel_kind)));
+    empty = λ kind v known. each-kind IsBare
+        (empty-numbers hp_kind refl one.numbers one.none (stands (part_id hp_kind)))
+        empty-owners
+        (empty-numbers pos_kind refl three.numbers three.none (stands (part_id pos_kind)))
+        (empty-numbers vel_kind refl four.numbers four.none (stands (part_id vel_kind))) kind known v;
+    others = λ id apart. stands id ∙ elsewhere id (same_id id (part_id vel_kind)) (same_id id (part_id pos_kind)) (same_id id (part_id owner_kind)) (same_id id (part_id hp_kind))
+        (apart vel_kind refl) (apart pos_kind refl) (apart owner_kind refl) (apart hp_kind refl);
+  }
+    where
+      elsewhere : (id : ResourceId) (a b c d : Bool) → a ≡ false → b ≡ false → c ≡ false → d ≡ false
+          → cond a (Some (Some (NumbersValue four.numbers))) (cond b (Some (Some (NumbersValue three.numbers))) (cond c (Some (Some (OwnersValue two.owners))) (cond d (Some (Some (NumbersValue one.numbers))) (slots.get w id)))) ≡ slots.get w id
+      elsewhere id false false false false e f g h = refl
+      elsewhere id true b c d e f g h = absurd (true≢false e)
+      elsewhere id false true c d e f g h = absurd (true≢false f)
+      elsewhere id false false true d e f g h = absurd (true≢false g)
+      elsewhere id false false false true e f g h = absurd (true≢false h)

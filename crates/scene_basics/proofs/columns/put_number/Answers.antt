@@ -1,0 +1,16 @@
+use Rattle.std.proofs.Common.{[], ℤ, Some, sym, subst}
+use Rattle.std.proofs.Math.Facts.{to_z-of_z}
+use Rattle.specs_layouts.specs.Parts.{Puts}
+use Rattle.scene_turns.specs.Putting.{PutsIn}
+use Rattle.scene_basics.specs.Numbers.{counting}
+use Rattle.scene_basics.specs.Values.{whole_at}
+use Rattle.scene_basics.specs.Columns.{number_column}
+use Rattle.scene_basics.specs.declared.values.Value.TheVariants.{NumbersValue}
+use Rattle.scene_basics.proofs.ColumnLemmas.{put-number}
+use Rattle.scene_basics.proofs.columns.put_number.Goals as goal
+
+pub returns-in-Ok-clause-ok : goal.returns-in-Ok-clause-ok
+returns-in-Ok-clause-ok c =
+    subst (λ v. PutsIn number_column c.args.index (counting c.args.number) [] v (NumbersValue c.insert.new.self)) (sym c.in-NumbersValue.is)
+    (put-number c.in-NumbersValue.numbers c.insert.new.self c.args.index c.args.number
+    (subst (λ (n : ℤ). Puts (whole_at c.in-NumbersValue.numbers) c.args.index (Some (record { 0 = n })) (whole_at c.insert.new.self)) (to_z-of_z c.ranges.number) c.in-Ok.ensures.ok))

@@ -1,0 +1,45 @@
+-- What the systems ask for in a world that change nothing themselves.
+use Rattle.std.specs.Prelude.{◌≡◌, ℕ, ℤ, List, length, Option, option_and_then, option_map}
+use Rattle.shred_world.specs.Bundles.{Holding, readable}
+use Rattle.shred_stages.specs.declared.stop.Stop.{Stop}
+use Rattle.shred_stages.specs.declared.stop.Stop.TheVariants as stop
+use Rattle.scene_rules.specs.declared.rules.Stop.{Stop as RulesStop}
+use Rattle.scene_rules.specs.declared.rules.Stop.TheVariants as rules_stop
+use Rattle.scene_rules.specs.Parts.{Name}
+use Rattle.scene_rules.specs.Rulebook.{Fragment, Command, fills, queue_room}
+use Rattle.scene_world.specs.Rolls.{index_of}
+use Rattle.scene_world.specs.Standing.{fragment_of}
+use Rattle.scene_basics.specs.declared.data.Ask.{Ask}
+use Rattle.scene_basics.specs.declared.data.Ask.TheVariants.{Deaths, Births}
+use Rattle.scene_basics.specs.declared.data.BasicSystem.TheVariants.{Reap, Bud}
+use Rattle.scene_basics.specs.declared.values.Whole.{Whole}
+use Rattle.scene_basics.specs.declared.values.Value.{Value}
+use Rattle.scene_basics.specs.Asks.{Asking}
+use Rattle.scene_basics.specs.Systems.{declared_access}
+use Rattle.scene_basics.specs.Columns.{part_id, basic_kinds}
+use Rattle.scene_basics.specs.Known.{basic_roll}
+use Rattle.scene_basics.specs.Adding.{numbers_of}
+
+-- the number at an index under a kind, and the number of an id
+abbrev pub number_seen : Holding Value → Name → ℕ → Option ℤ
+number_seen w kind index = option_map (λ (whole : Whole). whole.0) (numbers_of (readable (w (part_id kind))) index)
+
+abbrev pub number_under : Holding Value → Name → ℕ → Option ℤ
+number_under w kind id = option_and_then (number_seen w kind) (index_of (basic_roll w) id)
+
+-- what the system that asks is lent of what is held
+abbrev pub lent_for : Ask → Holding Value → Fragment
+lent_for Deaths w = fragment_of basic_kinds (declared_access Reap) w
+lent_for Births w = fragment_of basic_kinds (declared_access Bud) w
+
+-- the stop of a staged system that stops so
+abbrev pub staged : RulesStop → Stop
+staged (rules_stop.Refused text) = stop.Refused text
+staged rules_stop.Memory = stop.Memory
+staged rules_stop.Full = stop.Full
+
+-- a stop of a system that asks: its queue is full of the first of what it asks for, or memory was wanting
+abbrev pub StopsAsking : Ask → Fragment → List Command → Stop → Type 0
+StopsAsking ask old commands (stop.Refused text) = ⊥
+StopsAsking ask old commands stop.Memory = Unit {0}
+StopsAsking ask old commands stop.Full = Asking ask old (fills commands) × (length commands ≡ queue_room)

@@ -1,0 +1,79 @@
+-- Where the parts and the global of the program's rules stand in a world, and what is read there.
+use Rattle.std.specs.Prelude.{ℕ, false, [], ◌∷◌, Option, option_map, option_and_then, if◌then◌else◌}
+use Rattle.std.specs.List.{slice_index_or}
+use Rattle.std.specs.Option.{option_map_or}
+use Rattle.std.specs.Str.{bytes_eq}
+use Rattle.serde_json.specs.Data.{number, unsigned}
+use Rattle.shred_world.specs.declared.resource_id.ResourceId.{ResourceId}
+use Rattle.shred_world.specs.ResourceIds.{id_of}
+use Rattle.specs_events.specs.Channels.{log_of, no_log}
+use Rattle.specs_flagged.specs.Flagged.{tells}
+use Rattle.scene_stores.specs.Markers.{marker_at}
+use Rattle.scene_rules.specs.Parts.{Name}
+use Rattle.scene_world.specs.Stored.{Stored}
+use Rattle.scene_world.specs.Standing.{Kinds}
+use Rattle.scene_turns.specs.Places.{Places, Columns, kinds_of}
+use Rattle.scene_basics.specs.declared.data.Datum.{Datum}
+use Rattle.scene_basics.specs.declared.values.Whole.{Whole}
+use Rattle.scene_basics.specs.declared.values.Owner.{Owner}
+use Rattle.scene_basics.specs.declared.values.Value.{Value}
+use Rattle.scene_basics.specs.declared.values.Value.TheVariants.{QueueValue}
+use Rattle.scene_basics.specs.Names.{hp_kind, owner_kind, pos_kind, g_name, part_kinds}
+use Rattle.scene_basics.specs.Numbers.{json_of, part_of}
+use Rattle.scene_basics.specs.Values.{births_in, markers_in, noting_in, queue_in, numbers_in, owners_in, global_in, whole_at, owner_at}
+
+-- the number of a kind: under it its parts stand
+abbrev pub kind_number : Name → ℕ
+kind_number kind = if bytes_eq kind owner_kind then 4 else (if bytes_eq kind hp_kind then 5 else (if bytes_eq kind pos_kind then 6 else 7))
+
+-- where the parts of a kind stand, and where the global does
+abbrev pub part_id : Name → ResourceId
+part_id kind = id_of (kind_number kind) 0
+
+abbrev pub global_id : ResourceId
+global_id = id_of 8 0
+
+-- what is stored for a number, and for an owner, whose id is written for it
+abbrev pub whole_stored : Whole → Stored
+whole_stored whole = record { named = []; written = λ ids. json_of whole.0 }
+
+abbrev pub owner_stored : Owner → Stored
+owner_stored owner = record { named = owner.0 ∷ []; written = λ ids. number (unsigned (slice_index_or ids 0 0)) }
+
+-- what is stored at an index of a value
+abbrev pub number_column : Value → ℕ → Option Stored
+number_column v index = option_map whole_stored (option_and_then (λ s. whole_at s index) (numbers_in v))
+
+abbrev pub owner_column : Value → ℕ → Option Stored
+owner_column v index = option_map owner_stored (option_and_then (λ s. owner_at s index) (owners_in v))
+
+-- where the kinds and the global stand, and what is read there
+abbrev pub basic_columns : Columns Value
+basic_columns = record {
+  part_names = part_kinds;
+  global_names = g_name ∷ [];
+  part_id = part_id;
+  global_id = λ name. global_id;
+  stored = λ kind v index. if bytes_eq kind owner_kind then owner_column v index else number_column v index;
+  events = λ kind v. if bytes_eq kind owner_kind then option_map_or (λ s. log_of s.inner.channel) (owners_in v) no_log else option_map_or (λ s. log_of s.inner.channel) (numbers_in v) no_log;
+  emits = λ kind v. if bytes_eq kind owner_kind then option_map_or (λ s. tells s.inner) (owners_in v) false else option_map_or (λ s. tells s.inner) (numbers_in v) false;
+  value = λ name v. option_map json_of (global_in v);
+}
+
+-- where a scene's own stand
+abbrev pub basic_places : Places Value Datum
+basic_places = record {
+  entities_id = id_of 0 0;
+  markers_id = id_of 1 0;
+  allocator_id = id_of 2 0;
+  queue_id = λ position. id_of 3 position;
+  births = births_in;
+  marker = λ v index. option_and_then (λ markers. marker_at markers index) (markers_in v);
+  noting = noting_in;
+  queue = queue_in;
+  queue_value = QueueValue;
+}
+
+-- both together
+abbrev pub basic_kinds : Kinds Value
+basic_kinds = kinds_of basic_places part_of basic_columns

@@ -1,0 +1,186 @@
+//! The systems in a world that add something to the numbers of one kind.
+ghost use Rattle.std.specs.Prelude.{◌≡◌, Some, None, OnOk, OnErr, IfErr, IfSome, IfNone, MatchResult, option_and_then};
+ghost use Rattle.std.specs.Option.{option_copied};
+ghost use Rattle.shred_world.specs.Bundles.{owned, out, readable, with_slot};
+ghost use Rattle.shred_world.specs.Leaving.{Leaves};
+ghost use Rattle.specs_join.specs.ChangeEach.{AreChanged, IsRefused};
+ghost use Rattle.specs_join.specs.EachErrors.{OnRefused};
+ghost use Rattle.scene_basics.specs.declared.values.Value.TheVariants.{NumbersValue};
+ghost use Rattle.scene_basics.specs.declared.values.Whole.{Whole as Number};
+ghost use Rattle.scene_basics.specs.Values.{whole_at, global_in};
+ghost use Rattle.scene_basics.specs.Columns.{part_id, global_id};
+ghost use Rattle.scene_basics.specs.Adding.{gained, numbers_of, addend, ShowsNumbers, Adds, SaysOverflow, SaysWhy, StopsAdding};
+
+use crate::columns::part_id;
+use crate::data::Gain;
+use crate::known::id_known;
+use crate::values::{Value, Whole};
+use shred_stages::Stop;
+use shred_world::{Holder, ResourceId};
+use specs_join::{Change, EachError, change_each};
+use specs_layouts::MaskedStorage;
+
+/// Adds to a number.
+///
+/// Errors: where the sum leaves the range of 64 signed bits; the number is as it was.
+fn add(number: &mut Whole, by: i64) -> Result<(), ()>
+    ensures done { OnOk result (gained number.old by ≡ Some number.new) }
+    ensures refused { OnErr result (gained number.old by ≡ None) }
+    ensures kept { OnErr result (number.new ≡ number.old) }
+{
+    match number.0.checked_add(by) {
+        Some(sum) => {
+            number.0 = sum;
+            Ok(())
+        }
+        None => Err(()),
+    }
+}
+
+/// Adds the number beside a number to it.
+#[derive(Clone, Copy)]
+struct AddsBeside;
+
+impl<'a> Change<Whole, &'a MaskedStorage<Whole>> for AddsBeside {
+    ghost use Rattle.scene_basics.specs.Adding.{gained};
+
+    type Refusal = ();
+
+    ghost changed = { λ _ number beside. gained number beside.0 };
+
+    fn change(&self, number: &mut Whole, beside: &'a Whole) -> Result<(), ()> {
+        add(number, beside.0)
+    }
+}
+
+/// Adds the same to each number.
+#[derive(Clone, Copy)]
+struct AddsEach(i64);
+
+impl Change<Whole, ()> for AddsEach {
+    ghost use Rattle.scene_basics.specs.Adding.{gained};
+
+    type Refusal = ();
+
+    ghost changed = { λ adds number _. gained number adds.0 };
+
+    fn change(&self, number: &mut Whole, _beside: ()) -> Result<(), ()> {
+        add(number, self.0)
+    }
+}
+
+/// Adds to each number the one that a value has at its index.
+///
+/// Errors: want of memory, and where the value has no numbers; the least index whose sum leaves the range of 64 signed
+/// bits.
+fn add_beside(
+    numbers: &mut MaskedStorage<Whole>,
+    beside: Option<&Value>,
+) -> Result<(), EachError<()>>
+    ensures ok { OnOk result (AreChanged (λ number (one : Number). gained number one.0) (whole_at numbers.old)
+        (numbers_of (option_copied beside.entry)) (whole_at numbers.new)) }
+    ensures shown { ShowsNumbers numbers.old numbers.new }
+    ensures refused { IfErr result (OnRefused (IsRefused (λ number (one : Number). gained number one.0)
+        (whole_at numbers.old) (numbers_of (option_copied beside.entry)))) }
+{
+    match beside {
+        Some(Value::NumbersValue(gains)) => change_each(numbers, gains, &AddsBeside),
+        _ => Err(EachError::Memory),
+    }
+}
+
+/// Adds to each number what it gains.
+///
+/// Errors: want of memory; the least index whose sum leaves the range of 64 signed bits.
+fn add_gain<W: Holder<Value>>(
+    numbers: &mut MaskedStorage<Whole>,
+    view: &W,
+    gain: Gain,
+) -> Result<(), EachError<()>>
+    ensures ok { OnOk result (AreChanged gained (whole_at numbers.old) (addend gain (W.slots view.now))
+        (whole_at numbers.new)) }
+    ensures shown { ShowsNumbers numbers.old numbers.new }
+    ensures refused { IfErr result (OnRefused (IsRefused gained (whole_at numbers.old)
+        (addend gain (W.slots view.now)))) }
+{
+    match gain {
+        Gain::Under(kind) => add_beside(numbers, view.value(part_id(kind))),
+        Gain::Each(Some(by)) => change_each(numbers, (), &AddsEach(by)),
+        Gain::Each(None) => Ok(()),
+    }
+}
+
+/// Takes the numbers of a kind out of what is held, if they are there.
+fn take_numbers<W: Holder<Value>>(view: &mut W, kind: &str) -> Option<MaskedStorage<Whole>>
+    ensures there { IfSome result (λ numbers.
+        W.slots view.old (part_id kind.now) ≡ owned (NumbersValue numbers)) }
+    ensures taken { IfSome result (λ _. W.slots view.new ≡ with_slot (W.slots view.old) (part_id kind.now) out) }
+    ensures none { IfNone result (W.slots view.new ≡ W.slots view.old) }
+{
+    let value = view.take(part_id(kind))?;
+    match value {
+        Value::NumbersValue(numbers) => Some(numbers),
+        other => {
+            view.put(part_id(kind), other);
+            None
+        }
+    }
+}
+
+/// The refusal of a sum at an index, where somebody is known there; else want of memory.
+fn overflow_at<H: AllocGlobal, W: Holder<Value>>(rt: &H, view: &W, index: u32) -> Stop
+    ensures { SaysOverflow (W.slots view.now) index result }
+{
+    if id_known(view, index).is_none() {
+        return Stop::Memory;
+    }
+    match String::from_str(rt.alloc(), "overflow") {
+        Ok(text) => Stop::Refused(text),
+        Err(_) => Stop::Memory,
+    }
+}
+
+/// Why a system stops whose additions came to this.
+fn stop_for<H: AllocGlobal, W: Holder<Value>>(rt: &H, view: &W, error: EachError<()>) -> Stop
+    ensures { SaysWhy (W.slots view.now) error result }
+{
+    match error {
+        EachError::Memory => Stop::Memory,
+        EachError::Refused(index, ()) => overflow_at(rt, view, index),
+    }
+}
+
+/// Adds to each number of a kind what it gains.
+///
+/// Errors: `Refused`, with the text `overflow`, where a sum leaves the range of 64 signed bits; `Memory`.
+pub(crate) fn add_to<H: AllocGlobal, W: Holder<Value>>(
+    rt: &H,
+    view: &mut W,
+    kind: &str,
+    gain: Gain,
+) -> Result<(), Stop>
+    ensures ends { MatchResult result
+        (λ _. Adds kind.now gain (W.slots view.old) (W.slots view.new))
+        (StopsAdding kind.now gain (W.slots view.old) (W.slots view.new)) }
+    ensures leaves { Leaves (W.slots view.old) (W.slots view.new) }
+{
+    let Some(mut numbers) = take_numbers(view, kind) else {
+        return Err(Stop::Memory);
+    };
+    let outcome = add_gain(&mut numbers, view, gain);
+    view.put(part_id(kind), Value::NumbersValue(numbers));
+    match outcome {
+        Ok(()) => Ok(()),
+        Err(error) => Err(stop_for(rt, view, error)),
+    }
+}
+
+/// The global, if it is there.
+pub(crate) fn global_of<W: Holder<Value>>(view: &W) -> Option<i64>
+    ensures { result ≡ option_and_then global_in (readable (W.slots view.now global_id)) }
+{
+    match view.value(ResourceId::from_type_id(8)) {
+        Some(Value::GlobalValue(global)) => Some(*global),
+        _ => None,
+    }
+}

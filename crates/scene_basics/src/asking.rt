@@ -1,0 +1,135 @@
+//! The systems in a world that ask for deaths or births.
+ghost use Rattle.std.specs.Prelude.{◌≡◌, IfOk, MatchResult, [], option_map};
+ghost use Rattle.scene_rules.specs.Rulebook.{leaves};
+ghost use Rattle.scene_rules.specs.Queues.{waiting, plain_command, plain_commands};
+ghost use Rattle.scene_basics.specs.Names.{hp_kind, pos_kind};
+ghost use Rattle.scene_basics.specs.Numbers.{counting, part_of};
+ghost use Rattle.scene_basics.specs.Asks.{death_by, birth_by, asked_for, Asking};
+ghost use Rattle.scene_basics.specs.Asked.{number_seen, number_under, lent_for, staged, StopsAsking};
+
+use crate::columns::part_id;
+use crate::data::{Ask, Datum, HP, POS};
+use crate::known::{ids_in_order, index_under};
+use crate::systems::ask_for;
+use crate::values::Value;
+use scene_rules::{Command, Queue};
+use shred_stages::Stop;
+use shred_world::Holder;
+use std::alloc::{AllocError, Global};
+
+/// The number at an index under a kind.
+fn number_at<W: Holder<Value>>(view: &W, kind: &str, index: u32) -> Option<i64>
+    ensures { result ≡ number_seen (W.slots view.now) kind.now index }
+{
+    match view.value(part_id(kind)) {
+        Some(Value::NumbersValue(numbers)) if numbers.contains(index) => {
+            Some(numbers.get(index).0)
+        }
+        _ => None,
+    }
+}
+
+/// The number of an id under a kind.
+fn number_of<W: Holder<Value>>(view: &W, kind: &str, id: u64) -> Option<i64>
+    ensures { result ≡ number_under (W.slots view.now) kind.now id }
+{
+    let index = index_under(view, id)?;
+    number_at(view, kind, index)
+}
+
+/// The death of an entity, where its hp is at most 0.
+fn death_of<W: Holder<Value>>(view: &W, id: u64) -> Option<Command<Datum>>
+    ensures { option_map (plain_command part_of) result
+        ≡ death_by id (number_under (W.slots view.now) hp_kind id) }
+{
+    let hp = number_of(view, HP, id)?;
+    if hp <= 0 {
+        Some(Command::Kill(id))
+    } else {
+        None
+    }
+}
+
+/// The birth by an entity at its pos, where its hp is at least 10.
+///
+/// Errors: for want of memory.
+fn birth_of<W: Holder<Value>>(
+    alloc: Global,
+    view: &W,
+    id: u64,
+) -> Result<Option<Command<Datum>>, AllocError>
+    ensures { IfOk result (λ command. option_map (plain_command part_of) command
+        ≡ birth_by (number_under (W.slots view.now) hp_kind id)
+        (option_map counting (number_under (W.slots view.now) pos_kind id))) }
+{
+    let Some(hp) = number_of(view, HP, id) else {
+        return Ok(None);
+    };
+    if hp < 10 {
+        return Ok(None);
+    }
+    let Some(place) = number_of(view, POS, id) else {
+        return Ok(None);
+    };
+    Ok(Some(Command::Spawn(vec![in alloc; (HP, Datum::Whole(1)), (POS, Datum::Whole(place))]?)))
+}
+
+/// The command that is asked for an entity, if one is.
+///
+/// Errors: for want of memory.
+fn command_of<W: Holder<Value>>(
+    alloc: Global,
+    view: &W,
+    ask: Ask,
+    id: u64,
+) -> Result<Option<Command<Datum>>, AllocError>
+    ensures { IfOk result (λ command. option_map (plain_command part_of) command
+        ≡ asked_for ask (lent_for ask (W.slots view.now)) id) }
+{
+    match ask {
+        Ask::Deaths => Ok(death_of(view, id)),
+        Ask::Births => birth_of(alloc, view, id),
+    }
+}
+
+/// The stop of a staged system that stops so.
+fn staged(stop: scene_rules::Stop) -> Stop
+    ensures { result ≡ staged stop }
+{
+    match stop {
+        scene_rules::Stop::Refused(text) => Stop::Refused(text),
+        scene_rules::Stop::Memory => Stop::Memory,
+        scene_rules::Stop::Full => Stop::Full,
+    }
+}
+
+/// Asks for what is asked of each entity, in the order of the ids.
+///
+/// Errors: `Full`, where the queue is full of the first of it; `Memory`.
+pub(crate) fn ask_all<H: AllocGlobal, W: Holder<Value>>(
+    rt: &H,
+    view: &W,
+    ask: Ask,
+    queue: &mut Queue<Datum>,
+) -> Result<(), Stop>
+    requires empty { waiting queue.old ≡ [] }
+    ensures { MatchResult result
+        (λ _. Asking ask (lent_for ask (W.slots view.now)) (leaves (lent_for ask (W.slots view.now))
+        (plain_commands part_of (waiting queue.new))))
+        (StopsAsking ask (lent_for ask (W.slots view.now)) (plain_commands part_of (waiting queue.new))) }
+{
+    let Ok(list) = ids_in_order(rt.alloc(), view) else {
+        return Err(Stop::Memory);
+    };
+    let ids = list.as_slice();
+    for place in 0..ids.len() {
+        let Ok(command) = command_of(rt.alloc(), view, ask, ids[place]) else {
+            return Err(Stop::Memory);
+        };
+        match ask_for(queue, command) {
+            Ok(()) => {}
+            Err(stop) => return Err(staged(stop)),
+        }
+    }
+    Ok(())
+}

@@ -1,0 +1,179 @@
+//! The parts of the four kinds in the values of a world.
+ghost use Rattle.std.specs.Prelude.{◌≡◌, ◌<◌, ◌++◌, [], length, OnOk, OnErr, option_map};
+ghost use Rattle.scene_turns.specs.Putting.{named_in, part_read, PutsIn, TakesOut, SameColumn, Registers};
+ghost use Rattle.scene_basics.specs.Numbers.{counting, referring, part_of};
+ghost use Rattle.scene_basics.specs.Columns.{part_id, number_column, owner_column, basic_columns};
+ghost use Rattle.scene_basics.specs.Registering.{HasNumbers, HasOwners};
+
+use crate::data::{Datum, HP, OWNER, POS, VEL};
+use crate::values::{Owner, Value, Whole};
+use scene_stores::{Store, scene_storage};
+use shred_world::{ResourceId, World};
+use specs_entity::Entity;
+use specs_layouts::MaskedStorage;
+use std::alloc::{AllocError, Global};
+
+/// Where the parts of a kind stand.
+pub(crate) fn part_id(kind: &str) -> ResourceId
+    ensures { result ≡ part_id kind.now }
+{
+    if kind == OWNER {
+        return ResourceId::from_type_id(4);
+    }
+    if kind == HP {
+        return ResourceId::from_type_id(5);
+    }
+    if kind == POS {
+        return ResourceId::from_type_id(6);
+    }
+    ResourceId::from_type_id(7)
+}
+
+/// Puts empty numbers of a kind into a world. Errors: want of memory.
+fn register_numbers(
+    world: &mut World<Value>,
+    kind: &str,
+    store: Store,
+    alloc: Global,
+) -> Result<(), AllocError>
+    ensures { OnOk result (HasNumbers (part_id kind.now) world.old world.new) }
+{
+    let numbers: MaskedStorage<Whole> = MaskedStorage::new(alloc, scene_storage(alloc, store));
+    match world.insert_raw(part_id(kind), Value::NumbersValue(numbers)) {
+        Ok(_) => Ok(()),
+        Err(_) => Err(AllocError),
+    }
+}
+
+/// Puts owners of which there is none into a world. Errors: want of memory.
+fn register_owners(world: &mut World<Value>, store: Store, alloc: Global) -> Result<(), AllocError>
+    ensures { OnOk result (HasOwners world.old world.new) }
+{
+    let owners: MaskedStorage<Owner> = MaskedStorage::new(alloc, scene_storage(alloc, store));
+    match world.insert_raw(part_id(OWNER), Value::OwnersValue(owners)) {
+        Ok(_) => Ok(()),
+        Err(_) => Err(AllocError),
+    }
+}
+
+/// Puts an empty storage of each kind into a world. Errors: want of memory.
+pub(crate) fn register_all(
+    world: &mut World<Value>,
+    store: Store,
+    alloc: Global,
+) -> Result<(), AllocError>
+    ensures { OnOk result (Registers basic_columns world.old world.new) }
+{
+    register_numbers(world, HP, store, alloc)?;
+    register_owners(world, store, alloc)?;
+    register_numbers(world, POS, store, alloc)?;
+    register_numbers(world, VEL, store, alloc)
+}
+
+/// Puts a number in. Errors: want of memory, and where the value has no numbers.
+pub(crate) fn put_number(value: &mut Value, index: u32, number: i64) -> Result<(), AllocError>
+    requires { index < 16777216 }
+    ensures ok { OnOk result (PutsIn number_column index (counting number) [] value.old value.new) }
+    ensures err { OnErr result (SameColumn number_column value.old value.new) }
+{
+    let Value::NumbersValue(numbers) = value else {
+        return Err(AllocError);
+    };
+    match numbers.insert(index, Whole(number)) {
+        Ok(_) => Ok(()),
+        Err(_) => Err(AllocError),
+    }
+}
+
+/// Puts in that an entity owns another. Errors: want of memory, and where the value has no owners or no entity is named.
+pub(crate) fn put_owner(
+    value: &mut Value,
+    index: u32,
+    id: u64,
+    named: &[Entity],
+) -> Result<(), AllocError>
+    requires within { index < 16777216 }
+    requires as_many { length named.now ≡ 1 }
+    ensures ok { OnOk result (PutsIn owner_column index (referring id) named.now value.old value.new) }
+    ensures err { OnErr result (SameColumn owner_column value.old value.new) }
+{
+    let Value::OwnersValue(owners) = value else {
+        return Err(AllocError);
+    };
+    let Some(entity) = named.first() else {
+        return Err(AllocError);
+    };
+    match owners.insert(index, Owner(*entity)) {
+        Ok(_) => Ok(()),
+        Err(_) => Err(AllocError),
+    }
+}
+
+/// Takes a number out. Errors: want of memory.
+pub(crate) fn take_number(value: &mut Value, index: u32) -> Result<(), AllocError>
+    ensures ok { OnOk result (TakesOut number_column index value.old value.new) }
+    ensures err { OnErr result (SameColumn number_column value.old value.new) }
+{
+    let Value::NumbersValue(numbers) = value else {
+        return Ok(());
+    };
+    numbers.drop(index)
+}
+
+/// Takes an owner out. Errors: want of memory.
+pub(crate) fn take_owner(value: &mut Value, index: u32) -> Result<(), AllocError>
+    ensures ok { OnOk result (TakesOut owner_column index value.old value.new) }
+    ensures err { OnErr result (SameColumn owner_column value.old value.new) }
+{
+    let Value::OwnersValue(owners) = value else {
+        return Ok(());
+    };
+    owners.drop(index)
+}
+
+/// Puts the owner at an index, if there is one, behind others. Errors: want of memory.
+pub(crate) fn push_owner(
+    value: &Value,
+    index: u32,
+    named: &mut Vec<Entity>,
+) -> Result<(), AllocError>
+    ensures { OnOk result (named.new.items ≡ named.old.items ++ named_in (owner_column value.now index)) }
+{
+    let Value::OwnersValue(owners) = value else {
+        return Ok(());
+    };
+    if owners.contains(index) {
+        named.push(owners.get(index).0)?;
+    }
+    Ok(())
+}
+
+/// The owner at an index, if there is one, by its id.
+pub(crate) fn owner_datum(value: &Value, index: u32, ids: &[u64]) -> Option<Datum>
+    requires { length ids.now ≡ length (named_in (owner_column value.now index)) }
+    ensures { option_map part_of result ≡ option_map (part_read ids.now) (owner_column value.now index) }
+{
+    let Value::OwnersValue(owners) = value else {
+        return None;
+    };
+    if owners.contains(index) {
+        Some(Datum::Owner(ids[0]))
+    } else {
+        None
+    }
+}
+
+/// The number at an index, if there is one.
+pub(crate) fn number_datum(value: &Value, index: u32, ids: &[u64]) -> Option<Datum>
+    requires { length ids.now ≡ length (named_in (number_column value.now index)) }
+    ensures { option_map part_of result ≡ option_map (part_read ids.now) (number_column value.now index) }
+{
+    let Value::NumbersValue(numbers) = value else {
+        return None;
+    };
+    if numbers.contains(index) {
+        Some(Datum::Whole(numbers.get(index).0))
+    } else {
+        None
+    }
+}

@@ -1,0 +1,129 @@
+//! The program's rules over a world.
+ghost use Rattle.std.specs.Prelude.{Some, refl};
+ghost use Rattle.scene_turns.specs.Turns.{sense_of};
+ghost use Rattle.scene_basics.specs.Systems.{basics, Makes};
+ghost use Rattle.scene_basics.specs.Columns.{basic_columns};
+ghost use Rattle.scene_basics.specs.Apart.{basic-apart};
+ghost use Rattle.scene_basics.specs.WorldLaws.{law-of_book};
+
+use crate::adding::{add_to, global_of};
+use crate::asking::ask_all;
+use crate::columns::{
+    number_datum, owner_datum, part_id, push_owner, put_number, put_owner, register_all,
+    take_number, take_owner,
+};
+use crate::data::{Ask, BasicSystem, Datum, Gain, HP, OWNER, POS, VEL};
+use crate::rules::Basics;
+use crate::values::Value;
+use scene_rules::Queue;
+use scene_stores::Store;
+use scene_turns::Rules;
+use shred_stages::Stop;
+use shred_world::{Holder, ResourceId, World};
+use specs_entity::Entity;
+use std::alloc::{AllocError, Global};
+
+impl Rules for Basics {
+    type Value = Value;
+
+    ghost columns = { basic_columns };
+
+    ghost sense = { λ _. sense_of basics };
+
+    ghost does = { λ system. Makes (Some system) };
+
+    ghost named_so = { λ _. record { parts = refl; globals = refl } };
+
+    ghost apart = { basic-apart };
+
+    ghost of_book = { λ rules system made. law-of_book system };
+
+    fn part_id(kind: &str) -> ResourceId {
+        part_id(kind)
+    }
+
+    fn global_id(_name: &str) -> ResourceId {
+        ResourceId::from_type_id(8)
+    }
+
+    fn register(world: &mut World<Value>, store: Store, alloc: Global) -> Result<(), AllocError> {
+        register_all(world, store, alloc)
+    }
+
+    fn put(
+        value: &mut Value,
+        kind: &str,
+        index: u32,
+        datum: &Datum,
+        named: &[Entity],
+    ) -> Result<(), AllocError> {
+        match datum {
+            Datum::Owner(id) if kind == OWNER => put_owner(value, index, *id, named),
+            Datum::Whole(whole) if kind != OWNER => put_number(value, index, *whole),
+            _ => Err(AllocError),
+        }
+    }
+
+    fn take(value: &mut Value, kind: &str, index: u32) -> Result<(), AllocError> {
+        if kind == OWNER {
+            take_owner(value, index)
+        } else {
+            take_number(value, index)
+        }
+    }
+
+    fn named_at(
+        value: &Value,
+        kind: &str,
+        index: u32,
+        named: &mut Vec<Entity>,
+    ) -> Result<(), AllocError> {
+        if kind == OWNER {
+            return push_owner(value, index, named);
+        }
+        Ok(())
+    }
+
+    fn get(
+        value: &Value,
+        kind: &str,
+        index: u32,
+        ids: &[u64],
+        _alloc: Global,
+    ) -> Result<Option<Datum>, AllocError> {
+        if kind == OWNER {
+            Ok(owner_datum(value, index, ids))
+        } else {
+            Ok(number_datum(value, index, ids))
+        }
+    }
+
+    fn to_value(_name: &str, global: i64) -> Option<Value> {
+        Some(Value::GlobalValue(global))
+    }
+
+    fn as_global<'a>(_name: &str, value: &'a Value) -> Option<&'a i64> {
+        match value {
+            Value::GlobalValue(global) => Some(global),
+            _ => None,
+        }
+    }
+
+    fn run<H: AllocGlobal, W: Holder<Value>>(
+        rt: &H,
+        system: &mut BasicSystem,
+        view: &mut W,
+        queue: &mut Queue<Datum>,
+    ) -> Result<(), Stop> {
+        match *system {
+            BasicSystem::Drift => add_to(rt, view, POS, Gain::Under(VEL)),
+            BasicSystem::Pull => {
+                let by = global_of(view);
+                add_to(rt, view, VEL, Gain::Each(by))
+            }
+            BasicSystem::Decay => add_to(rt, view, HP, Gain::Each(Some(-1))),
+            BasicSystem::Reap => ask_all(rt, view, Ask::Deaths, queue),
+            BasicSystem::Bud => ask_all(rt, view, Ask::Births, queue),
+        }
+    }
+}
