@@ -1,0 +1,77 @@
+-- The turns of the three systems are ones that the rules allow.
+use Rattle.std.proofs.Common.{◌≡◌, List, [], Option, Some, None, refl, sym, subst}
+use Rattle.std.proofs.lemmas.Bool.{false≢true}
+use Rattle.std.proofs.lemmas.List.Elements.{All-nil}
+use Rattle.serde_json.specs.Data.{null}
+use Rattle.shred_world.specs.Bundles.{Holding}
+use Rattle.shred_stages.specs.declared.stop.Stop.{Stop}
+use Rattle.shred_stages.specs.declared.stop.Stop.TheVariants as stop
+use Rattle.scene_rules.specs.Lawful.{IsLawful}
+use Rattle.scene_rules.specs.Rulebook.{Command}
+use Rattle.scene_world.specs.Standing.{Kinds}
+use Rattle.scene_turns.specs.Places.{kinds_of}
+use Rattle.scene_turns.specs.Turns.{Meaning, sense_of, rules_by, Runs, Ends, meaning_of}
+use Rattle.scene_turns_tests.specs.Drifting.{counting, drift_name, drift_access, drifting_book, drifting_columns, drifting_places, Drifts}
+use Rattle.scene_turns_tests.specs.declared.values.Value.{Value}
+use Rattle.scene_engine_tests.specs.Watched.{mover_access, mover_does, mover_name, watched_book, IsHalt}
+use Rattle.scene_engine_tests.specs.declared.watched.Mover.{Mover}
+use Rattle.scene_engine_tests.specs.declared.watched.Mover.TheVariants.{Drift, Watch, Halt}
+
+abbrev pub watched_kinds : Kinds Value
+watched_kinds = kinds_of drifting_places counting drifting_columns
+
+-- what is meant of the three, and of a system that is drift
+abbrev pub mover_meaning : Meaning Mover
+mover_meaning = meaning_of 0 mover_name (λ _. null) mover_access (λ _. sense_of watched_book) mover_does
+
+abbrev pub drift_meaning : {S : Type 0} → Meaning S
+drift_meaning = meaning_of 0 (λ _. drift_name) (λ _. null) (λ _. drift_access) (λ _. sense_of drifting_book) (λ _. Drifts)
+
+-- a run of drift is one of the system that drifts
+pub drift-runs : {S : Type 0} (system system_after : S) (seen left : Holding Value) (refused : Option Stop) (commands : List Command)
+    → Runs watched_kinds drift_meaning system seen refused system_after left commands → Runs watched_kinds mover_meaning Drift seen refused Drift left commands
+drift-runs system system_after seen left refused commands runs = record {
+  stays = tt;
+  same = refl;
+  same_sense = refl;
+  no_more = λ f o did. did;
+  ends = λ lent. by refused (runs.ends (record { fit = lent.fit; within = lent.within }));
+}
+  where
+    by : (refused : Option Stop) → Ends watched_kinds drift_meaning system seen refused left commands → Ends watched_kinds mover_meaning Drift seen refused left commands
+    by None ends = record { did = ends.did; lawful = ends.lawful; within = ends.within; shown = ends.shown }
+    by (Some (stop.Refused text)) said = said
+    by (Some stop.Memory) said = tt
+    by (Some stop.Full) said = said
+
+-- who watches leaves all as it was
+pub watch-runs : (seen : Holding Value) (commands : List Command) → commands ≡ [] → Runs watched_kinds mover_meaning Watch seen None Watch seen commands
+watch-runs seen commands none = subst (λ asked. Runs watched_kinds mover_meaning Watch seen None Watch seen asked) (sym none) (record {
+  stays = tt;
+  same = refl;
+  same_sense = refl;
+  no_more = λ f o did. did;
+  ends = λ lent. record {
+    did = (refl, refl);
+    lawful = record {
+      ids = refl;
+      owned = lent.fit.owned;
+      living = lent.fit.living;
+      admitted = lent.fit.admitted;
+      valued = λ name some. some;
+      readable = lent.fit.readable;
+      known = All-nil (IsLawful (rules_by (sense_of watched_book)));
+    };
+    within = λ kind known writes_it. absurd (false≢true writes_it);
+    shown = λ kind known writes_it. absurd (false≢true writes_it);
+  };
+})
+
+-- who halts refuses, or finds no memory
+pub halt-runs : (seen : Holding Value) (why : Stop) (commands : List Command) → IsHalt why → Runs watched_kinds mover_meaning Halt seen (Some why) Halt seen commands
+halt-runs seen why commands halts = record { stays = tt; same = refl; same_sense = refl; no_more = λ f o did. did; ends = λ lent. by why halts }
+  where
+    by : (why : Stop) → IsHalt why → Ends watched_kinds mover_meaning Halt seen (Some why) seen commands
+    by (stop.Refused text) told = told
+    by stop.Memory told = tt
+    by stop.Full told = absurd told

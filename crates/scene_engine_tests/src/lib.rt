@@ -1,0 +1,14 @@
+//! Whole documents that run in worlds of entities, under rules of three kinds.
+#![tactic(auto)]
+
+mod alone;
+#[cfg(test)]
+mod documents;
+#[cfg(test)]
+mod memory;
+#[cfg(test)]
+mod rows;
+mod watched;
+
+pub use alone::drift_in_memory;
+pub use watched::{Mover, Watched};
