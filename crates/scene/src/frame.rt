@@ -1,20 +1,40 @@
-//! A scene that runs frame by frame.
+//! A scene that runs frame by frame in a world of entities.
 ghost use Rattle.std.specs.Prelude.{◌≡◌, ◌<◌, OnOk, OnErr, IfOk, MatchResult};
+ghost use Rattle.scene_rules.specs.Parts.{Part};
+ghost use Rattle.scene_rules.specs.Queues.{plain_commands};
+ghost use Rattle.scene_document.specs.Loading.{commands_at};
 
-use crate::turns::run_loaded;
-use scene_document::{Limits, LoadError, Loaded, load_document};
-use scene_draft::{JsonError, read_json, scene_text};
-use scene_rules::{DocRefusal, Report, Rules, Skips};
+use crate::advance::{KeptScene, advance};
+use crate::load::{Course, course_of, open_in_world};
+use scene_document::{Limits, LoadError, read_document};
+use scene_draft::{JsonError, read_json};
+use scene_rules::{Command, DocRefusal, Report, Skips};
+use scene_snapshot::kept_text;
+use scene_staging::places_of_systems;
+use scene_systems::SceneDispatcher;
+use scene_turns::{Rules, SceneValue};
 use serde_json::Value;
+use shred_world::World;
 use std::alloc::{AllocError, Global};
 use std::mem;
+use std::sync::Wait;
+use std::thread::Threads;
 
-/// A scene that runs frame by frame.
+/// A scene that runs frame by frame: a world of entities, the systems of its document on a dispatcher, and what is
+/// kept of the last accepted scene.
 #[derive(Drop)]
-pub struct Scene<R: Rules + Drop> {
+pub struct Scene<R: Rules + Drop>
+where
+    R::Value: Drop,
+{
     rules: R,
     limit: u32,
-    loaded: Loaded<R::Data, R::Global, R::System>,
+    world: World<R::Value>,
+    dispatcher: SceneDispatcher<R>,
+    places: Vec<u32>,
+    commands: Vec<Vec<Command<R::Data>>>,
+    asked: u32,
+    kept: KeptScene<R::Data, R::Global>,
     report: Report,
 }
 
@@ -22,13 +42,32 @@ pub struct Scene<R: Rules + Drop> {
 #[derive(Clone, Copy, Debug, PartialEq, Eq)]
 pub struct Refused;
 
-impl<R: Rules + Drop> Scene<R> {
-    ghost use Rattle.scene.specs.Turns.{shown_of, rules_of, IsReady, IsOpened, IsOpenedFrom, Advances, Stays, frames_left};
+/// The commands of a document for a frame, by its number from 1.
+fn commands_for<D: Drop>(lists: &[Vec<Command<D>>], frame: u32) -> &[Command<D>]
+    ensures { (part_of : D → Part) → plain_commands part_of result.now ≡ commands_at part_of lists.now frame }
+{
+    if frame == 0 {
+        return &[];
+    }
+    match lists.get(frame as usize - 1) {
+        Some(list) => list.as_slice(),
+        None => &[],
+    }
+}
+
+impl<R: Rules + Drop> Scene<R>
+where
+    R::Value: Drop,
+{
+    ghost use Rattle.serde_json.specs.View.{view};
+    ghost use Rattle.scene.specs.Limits.{AreLimits};
+    ghost use Rattle.scene.specs.Turns.{Advances, Stays, frames_left};
     ghost use Rattle.scene.specs.Outcomes.{IsNoDocument, bounds_of};
     ghost use Rattle.scene_document.specs.Loading.{IsNotLoaded};
-    ghost use Rattle.scene.specs.Limits.{AreLimits};
-    ghost use Rattle.serde_json.specs.View.{view};
     ghost use Rattle.scene_draft.specs.Texts.{scene_json, text_of, ReadsBack};
+    ghost use Rattle.scene_turns.specs.Places.{kinds_of};
+    ghost use Rattle.scene_turns.specs.Turns.{placed_as};
+    ghost use Rattle.scene_engine.specs.Running.{shown_of, rules_of, IsReady, IsOpened, IsOpenedFrom};
 
     /// The scene of the document in these bytes, before any frame.
     ///
@@ -41,8 +80,10 @@ impl<R: Rules + Drop> Scene<R> {
         bytes: &[u8],
     ) -> Result<Scene<R>, LoadError>
         requires { AreLimits limits }
-        ensures { MatchResult result
-            (IsOpenedFrom R.part_of R.global_of R.kind_of R.config_of R.book rules limits bytes.now)
+        ensures { MatchResult result (IsOpenedFrom (kinds_of ⟦<R::Value as SceneValue<R::Data>>⟧.places R.part_of
+            R.columns) R.part_of R.global_of
+            (placed_as (λ placed. placed.position)
+            (λ placed. placed.system) R.kind_of R.config_of R.declared R.sense R.does) R.book rules limits bytes.now)
             (IsNoDocument (R.book rules) (bounds_of limits) bytes.now) }
     {
         let value = match read_json(alloc, bytes) {
@@ -64,14 +105,32 @@ impl<R: Rules + Drop> Scene<R> {
         value: &Value,
     ) -> Result<Scene<R>, LoadError>
         requires { AreLimits limits }
-        ensures { MatchResult result
-            (IsOpened R.part_of R.global_of R.kind_of R.config_of R.book rules limits (view value.now))
+        ensures { MatchResult result (IsOpened (kinds_of ⟦<R::Value as SceneValue<R::Data>>⟧.places R.part_of
+            R.columns) R.part_of R.global_of
+            (placed_as (λ placed. placed.position)
+            (λ placed. placed.system) R.kind_of R.config_of R.declared R.sense R.does) R.book rules limits (view
+            value.now))
             (IsNotLoaded (R.book rules) limits.indices (view value.now)) }
     {
-        let loaded = match load_document(alloc, &rules, limits, value) {
-            Ok(loaded) => loaded,
+        let draft = match read_document(alloc, &rules, limits, value) {
+            Ok(draft) => draft,
             Err(error) => return Err(error),
         };
+        let Ok(places) = places_of_systems(draft.entries.as_slice(), alloc) else {
+            return Err(LoadError::Memory);
+        };
+        let Ok((world, kept)) = open_in_world(&rules, limits, &draft, places.as_slice(), alloc)
+        else {
+            return Err(LoadError::Memory);
+        };
+        let Ok(course) = course_of(&rules, draft, alloc) else {
+            return Err(LoadError::Memory);
+        };
+        let Course {
+            dispatcher,
+            commands,
+            asked,
+        } = course;
         let report = Report {
             frames: 0,
             skips: Skips::from_vec(Vec::new(alloc)),
@@ -80,43 +139,161 @@ impl<R: Rules + Drop> Scene<R> {
         Ok(Scene {
             rules,
             limit: limits.commands as u32,
-            loaded,
+            world,
+            dispatcher,
+            places,
+            commands,
+            asked,
+            kept,
             report,
         })
     }
 
-    /// Runs the next frame: its systems in their order, then its commands.
+    /// The frames asked for and not yet accepted.
+    pub fn left(&self) -> u32
+        ensures { result ≡ frames_left (shown_of (kinds_of ⟦<R::Value as SceneValue<R::Data>>⟧.places R.part_of
+            R.columns) R.part_of R.global_of
+            (placed_as (λ placed. placed.position)
+            (λ placed. placed.system) R.kind_of R.config_of R.declared R.sense R.does) R.book self.now) }
+    {
+        self.asked.saturating_sub(self.report.frames)
+    }
+
+    /// The text of the last accepted scene, which reads as the JSON of the scene and as no other.
     ///
-    /// An accepted frame takes the scene to the one after. A refused frame leaves the scene as it was, and the report
-    /// tells the frame and the cause; from then on each further call is refused and changes nothing.
+    /// Errors: want of memory.
+    pub fn snapshot(&self, alloc: Global) -> Result<Vec<u8>, AllocError>
+        ensures text { IfOk result (λ text. text.items ≡ text_of (R.book (rules_of self.now)) (shown_of (kinds_of
+            ⟦<R::Value as SceneValue<R::Data>>⟧.places R.part_of R.columns) R.part_of R.global_of
+            (placed_as (λ placed. placed.position)
+            (λ placed. placed.system) R.kind_of R.config_of R.declared R.sense R.does) R.book self.now).scene) }
+        ensures reads { IfOk result (λ text. ReadsBack text.items
+            (scene_json (R.book (rules_of self.now)) (shown_of (kinds_of ⟦<R::Value as SceneValue<R::Data>>⟧.places
+            R.part_of R.columns) R.part_of R.global_of
+            (placed_as (λ placed. placed.position)
+            (λ placed. placed.system) R.kind_of R.config_of R.declared R.sense R.does) R.book self.now).scene)) }
+    {
+        kept_text(alloc, &self.rules, &self.kept)
+    }
+
+    /// The next id of the last accepted scene.
+    pub fn next(&self) -> u64
+        ensures { result ≡ (shown_of (kinds_of ⟦<R::Value as SceneValue<R::Data>>⟧.places R.part_of R.columns)
+            R.part_of R.global_of
+            (placed_as (λ placed. placed.position)
+            (λ placed. placed.system) R.kind_of R.config_of R.declared R.sense R.does) R.book self.now).scene.next }
+    {
+        self.kept.next()
+    }
+
+    /// How far the scene has come: accepted frames, skipped commands, and the refusal if there is one.
+    pub fn report(&self) -> &Report
+        ensures { result.now ≡ (shown_of (kinds_of ⟦<R::Value as SceneValue<R::Data>>⟧.places R.part_of R.columns)
+            R.part_of R.global_of
+            (placed_as (λ placed. placed.position)
+            (λ placed. placed.system) R.kind_of R.config_of R.declared R.sense R.does) R.book self.now).report }
+    {
+        &self.report
+    }
+
+    /// The report, for whom the scene has ended.
+    pub fn into_report(self) -> Report
+        ensures { result ≡ (shown_of (kinds_of ⟦<R::Value as SceneValue<R::Data>>⟧.places R.part_of R.columns)
+            R.part_of R.global_of
+            (placed_as (λ placed. placed.position)
+            (λ placed. placed.system) R.kind_of R.config_of R.declared R.sense R.does) R.book self).report }
+    {
+        let Scene { report: told, .. } = self;
+        told
+    }
+
+    /// The rules and the report, for whom the scene has ended.
+    pub fn into_parts(self) -> (R, Report)
+        ensures rules { result.0 ≡ rules_of self }
+        ensures report { result.1 ≡ (shown_of (kinds_of ⟦<R::Value as SceneValue<R::Data>>⟧.places R.part_of
+            R.columns) R.part_of R.global_of
+            (placed_as (λ placed. placed.position)
+            (λ placed. placed.system) R.kind_of R.config_of R.declared R.sense R.does) R.book self).report }
+    {
+        let Scene {
+            rules: kept,
+            report: told,
+            ..
+        } = self;
+        (kept, told)
+    }
+}
+
+impl<R: Rules + Drop + Send + Sync> Scene<R>
+where
+    R::Value: Drop + Send + Sync,
+    R::Data: Send + Sync,
+    R::Global: Send + Sync,
+    R::System: Send + Sync,
+{
+    ghost use Rattle.scene.specs.Turns.{Advances, Stays, frames_left};
+    ghost use Rattle.scene_turns.specs.Places.{kinds_of};
+    ghost use Rattle.scene_turns.specs.Turns.{placed_as};
+    ghost use Rattle.scene_engine.specs.Running.{shown_of, rules_of, IsReady};
+
+    /// Runs the next frame: its systems on the dispatcher, then its commands.
+    ///
+    /// An accepted frame takes the scene to the one after, whatever the number of workers. A refused frame leaves the
+    /// scene as it was, and the report tells the frame and the cause; from then on each further call is refused and
+    /// changes nothing.
     ///
     /// Asked for is that frames are left.
-    pub fn run_frame<H: AllocGlobal>(&mut self, rt: &H) -> Result<(), Refused>
-        requires ready { IsReady R.part_of R.global_of R.kind_of R.config_of R.book self.old }
-        requires left { 0 < frames_left (shown_of R.part_of R.global_of R.kind_of R.config_of R.book self.old) }
+    pub fn run_frame<H: AllocGlobal + Threads + Wait + Sync>(
+        &mut self,
+        rt: &H,
+    ) -> Result<(), Refused>
+        requires ready { IsReady (kinds_of ⟦<R::Value as SceneValue<R::Data>>⟧.places R.part_of R.columns) R.part_of
+            R.global_of
+            (placed_as (λ placed. placed.position)
+            (λ placed. placed.system) R.kind_of R.config_of R.declared R.sense R.does) R.book self.old }
+        requires left { 0 < frames_left (shown_of (kinds_of ⟦<R::Value as SceneValue<R::Data>>⟧.places R.part_of
+            R.columns) R.part_of R.global_of
+            (placed_as (λ placed. placed.position)
+            (λ placed. placed.system) R.kind_of R.config_of R.declared R.sense R.does) R.book self.old) }
         ensures rules { rules_of self.new ≡ rules_of self.old }
-        ensures ready { IsReady R.part_of R.global_of R.kind_of R.config_of R.book self.new }
+        ensures ready { IsReady (kinds_of ⟦<R::Value as SceneValue<R::Data>>⟧.places R.part_of R.columns) R.part_of
+            R.global_of
+            (placed_as (λ placed. placed.position)
+            (λ placed. placed.system) R.kind_of R.config_of R.declared R.sense R.does) R.book self.new }
         ensures ok { OnOk result (Advances (R.book (rules_of self.old))
-            (shown_of R.part_of R.global_of R.kind_of R.config_of R.book self.old)
-            (shown_of R.part_of R.global_of R.kind_of R.config_of R.book self.new)) }
+            (shown_of (kinds_of ⟦<R::Value as SceneValue<R::Data>>⟧.places R.part_of R.columns) R.part_of R.global_of
+            (placed_as (λ placed. placed.position)
+            (λ placed. placed.system) R.kind_of R.config_of R.declared R.sense R.does) R.book self.old) (shown_of
+            (kinds_of ⟦<R::Value as SceneValue<R::Data>>⟧.places R.part_of R.columns) R.part_of R.global_of
+            (placed_as (λ placed. placed.position)
+            (λ placed. placed.system) R.kind_of R.config_of R.declared R.sense R.does) R.book self.new)) }
         ensures err { OnErr result (Stays (R.book (rules_of self.old))
-            (shown_of R.part_of R.global_of R.kind_of R.config_of R.book self.old)
-            (shown_of R.part_of R.global_of R.kind_of R.config_of R.book self.new)) }
+            (shown_of (kinds_of ⟦<R::Value as SceneValue<R::Data>>⟧.places R.part_of R.columns) R.part_of R.global_of
+            (placed_as (λ placed. placed.position)
+            (λ placed. placed.system) R.kind_of R.config_of R.declared R.sense R.does) R.book self.old) (shown_of
+            (kinds_of ⟦<R::Value as SceneValue<R::Data>>⟧.places R.part_of R.columns) R.part_of R.global_of
+            (placed_as (λ placed. placed.position)
+            (λ placed. placed.system) R.kind_of R.config_of R.declared R.sense R.does) R.book self.new)) }
     {
         if self.report.refused.is_some() {
             return Err(Refused);
         }
-        prove!(self.report.frames < self.loaded.frames);
+        prove!(self.report.frames < self.asked);
         let frame = self.report.frames + 1;
         let told = Skips::from_vec(Vec::new(rt.alloc()));
         let mut skips = mem::replace(&mut self.report.skips, told).into_vec();
-        match run_loaded(
+        let given = commands_for(self.commands.as_slice(), frame);
+        match advance(
             rt,
             &self.rules,
+            &mut self.dispatcher,
+            &mut self.world,
+            self.places.as_slice(),
             self.limit,
             frame,
-            &mut self.loaded,
+            given,
             &mut skips,
+            &mut self.kept,
         ) {
             Ok(()) => {
                 self.report.skips = Skips::from_vec(skips);
@@ -129,63 +306,5 @@ impl<R: Rules + Drop> Scene<R> {
                 Err(Refused)
             }
         }
-    }
-
-    /// The frames asked for and not yet accepted.
-    pub fn left(&self) -> u32
-        ensures { result ≡ frames_left (shown_of R.part_of R.global_of R.kind_of R.config_of R.book self.now) }
-    {
-        self.loaded.frames.saturating_sub(self.report.frames)
-    }
-
-    /// The text of the last accepted scene, which reads as the JSON of the scene and as no other. Refused for memory alone.
-    pub fn snapshot(&self, alloc: Global) -> Result<Vec<u8>, AllocError>
-        ensures text { IfOk result (λ text. text.items ≡ text_of (R.book (rules_of self.now))
-            (shown_of R.part_of R.global_of R.kind_of R.config_of R.book self.now).scene) }
-        ensures reads { IfOk result (λ text. ReadsBack text.items (scene_json (R.book (rules_of self.now))
-            (shown_of R.part_of R.global_of R.kind_of R.config_of R.book self.now).scene)) }
-    {
-        scene_text(
-            alloc,
-            &self.rules,
-            self.loaded.next,
-            self.loaded.ids.as_slice(),
-            &self.loaded.columns,
-        )
-    }
-
-    /// The next id of the last accepted scene.
-    pub fn next(&self) -> u64
-        ensures { result ≡ (shown_of R.part_of R.global_of R.kind_of R.config_of R.book self.now).scene.next }
-    {
-        self.loaded.next
-    }
-
-    /// How far the scene has come: accepted frames, skipped commands, and the refusal if there is one.
-    pub fn report(&self) -> &Report
-        ensures { result.now ≡ (shown_of R.part_of R.global_of R.kind_of R.config_of R.book self.now).report }
-    {
-        &self.report
-    }
-
-    /// The rules and the report, for whom the scene has ended.
-    pub fn into_parts(self) -> (R, Report)
-        ensures rules { result.0 ≡ rules_of self }
-        ensures report { result.1 ≡ (shown_of R.part_of R.global_of R.kind_of R.config_of R.book self).report }
-    {
-        let Scene {
-            rules: kept,
-            report: told,
-            ..
-        } = self;
-        (kept, told)
-    }
-
-    /// The report, for whom the scene has ended.
-    pub fn into_report(self) -> Report
-        ensures { result ≡ (shown_of R.part_of R.global_of R.kind_of R.config_of R.book self).report }
-    {
-        let Scene { report: told, .. } = self;
-        told
     }
 }

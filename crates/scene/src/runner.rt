@@ -1,42 +1,35 @@
 //! A whole run, from the bytes of a document to the bytes of the scene that it reaches.
-ghost use Rattle.std.specs.Prelude.{◌≡◌, ◌<◌, ◌≤◌, ◌⊎◌, ℕ, List, length, take, false, Err, IfOk, IfErr, OnOk, IfSome, MatchResult};
-ghost use Rattle.std.specs.Io.KnownBytes.{Appends};
-ghost use Rattle.scene_devices.specs.Faults.{HasFailed};
-ghost use Rattle.scene_devices.specs.Reading.{GivesAtLeast};
-ghost use Rattle.scene_rules.specs.declared.refusals.DocRefusal.{DocRefusal};
-ghost use Rattle.scene_rules.specs.declared.refusals.Report.{Report};
-ghost use Rattle.scene_document.specs.Documents.{document_of};
-ghost use Rattle.scene.specs.Turns.{shown_of, rules_of, IsReady, RunsOut, nothing_yet};
+ghost use Rattle.std.specs.Prelude.{◌≡◌, MatchResult};
 ghost use Rattle.scene.specs.Limits.{AreLimits};
+ghost use Rattle.scene.specs.Turns.{RunsOut, nothing_yet};
 ghost use Rattle.scene.specs.Outcomes.{IsRunOf, IsNoDocument, RunsDocument, reading, writing, bounds_of, full_bounds};
+ghost use Rattle.scene_turns.specs.Places.{kinds_of};
+ghost use Rattle.scene_turns.specs.Turns.{placed_as};
+ghost use Rattle.scene_engine.specs.Running.{shown_of, rules_of, IsReady};
 
 use crate::frame::Scene;
+use scene::RunError;
 use scene_devices::{CountedRead, CountedWrite, ReadFailure, read_document, write_text};
 use scene_document::{Limits, LoadError};
-use scene_rules::{DocRefusal, Report, Rules};
-
-/// Why a run gave no report.
-#[derive(Clone, Copy, Debug, PartialEq, Eq)]
-pub enum RunError {
-    /// The document is no scene, and this is the least refusal that stands. Nothing was written.
-    Document(DocRefusal),
-    /// The reader failed, or gave bytes 4,294,967,295 times without its end. Nothing was written.
-    Read,
-    /// The writer failed, or took nothing, after so many bytes of the text had gone out.
-    Write(u64),
-    /// Memory was wanting. Nothing was written.
-    Memory,
-}
+use scene_rules::Report;
+use scene_turns::{Rules, SceneValue};
+use std::sync::Wait;
+use std::thread::Threads;
 
 /// The report and the text of the run of the document in these bytes.
 ///
 /// Errors: `Document`, with the least refusal that stands; `Memory`.
-fn play<R: Rules + Drop, H: AllocGlobal>(
+fn play<R: Rules + Drop + Send + Sync, H: AllocGlobal + Threads + Wait + Sync>(
     rt: &H,
     rules: R,
     limits: Limits,
     bytes: &[u8],
 ) -> Result<(Report, Vec<u8>), LoadError>
+where
+    R::Value: Drop + Send + Sync,
+    R::Data: Send + Sync,
+    R::Global: Send + Sync,
+    R::System: Send + Sync,
     requires { AreLimits limits }
     ensures { MatchResult result
         (λ played. IsRunOf (R.book rules) (bounds_of limits) bytes.now played.0 played.1.items)
@@ -57,14 +50,36 @@ fn play<R: Rules + Drop, H: AllocGlobal>(
 /// Runs the frames of a scene to their end: all that were asked for, or up to the first that is refused.
 ///
 /// Asked for is that none has run yet.
-pub fn run_to_end<R: Rules + Drop, H: AllocGlobal>(rt: &H, scene: &mut Scene<R>)
-    requires ready { IsReady R.part_of R.global_of R.kind_of R.config_of R.book scene.old }
-    requires start { (shown_of R.part_of R.global_of R.kind_of R.config_of R.book scene.old).report ≡ nothing_yet }
+pub fn run_to_end<R: Rules + Drop + Send + Sync, H: AllocGlobal + Threads + Wait + Sync>(
+    rt: &H,
+    scene: &mut Scene<R>,
+)
+where
+    R::Value: Drop + Send + Sync,
+    R::Data: Send + Sync,
+    R::Global: Send + Sync,
+    R::System: Send + Sync,
+    requires ready { IsReady (kinds_of ⟦<R::Value as SceneValue<R::Data>>⟧.places R.part_of R.columns) R.part_of
+        R.global_of
+        (placed_as (λ placed. placed.position)
+        (λ placed. placed.system) R.kind_of R.config_of R.declared R.sense R.does) R.book scene.old }
+    requires start { (shown_of (kinds_of ⟦<R::Value as SceneValue<R::Data>>⟧.places R.part_of R.columns) R.part_of
+        R.global_of
+        (placed_as (λ placed. placed.position)
+        (λ placed. placed.system) R.kind_of R.config_of R.declared R.sense R.does) R.book scene.old).report ≡
+        nothing_yet }
     ensures rules { rules_of scene.new ≡ rules_of scene.old }
-    ensures ready { IsReady R.part_of R.global_of R.kind_of R.config_of R.book scene.new }
+    ensures ready { IsReady (kinds_of ⟦<R::Value as SceneValue<R::Data>>⟧.places R.part_of R.columns) R.part_of
+        R.global_of
+        (placed_as (λ placed. placed.position)
+        (λ placed. placed.system) R.kind_of R.config_of R.declared R.sense R.does) R.book scene.new }
     ensures end { RunsOut (R.book (rules_of scene.old))
-        (shown_of R.part_of R.global_of R.kind_of R.config_of R.book scene.old)
-        (shown_of R.part_of R.global_of R.kind_of R.config_of R.book scene.new) }
+        (shown_of (kinds_of ⟦<R::Value as SceneValue<R::Data>>⟧.places R.part_of R.columns) R.part_of R.global_of
+        (placed_as (λ placed. placed.position)
+        (λ placed. placed.system) R.kind_of R.config_of R.declared R.sense R.does) R.book scene.old) (shown_of
+        (kinds_of ⟦<R::Value as SceneValue<R::Data>>⟧.places R.part_of R.columns) R.part_of R.global_of
+        (placed_as (λ placed. placed.position)
+        (λ placed. placed.system) R.kind_of R.config_of R.declared R.sense R.does) R.book scene.new) }
 {
     while scene.left() > 0 {
         match scene.run_frame(rt) {
@@ -76,23 +91,29 @@ pub fn run_to_end<R: Rules + Drop, H: AllocGlobal>(rt: &H, scene: &mut Scene<R>)
 
 /// Runs the document that a reader gives, and writes the text of the scene that it reaches.
 ///
-/// The reader is read to its end. Where its bytes are no scene, the run is refused by name and nothing is written. Else
-/// all frames asked for are run, or those up to the first that is refused; the text of the scene there is written, by as
-/// many writes as that takes, and flushed; and the report tells the accepted frames, the skipped commands and the refusal.
+/// The reader is read to its end. Where its bytes are no scene, the run is refused by name and nothing is written.
+/// Else all frames asked for are run in a world of entities, with the document's number of workers and kind of store,
+/// or those up to the first that is refused; the text of the scene there is written, by as many writes as that takes,
+/// and flushed; and the report tells the accepted frames, the skipped commands and the refusal.
 ///
-/// Errors: `Document`, with the least refusal that stands; `Read`; `Memory`; with each of these nothing was written. `Write`, with the number of bytes of the text that went out, just its first ones.
+/// Errors: `Document`, with the least refusal that stands; `Read`; `Memory`; with each of these nothing was written.
+/// `Write`, with the number of bytes of the text that went out, just its first ones.
 ///
-/// No failure of a device is passed over: where there is a report none of them failed in the call, and the reader fails only where
-/// `Read` is told. With a report, `Document` and `Write` the reader is left at its end.
+/// No failure of a device is passed over: where there is a report none of them failed in the call, and the reader
+/// fails only where `Read` is told. With a report, `Document` and `Write` the reader is left at its end.
 ///
 /// The limits are at most the greatest ones, and `generation` is at least 1.
-pub fn run_with<R: Rules + Drop, H: AllocGlobal, I: CountedRead, O: CountedWrite>(
-    rt: &H,
-    rules: R,
-    limits: Limits,
-    reader: &mut I,
-    writer: &mut O,
-) -> Result<Report, RunError>
+pub fn run_with<
+    R: Rules + Drop + Send + Sync,
+    H: AllocGlobal + Threads + Wait + Sync,
+    I: CountedRead,
+    O: CountedWrite,
+>(rt: &H, rules: R, limits: Limits, reader: &mut I, writer: &mut O) -> Result<Report, RunError>
+where
+    R::Value: Drop + Send + Sync,
+    R::Data: Send + Sync,
+    R::Global: Send + Sync,
+    R::System: Send + Sync,
     requires { AreLimits limits }
     ensures { RunsDocument (R.book rules) (bounds_of limits) result
         (reading I.remaining I.fault_count reader.old reader.new)
@@ -114,14 +135,19 @@ pub fn run_with<R: Rules + Drop, H: AllocGlobal, I: CountedRead, O: CountedWrite
     }
 }
 
-/// Runs the document that a reader gives under the greatest limits, and writes the text of the scene that it reaches, as
-/// `run_with` does.
-pub fn run<R: Rules + Drop, H: AllocGlobal, I: CountedRead, O: CountedWrite>(
-    rt: &H,
-    rules: R,
-    reader: &mut I,
-    writer: &mut O,
-) -> Result<Report, RunError>
+/// Runs the document that a reader gives under the greatest limits, and writes the text of the scene that it reaches,
+/// as `run_with` does.
+pub fn run<
+    R: Rules + Drop + Send + Sync,
+    H: AllocGlobal + Threads + Wait + Sync,
+    I: CountedRead,
+    O: CountedWrite,
+>(rt: &H, rules: R, reader: &mut I, writer: &mut O) -> Result<Report, RunError>
+where
+    R::Value: Drop + Send + Sync,
+    R::Data: Send + Sync,
+    R::Global: Send + Sync,
+    R::System: Send + Sync,
     ensures { RunsDocument (R.book rules) full_bounds result
         (reading I.remaining I.fault_count reader.old reader.new)
         (writing O.contents O.fault_count O.flushed writer.old writer.new) }

@@ -1,9 +1,0 @@
-pub mod LivingLemmas
-pub mod CutLemmas
-pub mod ColumnLemmas
-pub mod OverLemmas
-pub mod ChangeLemmas
-pub mod GoneLemmas
-pub mod FrameLemmas
-pub mod CommitLemmas
-pub mod FinalLemmas
