@@ -1,4 +1,4 @@
-pub mod EngineLemmas
 pub mod TurnLemmas
 pub mod OutcomeLemmas
+pub mod PlaceLemmas
 pub mod CallerLemmas

@@ -29,7 +29,7 @@ use Rattle.scene_acts.specs.Acts.{seen_of}
 use Rattle.scene_frames.specs.Waiting.{AreTheirPlaces, NoneWaits}
 use Rattle.scene.specs.Runs.{CanBegin}
 use Rattle.scene.specs.Turns.{Shown, opening}
-use Rattle.scene_engine.specs.declared.frame.Scene.{Scene}
+use Rattle.scene.specs.declared.frame.Scene.{Scene}
 
 -- the frames of a scene: its systems in the order in which they take their turns, and the commands for each frame by its number from 1
 abbrev pub course_of : {D : Type 0} → (D → Part) → List PlainSystem → List (Vec (Command D)) → ℕ → PlainFrame

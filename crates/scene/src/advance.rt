@@ -7,7 +7,7 @@ ghost use Rattle.scene_rules.specs.Queues.{plain_commands};
 ghost use Rattle.scene_turns.specs.Places.{kinds_of};
 ghost use Rattle.scene_turns.specs.Turns.{placed_as};
 ghost use Rattle.scene_systems.specs.Orders.{turn_order};
-ghost use Rattle.scene_engine.specs.Running.{Stands, listed_scene};
+ghost use Rattle.scene.specs.Running.{Stands, listed_scene};
 
 use scene_frames::laws::a_refusal_in_a_world_is_one_of_the_scene;
 use scene_frames::run_frame;

@@ -67,7 +67,7 @@ where
     ghost use Rattle.scene_draft.specs.Texts.{scene_json, text_of, ReadsBack};
     ghost use Rattle.scene_turns.specs.Places.{kinds_of};
     ghost use Rattle.scene_turns.specs.Turns.{placed_as};
-    ghost use Rattle.scene_engine.specs.Running.{shown_of, rules_of, IsReady, IsOpened, IsOpenedFrom};
+    ghost use Rattle.scene.specs.Running.{shown_of, rules_of, IsReady, IsOpened, IsOpenedFrom};
 
     /// The scene of the document in these bytes, before any frame.
     ///
@@ -234,7 +234,7 @@ where
     ghost use Rattle.scene.specs.Turns.{Advances, Stays, frames_left};
     ghost use Rattle.scene_turns.specs.Places.{kinds_of};
     ghost use Rattle.scene_turns.specs.Turns.{placed_as};
-    ghost use Rattle.scene_engine.specs.Running.{shown_of, rules_of, IsReady};
+    ghost use Rattle.scene.specs.Running.{shown_of, rules_of, IsReady};
 
     /// Runs the next frame: its systems on the dispatcher, then its commands.
     ///

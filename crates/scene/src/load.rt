@@ -13,7 +13,7 @@ ghost use Rattle.scene_turns.specs.Turns.{placed_as, IsOfBook};
 ghost use Rattle.scene_systems.specs.Orders.{turn_order};
 ghost use Rattle.scene_frames.specs.Waiting.{NoneWaits};
 ghost use Rattle.scene.specs.Limits.{AreLimits};
-ghost use Rattle.scene_engine.specs.Running.{IsUnrefused, course_of, listed_scene};
+ghost use Rattle.scene.specs.Running.{IsUnrefused, course_of, listed_scene};
 
 use crate::advance::KeptScene;
 use scene_document::{Limits, commands_of};

@@ -5,7 +5,7 @@ ghost use Rattle.scene.specs.Turns.{RunsOut, nothing_yet};
 ghost use Rattle.scene.specs.Outcomes.{IsRunOf, IsNoDocument, RunsDocument, reading, writing, bounds_of, full_bounds};
 ghost use Rattle.scene_turns.specs.Places.{kinds_of};
 ghost use Rattle.scene_turns.specs.Turns.{placed_as};
-ghost use Rattle.scene_engine.specs.Running.{shown_of, rules_of, IsReady};
+ghost use Rattle.scene.specs.Running.{shown_of, rules_of, IsReady};
 
 use crate::frame::Scene;
 use scene::RunError;

@@ -1,7 +1,7 @@
 //! Entities that die in a world, with their parts and markers.
 ghost use Rattle.std.specs.Prelude.{◌≡◌, true, IsTrue, IfOk, OnOk};
 ghost use Rattle.scene_rules.specs.Rulebook.{kill};
-ghost use Rattle.scene_rules.specs.Lent.{texts};
+ghost use Rattle.scene_rules.specs.Declaring.{texts};
 ghost use Rattle.scene_turns.specs.Places.{kinds_of};
 ghost use Rattle.scene_acts.specs.Acts.{seen_of, MayAct, Acts, StaysElsewhere};
 ghost use Rattle.scene_acts.specs.Deaths.{DropsParts, Unmarks, LetsDie};

@@ -2,7 +2,7 @@
 ghost use Rattle.std.specs.Prelude.{◌≡◌, IfOk, option_map};
 ghost use Rattle.std.specs.List.{list_any};
 ghost use Rattle.scene_rules.specs.Commands.{first_gone, holds_gone};
-ghost use Rattle.scene_rules.specs.Lent.{texts};
+ghost use Rattle.scene_rules.specs.Declaring.{texts};
 ghost use Rattle.scene_world.specs.Rolls.{ref_to};
 ghost use Rattle.scene_world.specs.Standing.{column_of, plain_of, roll_of};
 ghost use Rattle.scene_world.specs.Stored.{part_under};

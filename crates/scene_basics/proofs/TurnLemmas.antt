@@ -8,7 +8,7 @@ use Rattle.std.proofs.lemmas.Slice.Eq.{bytes_eq-Decides}
 use Rattle.std.proofs.lemmas.Bool.Decides.{Decides-eqb}
 use Rattle.scene_rules.specs.Scenes.{lives}
 use Rattle.scene_rules.specs.declared.view.PlainView.{PlainView}
-use Rattle.scene_rules.specs.Lent.{shown, held, held_global, SameLoan}
+use Rattle.scene_rules.specs.Declaring.{shown, held, held_global, SameLoan}
 use Rattle.scene_basics.specs.Numbers.{part_of, json_of}
 use Rattle.scene_basics.specs.Gains.{Gains, sum_at, fragment_of}
 use Rattle.scene_basics.specs.declared.data.Datum.{Datum}

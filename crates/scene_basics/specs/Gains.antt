@@ -5,7 +5,7 @@ use Rattle.std.specs.Str.{bytes_eq}
 use Rattle.scene_rules.specs.Parts.{Name}
 use Rattle.scene_rules.specs.Rulebook.{Fragment, Outcome, leaves, refuses, fills}
 use Rattle.scene_rules.specs.Scenes.{lives}
-use Rattle.scene_rules.specs.Lent.{lent}
+use Rattle.scene_rules.specs.Declaring.{lent}
 use Rattle.scene_rules.specs.declared.view.PlainView.{PlainView}
 use Rattle.scene_basics.specs.declared.data.Datum.{Datum}
 use Rattle.scene_basics.specs.declared.data.Gain.{Gain}

@@ -7,7 +7,7 @@ use Rattle.scene_rules.specs.declared.rules.Stop.TheVariants.{Refused, Memory, F
 use Rattle.std.specs.Str.{bytes_eq}
 use Rattle.scene_rules.specs.declared.view.PlainView.{PlainView}
 use Rattle.scene_rules.specs.Parts.{Name}
-use Rattle.scene_rules.specs.Lent.{held, held_global}
+use Rattle.scene_rules.specs.Declaring.{held, held_global}
 use Rattle.scene_rules.specs.Rulebook.{Access, declares}
 use Rattle.scene_rules.specs.Scenes.{lives}
 use Rattle.scene_basics.specs.declared.data.Datum.{Datum}

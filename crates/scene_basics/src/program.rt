@@ -44,7 +44,7 @@ pub fn world_program<
         (writing O.contents O.fault_count O.flushed out.old out.new)
         (E.contents err.old) (E.contents err.new) (E.fault_count err.old) (E.fault_count err.new) }
 {
-    let outcome = scene_engine::run(rt, Basics, reader, out);
+    let outcome = scene::run(rt, Basics, reader, out);
     write_line(err, &outcome);
     status(&outcome)
 }

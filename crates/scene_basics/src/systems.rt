@@ -5,7 +5,7 @@ ghost use Rattle.scene_rules.specs.Parts.{is_among, place_of};
 ghost use Rattle.scene_rules.specs.Rulebook.{declares, declares_global, leaves};
 ghost use Rattle.scene_rules.specs.Scenes.{lives};
 ghost use Rattle.scene_rules.specs.Laws.{IsStopOf};
-ghost use Rattle.scene_rules.specs.Lent.{declared_by, kinds, shown, SameLoan};
+ghost use Rattle.scene_rules.specs.Declaring.{declared_by, kinds, shown, SameLoan};
 ghost use Rattle.scene_rules.specs.Queues.{waiting, plain_command, plain_commands};
 ghost use Rattle.scene_basics.specs.Numbers.{part_of};
 ghost use Rattle.std.specs.Option.{option_to_list};

@@ -36,7 +36,7 @@ use Rattle.scene_rules.specs.declared.command.Command.{Command}
 use Rattle.scene_rules.specs.Parts.{Json, Name, Ref, living, gone, Part, place_of, name_at}
 use Rattle.scene_rules.specs.Rulebook.{Book, Facts}
 use Rattle.scene_rules.specs.Rulebook as plain
-use Rattle.scene_rules.specs.Lent.{access_of}
+use Rattle.scene_rules.specs.Declaring.{access_of}
 use Rattle.scene_rules.specs.Queues.{plain_commands}
 use Rattle.scene_rules.specs.Scenes.{PlainScene, PlainSystem, lives, RefLives, RefsLive, PartsAdmitted, GlobalsReadable}
 use Rattle.scene_rules.proofs.CallerLemmas.{same_scene}
@@ -55,10 +55,9 @@ use Rattle.scene_rules.specs.Lending.{scene_in, system_in, IsOfRules}
 use Rattle.scene_document.specs.Loading.{order_in, commands_found, commands_at, frames_in, IsLoaded}
 use Rattle.scene_document.specs.Columns.{stored, first_at, datum_among}
 use Rattle.scene_document.specs.Placing.{placed_at, placed_if, locals_from, slots_from, slot_at}
-use Rattle.scene_document.proofs.PlaceLemmas.{or_false, placed_within, part_among-placed, part_among-not_placed, global_among-placed, global_among-not_placed, ids-plain, datum_among-unlisted}
+use Rattle.scene_document.proofs.PlaceLemmas.{or_false, ids-plain}
 use Rattle.scene_document.proofs.RefusalLemmas.{next-plain}
-use Rattle.scene_document.proofs.OrderLemmas.{times, order-times}
-use Rattle.scene_document.proofs.PlacingLemmas.{none_before, apart_above, staged_system, map-filter_map, filter_map_where}
+use Rattle.scene_document.proofs.OrderLemmas.{times}
 
 -- a fact holds of what a document gives, where it is known
 abbrev Holds : (Name → Part → Type 0) → DraftPart → Type 0
@@ -171,157 +170,10 @@ readable-loaded book (Some global ∷ globals) h name value e =
     readable_step book name (bytes_eq name global.0) global (global_among globals name) value refl (All-head (IsReadable book) (Some global) globals h) (readable-loaded book globals (All-tail (IsReadable book) (Some global) globals h) name value) e
 
 module _ {D G : Type 0} (part_of : D → Part) (global_of : G → Json) (book : Book) (columns : Columns D G) where
-  -- the part of an id that columns hold
-  pub part-held : Ascend book.part_names → (entities : List (EntityDraft D)) → All (λ entity. All (IsPlaced (length book.part_names)) entity.parts.items) entities → has_double (map (λ entity. entity.id) entities) ≡ false
-      → ((place id : ℕ) → place < length book.part_names → stored columns.parts.items place id ≡ datum_among entities place id)
-      → (id : ℕ) (kind : Name) (found : Option ℕ) → place_of kind book.part_names ≡ found
-      → part_among (map (plain_entity part_of book.part_names) entities) id kind ≡ option_map part_of (in_column (option_and_then (λ place. slice_get columns.parts.items place) found) id)
-  part-held ascend entities placed distinct held id kind None e = part_among-not_placed part_of book.part_names kind id e entities placed
-  part-held ascend entities placed distinct held id kind (Some place) e =
-      part_among-placed part_of book.part_names ascend kind place id e entities placed distinct
-      ∙ ap (option_map part_of) (sym (held place id (placed_within book.part_names kind place e)))
-
-  -- the value of a global that columns hold
-  pub global-held : Ascend book.global_names → (globals : List (Option (ℕ × G))) → All (IsPlaced (length book.global_names)) globals
-      → ((place : ℕ) → place < length book.global_names → filled (slice_get columns.globals.items place) ≡ first_at globals place None)
-      → (name : Name) (found : Option ℕ) → place_of name book.global_names ≡ found
-      → global_among (map (named global_of book.global_names) globals) name ≡ option_map global_of (filled (option_and_then (λ place. slice_get columns.globals.items place) found))
-  global-held ascend globals placed held name None e = global_among-not_placed global_of book.global_names name e globals placed
-  global-held ascend globals placed held name (Some place) e =
-      global_among-placed global_of book.global_names name ascend place e globals placed
-      ∙ ap (option_map global_of) (sym (held place (placed_within book.global_names name place e)))
 
 -- ---- systems
 
 module _ {S : Type 0} (kind_of : S → Name) (config_of : S → Json) (book : Book) where
-  -- a system at its place in plain terms
-  placed-plain : (place : ℕ) (draft : SystemDraft S) (made : MadeDraft S) → IsMadeOf kind_of config_of book draft.kind.now (config_seen (seen draft.config)) made
-      → record { position = place; kind = draft.kind.now; config = config_seen (seen draft.config); access = access_of made.accessor } ≡ system_in kind_of config_of (placed_at place made)
-  placed-plain place draft made h =
-      ap (λ kind. record { position = place; kind = kind; config = config_seen (seen draft.config); access = access_of made.accessor }) (sym h.of_kind)
-      ∙ ap (λ config. record { position = place; kind = kind_of made.system; config = config; access = access_of made.accessor }) (sym h.with_config)
-
-  local_step : (place : ℕ) (draft : SystemDraft S) (b : Bool) (made : Option (MadeDraft S)) → IsMadeAs kind_of config_of book draft.kind.now (config_seen (seen draft.config)) made → (rest : List PlainSystem) (others : List (Placed S)) → rest ≡ map (system_in kind_of config_of) others
-      → cond b (with_facts place (plain_system draft) (option_map facts_of made)) [] ++ rest ≡ map (system_in kind_of config_of) (cons_option (placed_if b place made) others)
-  local_step place draft true None h rest others e = e
-  local_step place draft true (Some made) h rest others e = ap (λ one. one ∷ rest) (placed-plain place draft made h) ∙ ap (λ list. system_in kind_of config_of (placed_at place made) ∷ list) e
-  local_step place draft false None h rest others e = e
-  local_step place draft false (Some made) h rest others e = e
-
-  -- the local systems in plain terms
-  locals-plain : (place : ℕ) (entries : List (EntryDraft S)) → All (IsOfBook kind_of config_of book) entries → systems_at (λ one. one.local) place (map plain_draft entries) ≡ map (system_in kind_of config_of) (locals_from place entries)
-  locals-plain place [] h = refl
-  locals-plain place (entry.Barrier ∷ entries) h = locals-plain (suc place) entries (All-tail (IsOfBook kind_of config_of book) entry.Barrier entries h)
-  locals-plain place (entry.System draft ∷ entries) h =
-      local_step place draft draft.local draft.made (All-head (IsOfBook kind_of config_of book) (entry.System draft) entries h)
-      (systems_at (λ one. one.local) (suc place) (map plain_draft entries)) (locals_from (suc place) entries)
-      (locals-plain (suc place) entries (All-tail (IsOfBook kind_of config_of book) (entry.System draft) entries h))
-
-  -- a system behind one at an earlier place
-  find_later : (place number : ℕ) (draft : SystemDraft S) (made : Option (MadeDraft S)) (rest : List PlainSystem) → place < number → find (λ one. eqb one.position number) (with_facts place (plain_system draft) (option_map facts_of made) ++ rest) ≡ find (λ one. eqb one.position number) rest
-  find_later place number draft None rest h = refl
-  find_later place number draft (Some made) rest h = rw (apart_above place number h) refl
-
-  slot_here : (all : List DraftEntry) (place number : ℕ) (draft : SystemDraft S) (local : Bool) (made : Option (MadeDraft S)) (later : List (Added Resource)) (rest : List PlainSystem) → number ≡ place → IsMadeAs kind_of config_of book draft.kind.now (config_seen (seen draft.config)) made
-      → times number (systems_added later) ≡ 0 → 1 ≤ times number (systems_added (staged_system all place (plain_system draft) local (option_map facts_of made) ++ later))
-      → option_map (system_in kind_of config_of) (cond local None (placed_if true place made)) ≡ find (λ one. eqb one.position number) (with_facts place (plain_system draft) (option_map facts_of made) ++ rest)
-  slot_here all place number draft local None later rest same h none some = absurd (omega (arith, none, some))
-  slot_here all place number draft true (Some made) later rest same h none some = absurd (omega (arith, none, some))
-  slot_here all place number draft false (Some made) later rest same h none some =
-      rw (eq-eqb place number (sym same)) (ap (λ one. Some one) (sym (placed-plain place draft made h)))
-
-  slot_later : (all : List DraftEntry) (place number : ℕ) (draft : SystemDraft S) (local : Bool) (facts : Option Facts) (later : List (Added Resource)) → place < number
-      → 1 ≤ times number (systems_added (staged_system all place (plain_system draft) local facts ++ later)) → 1 ≤ times number (systems_added later)
-  slot_later all place number draft local None later h some = some
-  slot_later all place number draft true (Some facts) later h some = some
-  slot_later all place number draft false (Some facts) later h some = subst (λ b. 1 ≤ cond b (suc (times number (systems_added later))) (times number (systems_added later))) (apart_above place number h) some
-
-  -- the slot of a staged system holds that system
-  slots-plain : (all : List DraftEntry) (place index number : ℕ) (entries : List (EntryDraft S)) → number ≡ place + index → All (IsOfBook kind_of config_of book) entries → 1 ≤ times number (systems_added (staged all place (map plain_draft entries)))
-      → option_map (system_in kind_of config_of) (filled (slice_get (slots_from place entries) index)) ≡ find (λ one. eqb one.position number) (systems_at (λ one. true) place (map plain_draft entries))
-  slots-plain all place index number [] e h some = absurd (omega (arith, some))
-  slots-plain all place zero number (entry.Barrier ∷ entries) e h some =
-      let none = none_before all (suc place) (map plain_draft entries) number (omega (arith, e)) in absurd (omega (arith, none, some))
-  slots-plain all place (suc index) number (entry.Barrier ∷ entries) e h some = slots-plain all (suc place) index number entries (omega (arith, e)) (All-tail (IsOfBook kind_of config_of book) entry.Barrier entries h) some
-  slots-plain all place zero number (entry.System draft ∷ entries) e h some =
-      slot_here all place number draft draft.local draft.made (staged all (suc place) (map plain_draft entries)) (systems_at (λ one. true) (suc place) (map plain_draft entries)) (omega (arith, e))
-      (All-head (IsOfBook kind_of config_of book) (entry.System draft) entries h) (none_before all (suc place) (map plain_draft entries) number (omega (arith, e))) some
-  slots-plain all place (suc index) number (entry.System draft ∷ entries) e h some =
-      slots-plain all (suc place) index number entries (omega (arith, e)) (All-tail (IsOfBook kind_of config_of book) (entry.System draft) entries h)
-      (slot_later all place number draft draft.local (option_map facts_of draft.made) (staged all (suc place) (map plain_draft entries)) (omega (arith, e)) some)
-      ∙ sym (find_later place number draft draft.made (systems_at (λ one. true) (suc place) (map plain_draft entries)) (omega (arith, e)))
-
-  slot-plain : (all : List DraftEntry) (entries : List (EntryDraft S)) (number : ℕ) → All (IsOfBook kind_of config_of book) entries → 1 ≤ times number (systems_added (staged all 1 (map plain_draft entries)))
-      → option_map (system_in kind_of config_of) (slot_at (slots_from 1 entries) number) ≡ find (λ one. eqb one.position number) (systems_at (λ one. true) 1 (map plain_draft entries))
-  slot-plain all entries zero h some = let none = none_before all 1 (map plain_draft entries) zero (omega arith) in absurd (omega (arith, none, some))
-  slot-plain all entries (suc index) h some = slots-plain all 1 index (suc index) entries (omega arith) h some
-
-  -- all systems in the order in which they run
-  pub order-plain : (entries : List (EntryDraft S)) (systems : List (Placed S)) → All (IsOfBook kind_of config_of book) entries
-      → systems ≡ filter_map (slot_at (slots_from 1 entries)) (order same_resource (staged (map plain_draft entries) 1 (map plain_draft entries))) ++ locals_from 1 entries
-      → filter_map (λ place. find (λ one. eqb one.position place) (systems_at (λ one. true) 1 (map plain_draft entries))) (order same_resource (staged (map plain_draft entries) 1 (map plain_draft entries))) ++ systems_at (λ one. one.local) 1 (map plain_draft entries)
-      ≡ map (system_in kind_of config_of) systems
-  order-plain entries systems h is =
-      let all = map plain_draft entries in
-      let numbers : List ℕ = order same_resource (staged all 1 all) in
-      sym (ap (map (system_in kind_of config_of)) is
-      ∙ map-append (system_in kind_of config_of) (filter_map (slot_at (slots_from 1 entries)) numbers) (locals_from 1 entries)
-      ∙ ap (λ list. list ++ map (system_in kind_of config_of) (locals_from 1 entries))
-      (map-filter_map (system_in kind_of config_of) (slot_at (slots_from 1 entries)) numbers
-      ∙ filter_map_where (λ place. option_map (system_in kind_of config_of) (slot_at (slots_from 1 entries) place)) (λ place. find (λ one. eqb one.position place) (systems_at (λ one. true) 1 all)) numbers
-      (λ number some. slot-plain all entries number h (let more = order-times same_resource number (staged all 1 all) in omega (arith, more, some))))
-      ∙ ap (λ list. filter_map (λ place. find (λ one. eqb one.position place) (systems_at (λ one. true) 1 all)) numbers ++ list) (sym (locals-plain 1 entries h)))
-
-  -- a system that runs is the rules'
-  abbrev IsRight : Option (Placed S) → Type 0
-  IsRight None = Unit {0}
-  IsRight (Some placed) = IsOfRules kind_of config_of book placed
-
-  right_made : (place : ℕ) (draft : SystemDraft S) (made : MadeDraft S) → IsMadeOf kind_of config_of book draft.kind.now (config_seen (seen draft.config)) made → IsOfRules kind_of config_of book (placed_at place made)
-  right_made place draft made h = (facts_of made, rw (h.of_kind, h.with_config) h.known, refl)
-
-  right_if : (b : Bool) (place : ℕ) (draft : SystemDraft S) (made : Option (MadeDraft S)) → IsMadeAs kind_of config_of book draft.kind.now (config_seen (seen draft.config)) made → IsRight (placed_if b place made)
-  right_if b place draft None h = tt
-  right_if true place draft (Some made) h = right_made place draft made h
-  right_if false place draft (Some made) h = tt
-
-  right_staged : (local : Bool) (place : ℕ) (draft : SystemDraft S) (made : Option (MadeDraft S)) → IsMadeAs kind_of config_of book draft.kind.now (config_seen (seen draft.config)) made → IsRight (cond local None (placed_if true place made))
-  right_staged true place draft made h = tt
-  right_staged false place draft made h = right_if true place draft made h
-
-  slots-right : (place index : ℕ) (entries : List (EntryDraft S)) → All (IsOfBook kind_of config_of book) entries → IsRight (filled (slice_get (slots_from place entries) index))
-  slots-right place index [] h = tt
-  slots-right place zero (entry.Barrier ∷ entries) h = tt
-  slots-right place zero (entry.System draft ∷ entries) h = right_staged draft.local place draft draft.made (All-head (IsOfBook kind_of config_of book) (entry.System draft) entries h)
-  slots-right place (suc index) (one ∷ entries) h = slots-right (suc place) index entries (All-tail (IsOfBook kind_of config_of book) one entries h)
-
-  slot-right : (entries : List (EntryDraft S)) (number : ℕ) → All (IsOfBook kind_of config_of book) entries → IsRight (slot_at (slots_from 1 entries) number)
-  slot-right entries zero h = tt
-  slot-right entries (suc index) h = slots-right 1 index entries h
-
-  cons-right : (o : Option (Placed S)) (rest : List (Placed S)) → IsRight o → All (IsOfRules kind_of config_of book) rest → All (IsOfRules kind_of config_of book) (cons_option o rest)
-  cons-right None rest h all = all
-  cons-right (Some one) rest h all = All-cons (IsOfRules kind_of config_of book) one rest h all
-
-  locals-right : (place : ℕ) (entries : List (EntryDraft S)) → All (IsOfBook kind_of config_of book) entries → All (IsOfRules kind_of config_of book) (locals_from place entries)
-  locals-right place [] h = All-nil (IsOfRules kind_of config_of book)
-  locals-right place (entry.Barrier ∷ entries) h = locals-right (suc place) entries (All-tail (IsOfBook kind_of config_of book) entry.Barrier entries h)
-  locals-right place (entry.System draft ∷ entries) h =
-      cons-right (placed_if draft.local place draft.made) (locals_from (suc place) entries) (right_if draft.local place draft draft.made (All-head (IsOfBook kind_of config_of book) (entry.System draft) entries h))
-      (locals-right (suc place) entries (All-tail (IsOfBook kind_of config_of book) (entry.System draft) entries h))
-
-  picked-right : (entries : List (EntryDraft S)) (numbers : List ℕ) → All (IsOfBook kind_of config_of book) entries → All (IsOfRules kind_of config_of book) (filter_map (slot_at (slots_from 1 entries)) numbers)
-  picked-right entries [] h = All-nil (IsOfRules kind_of config_of book)
-  picked-right entries (number ∷ numbers) h = cons-right (slot_at (slots_from 1 entries) number) (filter_map (slot_at (slots_from 1 entries)) numbers) (slot-right entries number h) (picked-right entries numbers h)
-
-  -- all systems that run are the rules'
-  pub made-right : (entries : List (EntryDraft S)) (systems : List (Placed S)) → All (IsOfBook kind_of config_of book) entries
-      → systems ≡ filter_map (slot_at (slots_from 1 entries)) (order same_resource (staged (map plain_draft entries) 1 (map plain_draft entries))) ++ locals_from 1 entries
-      → All (IsOfRules kind_of config_of book) systems
-  made-right entries systems h is =
-      let numbers : List ℕ = order same_resource (staged (map plain_draft entries) 1 (map plain_draft entries)) in
-      All-same (IsOfRules kind_of config_of book) systems (filter_map (slot_at (slots_from 1 entries)) numbers ++ locals_from 1 entries) is
-      (All-append (IsOfRules kind_of config_of book) (filter_map (slot_at (slots_from 1 entries)) numbers) (locals_from 1 entries) (picked-right entries numbers h) (locals-right 1 entries h))
 
 -- ---- commands
 
@@ -406,86 +258,6 @@ ids-below id_of next (x ∷ xs) h =
   where
     ltb-below : (one other : ℕ) → ltb one other ≡ true → one < other
     ltb-below one other e = grind (arith, nat_tests)
-
--- columns hold nothing but at listed ids
-pub holds-listed : {D : Type 0} (part_of : D → Part) (names : List Name) (entities : List (EntityDraft D)) (columns : List (BTreeMap ℕ (Option D))) → ((place id : ℕ) → place < length columns → stored columns place id ≡ datum_among entities place id) → HoldsOnly (ascending (map (λ entity. entity.id) entities)) columns
-holds-listed part_of names entities columns held place id unlisted = ⊎_elim
-    (λ below. held place id below ∙ datum_among-unlisted part_of names place id entities (sym (lives-ascending id (map (λ entity. entity.id) entities)) ∙ unlisted))
-    (λ above. ap (λ column. in_column column id) (slice_get_past columns place above))
-    (cases_lt place (length columns))
-  where
-    slice_get_past : {X : Type 0} (xs : List X) (place : ℕ) → length xs ≤ place → slice_get xs place ≡ None
-    slice_get_past [] place h = refl
-    slice_get_past (x ∷ xs) zero h = absurd (omega arith)
-    slice_get_past (x ∷ xs) (suc place) h = slice_get_past xs place (omega arith)
-
--- what is made of a draft's parts is loaded of it
-module _ {D G S : Type 0} (part_of : D → Part) (global_of : G → Json) (kind_of : S → Name) (config_of : S → Json) (book : Book) (kinds : Ascend book.part_names) (names : Ascend book.global_names) where
-  frames-plain : (plain : Draft) (draft : DocumentDraft D G S) (loaded : Loaded D G S) → IsDraft part_of global_of kind_of config_of book plain draft
-      → loaded.systems.items ≡ filter_map (slot_at (slots_from 1 draft.entries.items)) (order same_resource (staged (map plain_draft draft.entries.items) 1 (map plain_draft draft.entries.items))) ++ locals_from 1 draft.entries.items
-      → map (λ list. plain_commands part_of list.items) loaded.commands.items ≡ map (λ list. filter_map command_of (plain_list part_of list)) draft.commands.items
-      → (number : ℕ) → frames_of plain number ≡ frames_in part_of kind_of config_of loaded number
-  frames-plain plain draft loaded is systems commands number =
-      let order_of : List DraftEntry → List PlainSystem = λ entries. filter_map (λ place. find (λ one. eqb one.position place) (systems_at (λ one. true) 1 entries)) (order same_resource (staged entries 1 entries)) ++ systems_at (λ one. one.local) 1 entries in
-      let ordered : staged_systems plain ++ local_systems plain ≡ order_in kind_of config_of loaded.systems.items = ap order_of is.entries ∙ order-plain kind_of config_of book draft.entries.items loaded.systems.items is.made systems in
-      ap (λ list. record { order = list; commands = commands_for plain number }) ordered
-      ∙ ap (λ list. record { order = order_in kind_of config_of loaded.systems.items; commands = list }) (asked number)
-    where
-      asked : (number : ℕ) → commands_for plain number ≡ commands_at part_of loaded.commands.items number
-      asked zero = refl
-      asked (suc place) = ap (λ all. commands_in (slice_get all place)) is.commands ∙ commands-plain part_of draft.commands.items loaded.commands.items commands place
-
-  lawful-loaded : (draft : DocumentDraft D G S) (loaded : Loaded D G S) → All (λ list. All (λ draft. IsLawfulDraft book (plain_asked part_of draft)) list.items) draft.commands.items
-      → map (λ list. plain_commands part_of list.items) loaded.commands.items ≡ map (λ list. filter_map command_of (plain_list part_of list)) draft.commands.items → (number : ℕ) → All (IsLawful book) (commands_at part_of loaded.commands.items number)
-  lawful-loaded draft loaded lawful commands zero = All-nil (IsLawful book)
-  lawful-loaded draft loaded lawful commands (suc place) =
-      All-same (IsLawful book) (commands_found part_of (slice_get loaded.commands.items place)) (commands_in (slice_get (map (plain_list part_of) draft.commands.items) place))
-      (sym (commands-plain part_of draft.commands.items loaded.commands.items commands place)) (lists-lawful part_of book draft.commands.items lawful place)
-
-  pub IsLoaded-from_draft : (plain : Draft) (draft : DocumentDraft D G S) (loaded : Loaded D G S) (indices : ℕ) → IsDraft part_of global_of kind_of config_of book plain draft → refusal_of indices plain ≡ None
-      → loaded.next ≡ draft.next → loaded.ids.items ≡ ascending (map (λ entity. entity.id) draft.entities.items) → IsStrictlySortedBy nat_cmp loaded.ids.items
-      → vec_len loaded.columns.parts ≡ length book.part_names
-      → ((place id : ℕ) → place < length book.part_names → stored loaded.columns.parts.items place id ≡ datum_among draft.entities.items place id)
-      → vec_len loaded.columns.globals ≡ length book.global_names
-      → ((place : ℕ) → place < length book.global_names → filled (slice_get loaded.columns.globals.items place) ≡ first_at draft.globals.items place None)
-      → loaded.systems.items ≡ filter_map (slot_at (slots_from 1 draft.entries.items)) (order same_resource (staged (map plain_draft draft.entries.items) 1 (map plain_draft draft.entries.items))) ++ locals_from 1 draft.entries.items
-      → map (λ list. plain_commands part_of list.items) loaded.commands.items ≡ map (λ list. filter_map command_of (plain_list part_of list)) draft.commands.items
-      → loaded.frames ≡ draft.frames
-      → IsLoaded part_of global_of kind_of config_of book plain loaded
-  IsLoaded-from_draft plain draft loaded indices is passed next ids ordered parts_len parts globals_len globals systems commands frames =
-      let entities = draft.entities.items in
-      let listed : listed_ids plain ≡ map (λ entity. entity.id) entities = ap (λ all. map (λ entity. entity.id) all) is.entities ∙ ids-plain part_of book.part_names entities in
-      let distinct : has_double (map (λ entity. entity.id) entities) ≡ false = ap has_double (sym listed) ∙ no_double indices plain passed in
-      let past : list_any (λ entity. not (ltb entity.id draft.next)) entities ≡ false =
-      sym (ap (λ next. list_any (λ entity. not (ltb entity.id next)) plain.entities) is.next ∙ ap (λ all. list_any (λ entity. not (ltb entity.id draft.next)) all) is.entities ∙ next-plain part_of book.part_names draft.next entities) ∙ no_past indices plain passed in
-      let same : first_scene plain ≡ scene_in part_of global_of book loaded.next loaded.ids.items loaded.columns =
-      same_scene (first_scene plain) (scene_in part_of global_of book loaded.next loaded.ids.items loaded.columns)
-      (is.next ∙ sym next)
-      (ap ascending listed ∙ sym ids)
-      (λ id kind. ap (λ entities. part_among entities id kind) is.entities ∙ part-held part_of global_of book loaded.columns kinds entities is.kinds_placed distinct parts id kind (place_of kind book.part_names) refl)
-      (λ name. ap (λ all. global_among all name) is.globals ∙ global-held part_of global_of book loaded.columns names draft.globals.items is.globals_placed globals name (place_of name book.global_names) refl) in
-      let admitted : PartsAdmitted book (part_among plain.entities) = subst (λ entities. PartsAdmitted book (part_among entities)) (sym is.entities) (admitted-loaded part_of book entities is.admitted) in
-      let living : RefsLive (ascending (listed_ids plain)) (part_among plain.entities) = living-loaded plain (no_dangling indices plain passed) in
-      record {
-        scene = same;
-        frame = frames-plain plain draft loaded is systems commands;
-        asked = is.frames ∙ sym frames;
-        ready = record {
-          sound = record {
-            fits = record { kinds = parts_len; globals = globals_len };
-            ids_fit = record {
-              ascend = ids-ascend loaded.ids.items ordered;
-              below = subst (λ all. All (λ id. id < loaded.next) all) (sym ids) (subst (λ last. All (λ id. id < last) (ascending (map (λ entity. entity.id) entities))) (sym next) (ids-below (λ entity. entity.id) draft.next entities past));
-            };
-            own = subst (λ all. HoldsOnly all loaded.columns.parts.items) (sym ids) (holds-listed part_of book.part_names entities loaded.columns.parts.items (λ place id inside. parts place id (subst (λ count. place < count) (sym loaded.columns.parts.ok.0 ∙ parts_len) inside)));
-            admitted = subst (λ (scene : PlainScene). PartsAdmitted book scene.part) same admitted;
-            living = subst (λ (scene : PlainScene). RefsLive scene.ids scene.part) same living;
-            readable = subst (λ (scene : PlainScene). GlobalsReadable book scene.global) same (readable-loaded book plain.globals is.readable);
-          };
-          made = made-right kind_of config_of book draft.entries.items loaded.systems.items is.made systems;
-          lawful = lawful-loaded draft loaded is.lawful commands;
-        };
-      }
 
 -- against a document no refusal stands
 pub unrefused : (book : Book) (indices : ℕ) (json : Json) (draft : Draft) → document_from book indices json ≡ Ok draft → refusal_of indices draft ≡ None

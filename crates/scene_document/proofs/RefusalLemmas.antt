@@ -29,7 +29,7 @@ use Rattle.scene_draft.specs.Drafts.{Draft, system_of_entry, stores}
 use Rattle.scene_document.specs.Documents.{listed_ids, systems_of, declares_that, names_unknown, has_unknown_kind, has_double, has_id_past_next, dangles, part_dangles, has_unknown_system, has_taken_name, has_unknown_dependency, is_named, lacks_global, writes_reserved, refusal_of}
 use Rattle.scene_draft.specs.DraftViews.{named, plain_entity, plain_draft, systems_in, plain_part, plain_asked, plain_list, facts_of, IsPlaced, IsDraft}
 use Rattle.scene_rules.specs.Ids.{ascending}
-use Rattle.scene_rules.specs.Lent.{texts, access_of}
+use Rattle.scene_rules.specs.Declaring.{texts, access_of}
 use Rattle.scene_document.specs.Refusals.{datum_dangles, entity_dangles, asks_unknown, stands_for, lacks_one, lacks_declared, is_unmade, made_that, entry_that, has_unknown, number_refusal, draft_refusal}
 use Rattle.scene_document.proofs.PlaceLemmas.{ids-plain}
 use Rattle.scene_rules.proofs.CallerLemmas.{lives-ascending}
@@ -140,10 +140,6 @@ lists-plain part_of [] = refl
 lists-plain part_of (list ∷ lists) = ap (λ b. b || list_any (λ list. list_any names_unknown list) (map (plain_list part_of) lists)) (list-plain part_of list.items) ∙ ap (λ b. list_any asks_unknown list.items || b) (lists-plain part_of lists)
 
 -- ---- systems
-
-or_false_end : (b : Bool) → (b || false) ≡ b
-or_false_end true = refl
-or_false_end false = refl
 
 unmade-plain : {S : Type 0} (entries : List (EntryDraft S)) → list_any (λ one. is_none one.facts) (systems_in entries) ≡ list_any is_unmade entries
 unmade-plain [] = refl

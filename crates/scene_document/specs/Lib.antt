@@ -6,6 +6,3 @@ pub mod Openings
 pub mod Loading
 pub mod Names
 pub mod Refusals
-pub mod Columns
-pub mod Placing
-pub mod Resources

@@ -5,7 +5,7 @@ use Rattle.std.specs.Str.{bytes_eq}
 use Rattle.scene_draft.specs.declared.draft.EntryDraft.{EntryDraft}
 use Rattle.scene_draft.specs.declared.draft.EntryDraft.TheVariants as entry
 use Rattle.scene_rules.specs.Parts.{Name, is_among}
-use Rattle.scene_rules.specs.Lent.{texts}
+use Rattle.scene_rules.specs.Declaring.{texts}
 
 -- whether a name is that of an entry's system
 abbrev pub has_name : {S : Type 0} → Name → EntryDraft S → Bool

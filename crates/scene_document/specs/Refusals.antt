@@ -16,7 +16,7 @@ use Rattle.scene_draft.specs.declared.draft.CommandDraft.TheVariants as asked
 use Rattle.scene_draft.specs.declared.draft.DocumentDraft.{DocumentDraft}
 use Rattle.scene_rules.specs.Parts.{Name, Part, name_at, is_among}
 use Rattle.scene_rules.specs.Rulebook.{Access}
-use Rattle.scene_rules.specs.Lent.{access_of}
+use Rattle.scene_rules.specs.Declaring.{access_of}
 use Rattle.scene_rules.specs.Commands.{ref_lives}
 use Rattle.scene_document.specs.Documents.{has_double, has_taken_name, has_unknown_dependency}
 use Rattle.scene_draft.specs.DraftViews.{systems_in}

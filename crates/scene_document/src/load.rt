@@ -1,13 +1,12 @@
-//! Loading a document.
+//! Reading a document.
 ghost use Rattle.std.specs.Prelude.{◌≡◌, Ok, MatchResult};
 ghost use Rattle.serde_json.specs.View.{view};
 ghost use Rattle.scene_draft.specs.Drafts.{Draft};
 ghost use Rattle.scene_draft.specs.DraftViews.{IsDraft, AreMade};
 ghost use Rattle.scene_document.specs.Documents.{document_from};
-ghost use Rattle.scene_document.specs.Loading.{IsLoaded, IsNotLoaded};
+ghost use Rattle.scene_document.specs.Loading.{IsNotLoaded};
 
-use crate::columns::into_loaded;
-use crate::loaded::{Limits, LoadError, Loaded};
+use crate::loaded::{Limits, LoadError};
 use crate::refusal::refusal;
 use scene_draft::{DocumentDraft, has_float, read_draft};
 use scene_rules::{DocRefusal, DocumentRules, ReadError};
@@ -42,27 +41,4 @@ pub fn read_document<'a, R: DocumentRules>(
         Some(found) => Err(LoadError::Document(found)),
         None => Ok(draft),
     }
-}
-
-/// Loads the document that a JSON is, where no refusal stands.
-///
-/// Errors: `Document` with the least refusal that stands; `Memory`.
-pub fn load_document<R: DocumentRules>(
-    alloc: Global,
-    rules: &R,
-    limits: Limits,
-    value: &Value,
-) -> Result<Loaded<R::Data, R::Global, R::System>, LoadError>
-    ensures { MatchResult result
-        (λ loaded. (draft : Draft)
-        × (document_from (R.book rules.now) limits.indices (view value.now) ≡ Ok draft)
-        × IsLoaded R.part_of R.global_of R.kind_of R.config_of (R.book rules.now) draft loaded)
-        (IsNotLoaded (R.book rules.now) limits.indices (view value.now)) }
-{
-    let draft = match read_document(alloc, rules, limits, value) {
-        Ok(draft) => draft,
-        Err(error) => return Err(error),
-    };
-    let loaded = into_loaded(alloc, rules, draft)?;
-    Ok(loaded)
 }

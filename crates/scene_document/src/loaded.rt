@@ -1,16 +1,14 @@
-//! What is loaded of a document, and the limits under which it is.
-ghost use Rattle.std.specs.Prelude.{◌≡◌};
-
-use scene_rules::{Columns, Command, DocRefusal, Placed};
+//! The limits of a run, and why a document is not loaded.
+use scene_rules::DocRefusal;
 use std::alloc::{AllocError, AllocFailed};
 
 /// Bounds on what a run may use; tests hand in smaller ones.
 #[derive(Clone, Copy, Debug, PartialEq, Eq)]
 pub struct Limits {
-    /// How many entities a document may list, at most 16,777,216. Frames over plain maps have no indices, so what spawns add is
-    /// not bounded by it.
+    /// How many entities a document may list, and how many indices the world of a scene may come to use, at most 16,777,216: a
+    /// spawn that needs one more refuses its frame.
     pub indices: u32,
-    /// The greatest generation of an index, from 1 to 2,147,483,647. Frames over plain maps have none, so it bounds nothing.
+    /// The greatest generation of an index, from 1 to 2,147,483,647: a spawn that would need a greater one refuses its frame.
     pub generation: i32,
     /// How many commands a frame may have, at most 1,048,576.
     pub commands: usize,
@@ -52,16 +50,4 @@ impl<T: Drop> From<AllocFailed<T>> for LoadError {
     fn from(_error: AllocFailed<T>) -> LoadError {
         LoadError::Memory
     }
-}
-
-/// A scene as a document gives it, with its systems in the order in which they run, its commands for the frames from the first
-/// on, and the number of frames asked for.
-#[derive(Drop)]
-pub struct Loaded<D, G, S> {
-    pub next: u64,
-    pub ids: Vec<u64>,
-    pub columns: Columns<D, G>,
-    pub systems: Vec<Placed<S>>,
-    pub commands: Vec<Vec<Command<D>>>,
-    pub frames: u32,
 }

@@ -183,29 +183,9 @@ no_only [] many = refl
 no_only (one ∷ []) many = absurd (many refl)
 no_only (one ∷ other ∷ entries) many = refl
 
--- the only member
-pub only_seen : (entries rest : List (String Global × Value)) (one : String Global × Value) → length entries ≡ 1 → entries ≡ one ∷ rest → only_member (members_seen entries) ≡ Some (string_bytes one.0, view one.1)
-only_seen entries [] one count is = rw is refl
-only_seen entries (other ∷ rest) one count is = absurd (let more : length entries ≡ length (one ∷ other ∷ rest) = ap length is in omega (arith, more))
-
 -- ---- values
 
-pub length-items_seen : (values : List Value) → length (items_seen values) ≡ length values
-length-items_seen [] = refl
-length-items_seen (value ∷ values) = ap suc (length-items_seen values)
-
 -- ---- systems
-
-config_found : (config : Option Json) → read_or null anything config ≡ Some (config_seen config)
-config_found None = refl
-config_found (Some config) = refl
-
--- a system of what was found
-pub reads_system : (book : Book) (kind name after config local : Option Json) (text called : Name) (follows : List Name) (told : Bool) (facts : Option Facts)
-    → Some text ≡ option_and_then as_str kind → Some called ≡ read_or [] as_str name → read_or [] names_from after ≡ Some follows → Some told ≡ read_or false as_bool local
-    → facts_in_shape (book.system text (config_seen config)) ≡ Some facts
-    → system_found book kind name after config local ≡ Some (system (record { kind = text; name = called; after = follows; config = config_seen config; local = told; facts = facts }))
-reads_system book kind name after config local text called follows told facts is_kind is_name is_after is_local is_made = rw (← is_kind, ← is_name, is_after, config_found config, ← is_local, is_made)
 
 -- ---- documents
 

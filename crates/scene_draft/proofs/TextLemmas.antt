@@ -22,7 +22,7 @@ use Rattle.scene_rules.specs.Rulebook.{Book}
 use Rattle.scene_rules.specs.Scenes.{PlainScene}
 use Rattle.scene_draft.specs.Texts.{json_of}
 use Rattle.scene_rules.specs.Laws.{Ascend}
-use Rattle.scene_rules.specs.Lent.{texts, datum, value}
+use Rattle.scene_rules.specs.Declaring.{texts, datum, value}
 use Rattle.scene_rules.specs.Slots.{in_column, filled}
 use Rattle.scene_rules.specs.Lending.{scene_in}
 use Rattle.scene_rules.specs.declared.view.Columns.{Columns}
@@ -91,27 +91,6 @@ module _ (names : List (Bor Name)) (listed : List Name) (same : texts names ≡ 
       ∙ sym (members_more find (texts names) k unset.now within)
 
 module _ {D G : Type 0} (part_of : D → Part) (global_of : G → Json) (book : Book) (columns : Columns D G) where
-  -- the part of one more kind
-  pub parts_more : (id k : ℕ) (names : List (Bor Name)) (unset : Bor Name) (found : Option D) (before after : Members) → texts names ≡ book.part_names → Ascend book.part_names → k < length names
-      → found ≡ in_column (slice_get columns.parts.items k) id
-      → before ≡ members_with (filter_map (part_entry (scene_in part_of global_of book 0 [] columns) id) (take k (texts names)))
-      → after ≡ with_found (option_map (λ part. ((get_or names k unset).now, part.json)) (option_map part_of found)) before
-      → after ≡ members_with (filter_map (part_entry (scene_in part_of global_of book 0 [] columns) id) (take (k + 1) (texts names)))
-  parts_more id k names unset found before after same ascend below is was then =
-      let entry : Name → Option D → Option (Name × Json) = λ kind one. option_map (λ part. (kind, part.json)) (option_map part_of one) in
-      entries_more names book.part_names same ascend (λ kind place. entry kind (in_column (option_and_then (λ p. slice_get columns.parts.items p) place) id))
-      k unset before after below was (then ∙ ap (λ one. with_found (entry (get_or names k unset).now one) before) is)
-
-  -- the value of one more global
-  pub globals_more : (k : ℕ) (names : List (Bor Name)) (unset : Bor Name) (found : Option G) (before after : Members) → texts names ≡ book.global_names → Ascend book.global_names → k < length names
-      → found ≡ filled (slice_get columns.globals.items k)
-      → before ≡ members_with (filter_map (global_entry (scene_in part_of global_of book 0 [] columns)) (take k (texts names)))
-      → after ≡ with_found (option_map (λ value. ((get_or names k unset).now, value)) (option_map global_of found)) before
-      → after ≡ members_with (filter_map (global_entry (scene_in part_of global_of book 0 [] columns)) (take (k + 1) (texts names)))
-  globals_more k names unset found before after same ascend below is was then =
-      let entry : Name → Option G → Option (Name × Json) = λ name one. option_map (λ value. (name, value)) (option_map global_of one) in
-      entries_more names book.global_names same ascend (λ name place. entry name (filled (option_and_then (λ p. slice_get columns.globals.items p) place)))
-      k unset before after below was (then ∙ ap (λ one. with_found (entry (get_or names k unset).now one) before) is)
 
 -- ---- no float
 
@@ -187,26 +166,8 @@ scene_json_free book scene free =
     (members_free-put (codes "entities") entities no_members (items_free scene.ids (entity_json book scene) (λ id. entity_json_free book scene id free)) refl))
 
 module _ {D G : Type 0} (part_of : D → Part) (global_of : G → Json) (parts : (datum : D) → has_float (part_of datum).json ≡ false) (globals : (global : G) → has_float (global_of global) ≡ false) where
-  part_of-free : (datum : Option D) → IfSome (option_map part_of datum) (λ part. has_float part.json ≡ false)
-  part_of-free None = tt
-  part_of-free (Some datum) = parts datum
 
-  global_of-free : (global : Option G) → IfSome (option_map global_of global) (λ value. has_float value ≡ false)
-  global_of-free None = tt
-  global_of-free (Some global) = globals global
-
-  scene_in-free : (book : Book) (next : ℕ) (ids : List ℕ) (columns : Columns D G) → IsFloatFree (scene_in part_of global_of book next ids columns)
-  scene_in-free book next ids columns = record {
-    parts = λ id kind. part_of-free (datum book.part_names columns id kind);
-    globals = λ name. global_of-free (value book.global_names columns name);
   }
-
-  -- a value that is the JSON of a scene of the rules' data has no float
-  pub scene_in-text : (book : Book) (next : ℕ) (ids : List ℕ) (columns : Columns D G) (json : Json) (text : List ℕ)
-      → json ≡ scene_json book (scene_in part_of global_of book next ids columns)
-      → (has_float json ≡ false → text ≡ compact_text json) → text ≡ text_of book (scene_in part_of global_of book next ids columns)
-  scene_in-text book next ids columns json text is written =
-      written (ap has_float is ∙ scene_json_free book (scene_in part_of global_of book next ids columns) (scene_in-free book next ids columns)) ∙ ap compact_text is
 
 -- members have a float where their values have
 pub members_have_float-values : (entries : List Entry) → members_have_float (members_view entries) ≡ items_have_float (items_view (map (λ entry. entry.1) entries))

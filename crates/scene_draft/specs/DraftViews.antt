@@ -19,7 +19,7 @@ use Rattle.scene_rules.specs.Parts.{Json, Name, Part, is_among, name_at}
 use Rattle.scene_rules.specs.Rulebook.{Book, Facts, Access, known}
 use Rattle.scene_rules.specs.Lawful.{IsKnownPart}
 use Rattle.scene_rules.specs.Queues.{plain_entry}
-use Rattle.scene_rules.specs.Lent.{texts, access_of}
+use Rattle.scene_rules.specs.Declaring.{texts, access_of}
 use Rattle.shred_plan.specs.Plan.{units_of}
 use Rattle.scene_draft.specs.Drafts.{Draft, DraftPart, DraftEntity, DraftSystem, DraftEntry, barrier, system, system_of_entry, DraftCommand, spawn, kill, put, take}
 

@@ -6,8 +6,8 @@ use Rattle.serde_json.specs.declared.value.Value.{Value}
 use Rattle.serde_json.specs.Data.{null}
 use Rattle.serde_json.specs.Find.{get, as_str, as_bool}
 use Rattle.serde_json.specs.View.{items_view, members_view}
-use Rattle.scene_rules.specs.declared.rules.ReadError.{ReadError}
-use Rattle.scene_rules.specs.declared.rules.ReadError.TheVariants.{Shape}
+use Rattle.scene_rules.specs.declared.reading.ReadError.{ReadError}
+use Rattle.scene_rules.specs.declared.reading.ReadError.TheVariants.{Shape}
 use Rattle.scene_draft.specs.declared.draft.EntityDraft.{EntityDraft}
 use Rattle.scene_draft.specs.declared.draft.MadeDraft.{MadeDraft}
 use Rattle.scene_draft.specs.declared.draft.EntryDraft.{EntryDraft}

@@ -1,5 +1,4 @@
-//! Scene documents as they read: bytes as JSON, JSON as a draft under the caller's rules, which nothing has tested yet; and the
-//! text of a scene.
+//! Scene documents as they read: bytes as JSON, JSON as a draft under the caller's rules, which nothing has tested yet.
 #![tactic(auto)]
 
 mod draft;
@@ -8,4 +7,4 @@ mod text;
 
 pub use draft::{CommandDraft, DocumentDraft, EntityDraft, EntryDraft, MadeDraft, SystemDraft};
 pub use shape::{is_store, read_draft};
-pub use text::{JsonError, has_float, read_json, scene_text};
+pub use text::{JsonError, has_float, read_json};

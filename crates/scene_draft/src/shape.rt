@@ -4,7 +4,7 @@ ghost use Rattle.serde_json.specs.View.{view};
 ghost use Rattle.scene_draft.specs.Drafts.{Draft, draft_from, document_keys, keys_within};
 ghost use Rattle.scene_draft.specs.DraftViews.{IsDraft, AreMade};
 ghost use Rattle.scene_draft.specs.ShapeWords.{members_seen};
-ghost use Rattle.scene_rules.specs.declared.rules.ReadError.TheVariants.{Shape};
+ghost use Rattle.scene_rules.specs.declared.reading.ReadError.TheVariants.{Shape};
 
 use crate::draft::DocumentDraft;
 use scene_rules::{DocumentRules, ReadError};

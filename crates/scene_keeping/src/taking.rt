@@ -1,7 +1,7 @@
 //! What is taken off a world to be kept: the data at an index, the globals and the next id.
 ghost use Rattle.std.specs.Prelude.{◌≡◌, true, map, length, option_map, IfOk};
 ghost use Rattle.scene_rules.specs.Parts.{is_among};
-ghost use Rattle.scene_rules.specs.Lent.{texts};
+ghost use Rattle.scene_rules.specs.Declaring.{texts};
 ghost use Rattle.scene_world.specs.Standing.{roll_of, value_of, IsSceneWorld};
 ghost use Rattle.scene_turns.specs.Places.{kinds_of};
 ghost use Rattle.scene_acts.specs.Acts.{seen_of};

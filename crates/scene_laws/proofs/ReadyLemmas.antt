@@ -9,7 +9,7 @@ use Rattle.scene_rules.specs.declared.refusals.DocRefusal.TheVariants.{NotWhole}
 use Rattle.scene_rules.specs.Parts.{Json, Name, Part, is_among, place_of}
 use Rattle.scene_rules.specs.Rulebook.{Book}
 use Rattle.scene_rules.specs.Scenes.{PlainScene}
-use Rattle.scene_rules.specs.Lent.{datum}
+use Rattle.scene_rules.specs.Declaring.{datum}
 use Rattle.scene_rules.specs.Slots.{filled}
 use Rattle.scene_rules.specs.Laws.{Ascend}
 use Rattle.scene_rules.specs.Lending.{scene_in, IsSound}

@@ -3,7 +3,7 @@ use Rattle.std.proofs.Common.{ℕ, true, List, [], get_or, Some, refl, ap, ◌�
 use denote.Ref.{Bor}
 use Rattle.std.specs.Option.{option_map_or}
 use Rattle.shred_world.specs.Worlds.{Slots}
-use Rattle.scene_rules.specs.Lent.{texts}
+use Rattle.scene_rules.specs.Declaring.{texts}
 use Rattle.scene_rules.specs.Parts.{Part, name_at}
 use Rattle.scene_rules.specs.Rulebook.{put}
 use Rattle.scene_rules.specs.Scenes.{PlainScene}

@@ -2,7 +2,7 @@
 use Rattle.std.proofs.Common.{◌≡◌, ℕ, zero, suc, List, [], ◌∷◌, get_or, refl}
 use denote.Ref.{Bor}
 use Rattle.scene_rules.specs.Parts.{name_at}
-use Rattle.scene_rules.specs.Lent.{texts}
+use Rattle.scene_rules.specs.Declaring.{texts}
 use Rattle.scene_acts.proofs.CallerLemmas.{no_name}
 
 -- the name at a place, by its bytes

@@ -1,6 +1,6 @@
 //! Globals that are put into a world as a document says them.
 ghost use Rattle.std.specs.Prelude.{◌≡◌, map, OnOk};
-ghost use Rattle.scene_rules.specs.Lent.{texts};
+ghost use Rattle.scene_rules.specs.Declaring.{texts};
 ghost use Rattle.scene_draft.specs.DraftViews.{named};
 ghost use Rattle.scene_turns.specs.Places.{kinds_of};
 ghost use Rattle.scene_acts.specs.Acts.{MayAct};

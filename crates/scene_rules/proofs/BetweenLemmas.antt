@@ -196,12 +196,6 @@ module _ (book : Book) where
       of (inl admitted) = admitted
       of (inr lost) = absurd (false≢true (sym no_ref ∙ ap holds_gone found ∙ lost))
 
-  -- commands of which the first has a place leave parts so, where they lead
-  pub led-between : (place : ℕ) (commands : List Command) (scene after : PlainScene) (places : List ℕ) → All (IsLawful book) commands → IsBetween book scene → CommandsLead place commands scene after places → IsBetween book after
-  led-between place commands scene after places lawful between lead =
-      let whole : play place commands scene ≡ played after places = ap (λ l. play place l scene) (sym (append-nil commands)) ∙ lead [] ∙ behind_all-played places [] after ∙ ap (played after) (append-nil places) in
-      (play-keeps (λ one other. Unit {0}) (λ s. tt) (λ one two three first second. tt) (IsLawful book) (IsBetween book) (λ command s t one is made. (tt, apply-between command s t one is made)) place commands scene after places lawful between whole).1
-
   -- a scene whose parts are those of the rules' kinds is so
   pub proper-between : (scene : PlainScene) → PartsStand book.part_names scene.part → IsProper book scene → IsBetween book scene
   proper-between scene stand proper = record { owned = proper.owned; stand = stand; either = λ id kind held found. inl (proper.admitted id kind held found); readable = proper.readable }

@@ -1,8 +1,8 @@
 -- What proofs of the crates above cite, and nothing else of these lemmas.
-pub use Rattle.scene_rules.proofs.ColumnsLemmas.{slice_get-set_other, slice_get-set_same, taken_last, under_name, under_name-set}
+pub use Rattle.scene_rules.proofs.ColumnsLemmas.{slice_get-set_other, slice_get-set_same}
 pub use Rattle.scene_rules.proofs.FragmentLemmas.{cond_same, same_scene, admitted-fragment, living-fragment, readable-fragment, admitted-left, living-left, readable-left, owned-held}
 pub use Rattle.scene_rules.proofs.OrderLemmas.{is_eq-nat_cmp, lives-ascending, in_order-ascends, same-ids, lives-kept, lives-behind, behind-ascends}
-pub use Rattle.scene_rules.proofs.LeadLemmas.{behind_all-played, lead-none, lead-changed, lead-skipped, finds_no_id, none-to, skipped-to, joined-to, refused-join, refused-more}
-pub use Rattle.scene_rules.proofs.WalkLemmas.{mapped_at, left_at, split_at, front_at, holds_at, passes_at, find-filter, find_none, any_none, all_front, all_back, pieces_at, no_items, all_head, all_tail}
+pub use Rattle.scene_rules.proofs.LeadLemmas.{behind_all-played, lead-none, lead-changed, lead-skipped, finds_no_id, none-to, skipped-to, joined-to, refused-join}
+pub use Rattle.scene_rules.proofs.WalkLemmas.{mapped_at, left_at, split_at, front_at, holds_at, all_front, all_back, no_items}
 pub use Rattle.scene_rules.proofs.MadeLemmas.{led_to, is_changed, is_played, spawned, spawn-makes, tested-makes, play-keeps, lives-last, lives-longer, lives-passed}
-pub use Rattle.scene_rules.proofs.BetweenLemmas.{IsBetween, find-none, none-of-ids, none-of-names, apply-between, admitted-again, led-between, proper-between}
+pub use Rattle.scene_rules.proofs.BetweenLemmas.{IsBetween, find-none, none-of-ids, none-of-names, apply-between, admitted-again, proper-between}

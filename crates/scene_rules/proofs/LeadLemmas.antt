@@ -51,10 +51,6 @@ lead-join place one other a b c places more first next later =
 pub no_id-join : (place : ℕ) (one other : List Command) (a b : PlainScene) (places : List ℕ) → CommandsLead place one a b places → FindsNoId (place + length one) other b → FindsNoId place (one ++ other) a
 no_id-join place one other a b places first out later = rw append_assoc (first (other ++ later) ∙ ap (λ p. behind_all places p) (out later) ∙ behind_all-spent places)
 
--- commands that find no id and then others
-pub finds_no_id-more : (place : ℕ) (one other : List Command) (a : PlainScene) → FindsNoId place one a → FindsNoId place (one ++ other) a
-finds_no_id-more place one other a out later = rw append_assoc (out (other ++ later))
-
 -- no command skips nothing
 pub none-to : (frame place : ℕ) (scene : PlainScene) (skips : List Skip) → RunsTo frame place [] scene scene skips skips
 none-to frame place scene skips = ([], lead-none place scene, sym (append-nil skips))
@@ -77,14 +73,3 @@ refused-join frame place next one other a b first second GenerationsSpent at bef
 refused-join frame place next one other a b first second TooManyCommands at before h = h
 refused-join frame place next one other a b first second Memory at before h = h
 refused-join frame place next one other a b first second Threads at before h = h
-
--- commands that are refused and then others
-pub refused-more : (place : ℕ) (one other : List Command) (a : PlainScene) (cause : FrameRefusal) → RunRefused place one a cause → RunRefused place (one ++ other) a cause
-refused-more place one other a (System position text) h = h
-refused-more place one other a (GoneReference id) h = h
-refused-more place one other a IdsSpent h = finds_no_id-more place one other a h
-refused-more place one other a IndicesSpent h = h
-refused-more place one other a GenerationsSpent h = h
-refused-more place one other a TooManyCommands h = h
-refused-more place one other a Memory h = h
-refused-more place one other a Threads h = h

@@ -11,31 +11,6 @@ pub position_from-map : {X Y : Type 0} (f : X → Y) (p : Y → Bool) (i : ℕ) 
 position_from-map f p i [] = refl
 position_from-map f p i (x ∷ xs) = ap (λ later. cond (p (f x)) (Some i) later) (position_from-map f p (i + 1) xs)
 
--- a place that is found is at or after the start
-pub position_from-least : {X : Type 0} (p : X → Bool) (i place : ℕ) (xs : List X) → position_from p i xs ≡ Some place → i ≤ place
-position_from-least p i place [] e = absurd (none-some place e)
-position_from-least p i place (x ∷ xs) e = here (p x) (λ found. position_from-least p (i + 1) place xs found) e
-  where
-    here : (b : Bool) → (position_from p (i + 1) xs ≡ Some place → i + 1 ≤ place) → cond b (Some i) (position_from p (i + 1) xs) ≡ Some place → i ≤ place
-    here true later found = let same : i ≡ place = same_Some i place found in omega arith
-    here false later found = let past : i + 1 ≤ place = later found in omega arith
-
--- two names that are found at one place are one name
-pub one_place : (name kind : List ℕ) (i place : ℕ) (names : List (List ℕ)) → position_from (λ other. bytes_eq other name) i names ≡ Some place → position_from (λ other. bytes_eq other kind) i names ≡ Some place → name ≡ kind
-one_place name kind i place [] e f = absurd (none-some place e)
-one_place name kind i place (x ∷ xs) e f = here (bytes_eq x name) (bytes_eq x kind) (λ t. (bytes_eq-Decides x name).0 t) (λ t. (bytes_eq-Decides x kind).0 t) (λ g h. one_place name kind (i + 1) place xs g h) e f
-  where
-    here : (b c : Bool) → (b ≡ true → x ≡ name) → (c ≡ true → x ≡ kind) → (position_from (λ other. bytes_eq other name) (i + 1) xs ≡ Some place → position_from (λ other. bytes_eq other kind) (i + 1) xs ≡ Some place → name ≡ kind) → cond b (Some i) (position_from (λ other. bytes_eq other name) (i + 1) xs) ≡ Some place → cond c (Some i) (position_from (λ other. bytes_eq other kind) (i + 1) xs) ≡ Some place → name ≡ kind
-    here true true one two later found found' = sym (one refl) ∙ two refl
-    here true false one two later found found' = let same : i ≡ place = same_Some i place found in let past : i + 1 ≤ place = position_from-least (λ other. bytes_eq other kind) (i + 1) place xs found' in absurd (omega arith)
-    here false true one two later found found' = let same : i ≡ place = same_Some i place found' in let past : i + 1 ≤ place = position_from-least (λ other. bytes_eq other name) (i + 1) place xs found in absurd (omega arith)
-    here false false one two later found found' = later found found'
-
--- a name stands among names where some of them is it
-pub is_among-any : {X : Type 0} (f : X → List ℕ) (name : List ℕ) (xs : List X) → is_among name (map f xs) ≡ list_any (λ x. bytes_eq name (f x)) xs
-is_among-any f name [] = refl
-is_among-any f name (x ∷ xs) = ap (λ rest. bytes_eq name (f x) || rest) (is_among-any f name xs)
-
 -- a name that is found stands at its place, counted from the start
 pub found_at : (name : List ℕ) (i place : ℕ) (names : List (List ℕ)) → position_from (λ other. bytes_eq other name) i names ≡ Some place → (k : ℕ) × (place ≡ i + k) × (k < length names) × (slice_index_or names k [] ≡ name)
 found_at name i place [] e = absurd (none-some place e)

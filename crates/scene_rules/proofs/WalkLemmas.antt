@@ -32,33 +32,6 @@ module _ {X Y : Type 0} (f : X → Y) (xs : List X) (k : ℕ) (e : X) (below : k
   pub holds_at : (P : Y → Type 0) → All P (map f xs) → P (f e)
   holds_at P all = subst P mapped_at (all k (f e) mapped_below)
 
-  -- what all pass each passes
-  pub passes_at : (p : Y → Bool) → list_all p (map f xs) ≡ true → p (f e) ≡ true
-  passes_at p all = here (p (f e)) refl
-    where
-      here : (b : Bool) → p (f e) ≡ b → b ≡ true
-      here true same = refl
-      here false same = absurd (false≢true (sym (list_all_at p (map f xs) k (f e) mapped_below (ap p mapped_at ∙ same)) ∙ all))
-
--- a test that is false where another is, finds the same among those that pass the other
-pub find-filter : {X : Type 0} (p q : X → Bool) → ((x : X) → q x ≡ false → p x ≡ false) → (xs : List X) → find p (filter q xs) ≡ find p xs
-find-filter p q only [] = refl
-find-filter p q only (x ∷ xs) = here (q x) refl (find-filter p q only xs)
-  where
-    here : (b : Bool) → q x ≡ b → find p (filter q xs) ≡ find p xs → find p (cond b (x ∷ filter q xs) (filter q xs)) ≡ cond (p x) (Some x) (find p xs)
-    here true e rest = ap (λ later. cond (p x) (Some x) later) rest
-    here false e rest = rest ∙ sym (ap (λ b. cond b (Some x) (find p xs)) (only x e))
-
--- where no test passes nothing is found
-pub find_none : {X : Type 0} (p : X → Bool) → ((x : X) → p x ≡ false) → (xs : List X) → find p xs ≡ None
-find_none p none [] = refl
-find_none p none (x ∷ xs) = ap (λ b. cond b (Some x) (find p xs)) (none x) ∙ find_none p none xs
-
--- where no test passes none does
-pub any_none : {X : Type 0} (p : X → Bool) → ((x : X) → p x ≡ false) → (xs : List X) → list_any p xs ≡ false
-any_none p none [] = refl
-any_none p none (x ∷ xs) = ap (λ b. b || list_any p xs) (none x) ∙ any_none p none xs
-
 -- what holds of a list holds of its front
 pub all_front : {X : Type 0} (P : X → Type 0) (xs ys : List X) → All P (xs ++ ys) → All P xs
 all_front P [] ys h k d below = absurd (omega arith)
@@ -70,18 +43,7 @@ pub all_back : {X : Type 0} (P : X → Type 0) (xs ys : List X) → All P (xs ++
 all_back P [] ys h = h
 all_back P (x ∷ xs) ys h = all_back P xs ys (λ j e within. h (suc j) e (omega arith))
 
--- the pieces of a list about one of them
-pub pieces_at : {E Q C : Type 0} (f : Q → List C) (v : E → Q) (es : List E) (all before rest now : List Q) (q : Q) → all ≡ map v es → all ≡ before ++ now → now ≡ q ∷ rest → flat_map (λ e. f (v e)) es ≡ flat_map f before ++ (f q ++ flat_map f rest)
-pieces_at f v es all before rest now q mapped split next = sym (flat_map-map f v es) ∙ ap (flat_map f) (sym mapped ∙ split ∙ ap (λ later. before ++ later) next) ∙ flat_map-append f before (q ∷ rest)
-
 -- a list of no length has no items
 pub no_items : {X : Type 0} (xs : List X) → length xs ≡ 0 → xs ≡ []
 no_items [] e = refl
 no_items (x ∷ xs) e = absurd (omega arith)
-
--- what holds of a list holds of its first and of the others
-pub all_head : {X : Type 0} (P : X → Type 0) (x : X) (xs : List X) → All P (x ∷ xs) → P x
-all_head P x xs h = h zero x (omega arith)
-
-pub all_tail : {X : Type 0} (P : X → Type 0) (x : X) (xs : List X) → All P (x ∷ xs) → All P xs
-all_tail P x xs h k d below = h (suc k) d (omega arith)

@@ -1,15 +1,12 @@
--- What the traits `DocumentRules` and `Rules` ask of an implementation, beside the contracts of its calls.
-use Rattle.std.specs.Prelude.{◌≡◌, ℕ, true, List, length, All, map, Option, Some, None, Result, MatchResult, AllPairs}
+-- What the trait `DocumentRules` asks of an implementation, beside the contracts of its calls.
+use Rattle.std.specs.Prelude.{◌≡◌, ℕ, true, List, All, map, Option, Some, None, Result, MatchResult, AllPairs}
 use Rattle.std.specs.Cmp.Lexicographic.{slice_cmp}
 use Rattle.std.specs.Ordering.{nat_cmp}
 use Rattle.std.specs.declared.cmp.Ordering.TheVariants.{Less}
-use Rattle.std.specs.String.{string_bytes}
-use Rattle.scene_rules.specs.declared.rules.ReadError.{ReadError}
-use Rattle.scene_rules.specs.declared.rules.ReadError.TheVariants.{Shape}
-use Rattle.scene_rules.specs.declared.rules.Stop.{Stop}
-use Rattle.scene_rules.specs.declared.rules.Stop.TheVariants as stop
+use Rattle.scene_rules.specs.declared.reading.ReadError.{ReadError}
+use Rattle.scene_rules.specs.declared.reading.ReadError.TheVariants.{Shape}
 use Rattle.scene_rules.specs.Parts.{Json, Name, Ref, living, Part, is_among}
-use Rattle.scene_rules.specs.Rulebook.{Book, Facts, Described, unknown, known, Access, Outcome, refuses, fills, queue_room, Command}
+use Rattle.scene_rules.specs.Rulebook.{Book, Facts, Described, unknown, known, Access}
 
 -- names ascend by their bytes, and so stand once each
 abbrev pub Ascend : List Name → Type 0
@@ -35,13 +32,6 @@ pub record IsMade {S : Type 0} (kind_of : S → Name) (config_of : S → Json) (
 abbrev pub IsMaking : {S : Type 0} → (S → Name) → (S → Json) → (S → Access) → (S → ℕ) → (S → Type 0) → Name → Json → Described → Option S → Type 0
 IsMaking kind_of config_of declared said_time made kind config said None = said ≡ unknown
 IsMaking kind_of config_of declared said_time made kind config said (Some system) = (facts : Facts) × (said ≡ known facts) × IsMade kind_of config_of declared said_time made kind config facts system
-
--- what a stop says of a system's turn, which had put these commands in its queue: a refusal is one that the rules allow, a full
--- queue is full of what they allow, and want of memory says nothing
-abbrev pub IsStopOf : (Outcome → Type 0) → List Command → Stop → Type 0
-IsStopOf meets commands (stop.Refused text) = meets (refuses (string_bytes text))
-IsStopOf meets commands stop.Memory = Unit {0}
-IsStopOf meets commands stop.Full = meets (fills commands) × (length commands ≡ queue_room)
 
 -- the names that a system declares are the rules'
 pub record DeclaresKnown (book : Book) (access : Access) : Type 0 where

@@ -9,7 +9,6 @@ pub mod Commands
 pub mod Leads
 pub mod Frames
 pub mod Slots
-pub mod Lent
+pub mod Declaring
 pub mod Laws
 pub mod Queues
-pub mod Lending

@@ -6,8 +6,6 @@ use Rattle.scene_rules.specs.declared.command.Command.TheVariants.{Spawn, Kill, 
 use Rattle.scene_rules.specs.declared.command.Queue.{Queue}
 use Rattle.scene_rules.specs.declared.command.NotQueued.{NotQueued}
 use Rattle.scene_rules.specs.declared.command.NotQueued.TheVariants as refused
-use Rattle.scene_rules.specs.declared.rules.Stop.{Stop}
-use Rattle.scene_rules.specs.declared.rules.Stop.TheVariants as stop
 use Rattle.scene_rules.specs.Parts.{Name, Part}
 use Rattle.scene_rules.specs.Rulebook as plain
 
@@ -32,11 +30,6 @@ abbrev pub waiting : {D : Type 0} → Queue D → List (Command D)
 waiting queue = queue.commands.items
 
 module _ {D : Type 0} where
-  -- the stop of a system whose command was not taken in
-  abbrev pub stop_for : NotQueued D → Stop
-  stop_for (refused.Full command) = stop.Full
-  stop_for (refused.Memory command) = stop.Memory
-
   -- the command that was not taken in
   abbrev pub handed_back : NotQueued D → Command D
   handed_back (refused.Full command) = command

@@ -2,7 +2,6 @@
 ghost use Rattle.std.specs.Prelude.{◌≡◌, [], ◌∷◌, ◌++◌, ◌≤◌, length, vec_len, OnOk, OnErr, IfErr};
 ghost use Rattle.scene_rules.specs.Rulebook.{queue_room};
 
-use crate::rules::Stop;
 use std::alloc::Global;
 
 /// What may be asked to be done to a scene after the systems of a frame have run.
@@ -35,19 +34,6 @@ pub enum NotQueued<D> {
     Full(Command<D>),
     /// Memory was wanting.
     Memory(Command<D>),
-}
-
-impl<D: Drop> From<NotQueued<D>> for Stop {
-    ghost use Rattle.scene_rules.specs.Queues.{stop_for};
-
-    ghost from_gives = { λ error stop. stop ≡ stop_for error };
-
-    fn from(error: NotQueued<D>) -> Stop {
-        match error {
-            NotQueued::Full(_) => Stop::Full,
-            NotQueued::Memory(_) => Stop::Memory,
-        }
-    }
 }
 
 impl<D: Drop> Queue<D> {

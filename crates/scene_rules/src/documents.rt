@@ -6,7 +6,7 @@ ghost use Rattle.serde_json.specs.View.{view};
 ghost use Rattle.serde_json.specs.Written.{has_float};
 
 use crate::access::Accessor;
-use crate::rules::ReadError;
+use crate::reading::ReadError;
 use serde_json::Value;
 use shred_plan::RunningTime;
 use std::alloc::{AllocError, Global};
@@ -20,7 +20,7 @@ use std::alloc::{AllocError, Global};
 pub trait DocumentRules: Sized {
     ghost use Rattle.std.specs.Prelude.{ℕ};
     ghost use Rattle.scene_rules.specs.Rulebook.{Access};
-    ghost use Rattle.scene_rules.specs.Lent.{texts, access_of};
+    ghost use Rattle.scene_rules.specs.Declaring.{texts, access_of};
     ghost use Rattle.scene_rules.specs.Laws.{Ascend, IsReadingOf, refs_to, IsMaking, DeclaresKnown};
     ghost use Rattle.shred_plan.specs.Plan.{units_of};
 

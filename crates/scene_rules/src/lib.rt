@@ -1,28 +1,22 @@
-//! What a caller of the scene engine provides, its rules, and the turn of one system under them.
+//! What a caller of the scene engine says of documents, and the commands that its systems ask for.
 //!
-//! `DocumentRules` is the trait of the caller's parts, globals and systems, with what they mean to a document; `Rules` adds
-//! systems that run over plain maps, and `PlainView` is what such a system is lent. `run_system` lends a system what it declares, runs it, and puts what it left of its written names back.
+//! `DocumentRules` is the trait of the caller's parts, globals and systems, with what they mean to a document. The definitions in
+//! `specs` say what a scene is, over plain maps from id to parts, and what its frames do.
 #![tactic(auto)]
 
 mod access;
 mod command;
 mod documents;
-mod empty;
-mod placed;
+mod places;
 mod plain;
+mod reading;
 mod refusals;
-mod rules;
-mod turn;
-mod view;
 
 pub use access::Accessor;
 pub use command::{Command, NotQueued, Queue};
 pub use documents::DocumentRules;
-pub use empty::{empty_columns, empty_places};
-pub use placed::Placed;
+pub use places::place_in;
 pub use plain::{Skips, Text};
+pub use reading::ReadError;
 pub use refusals::{DocRefusal, FrameRefusal, Report, Skip};
-pub use rules::{ReadError, Rules, Stop};
 pub use shred_plan::RunningTime;
-pub use turn::{Saved, restore, run_system};
-pub use view::{Columns, PlainView, place_in};

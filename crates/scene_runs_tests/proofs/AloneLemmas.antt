@@ -13,7 +13,7 @@ use Rattle.scene_draft.specs.Drafts.{Draft}
 use Rattle.scene_document.specs.Openings.{first_scene, frames_of}
 use Rattle.scene.specs.Outcomes.{Bounds, IsRunOf, full_bounds}
 use Rattle.scene_turns_tests.specs.Drifting.{drifting_book, moved_part, pos_name, vel_name}
-use Rattle.scene_engine_tests.specs.Alone.{drift_at, drift_frame, IsDriftAlone, moved_times, DriftsFor, IsDriftedText}
+use Rattle.scene_runs_tests.specs.Alone.{drift_at, drift_frame, IsDriftAlone, moved_times, DriftsFor, IsDriftedText}
 
 -- what one turn leaves
 drifts-once : (place : ℕ) (scene after : PlainScene) (commands : List Command) → Steps drifting_book (drift_at place) scene after commands → DriftsFor 1 scene after

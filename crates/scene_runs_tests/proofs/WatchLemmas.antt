@@ -13,9 +13,9 @@ use Rattle.scene_turns.specs.Places.{kinds_of}
 use Rattle.scene_turns.specs.Turns.{Meaning, sense_of, rules_by, Runs, Ends, meaning_of}
 use Rattle.scene_turns_tests.specs.Drifting.{counting, drift_name, drift_access, drifting_book, drifting_columns, drifting_places, Drifts}
 use Rattle.scene_turns_tests.specs.declared.values.Value.{Value}
-use Rattle.scene_engine_tests.specs.Watched.{mover_access, mover_does, mover_name, watched_book, IsHalt}
-use Rattle.scene_engine_tests.specs.declared.watched.Mover.{Mover}
-use Rattle.scene_engine_tests.specs.declared.watched.Mover.TheVariants.{Drift, Watch, Halt}
+use Rattle.scene_runs_tests.specs.Watched.{mover_access, mover_does, mover_name, watched_book, IsHalt}
+use Rattle.scene_runs_tests.specs.declared.watched.Mover.{Mover}
+use Rattle.scene_runs_tests.specs.declared.watched.Mover.TheVariants.{Drift, Watch, Halt}
 
 abbrev pub watched_kinds : Kinds Value
 watched_kinds = kinds_of drifting_places counting drifting_columns

@@ -8,8 +8,8 @@ use Rattle.shred_stages.specs.declared.stop.Stop.TheVariants as stop
 use Rattle.scene_rules.specs.Parts.{Json, Name}
 use Rattle.scene_rules.specs.Rulebook.{Access, Book, Fragment, Outcome, leaves, refuses, fills, Described, known, unknown, misshapen}
 use Rattle.scene_turns_tests.specs.Drifting.{vel_name, drift_name, drift_access, drifting_book, Drifts}
-use Rattle.scene_engine_tests.specs.declared.watched.Mover.{Mover}
-use Rattle.scene_engine_tests.specs.declared.watched.Mover.TheVariants.{Drift, Watch, Halt}
+use Rattle.scene_runs_tests.specs.declared.watched.Mover.{Mover}
+use Rattle.scene_runs_tests.specs.declared.watched.Mover.TheVariants.{Drift, Watch, Halt}
 
 -- the names of the other two kinds of systems
 abbrev pub watch_name : Name

@@ -7,7 +7,7 @@ use Rattle.scene_rules.specs.Parts.{Json, Name, is_among}
 use Rattle.scene_rules.specs.Rulebook.{Access, Facts, unknown, known, misshapen}
 use Rattle.scene_rules.specs.Laws.{DeclaresKnown}
 use Rattle.scene_turns_tests.specs.Drifting.{pos_name, vel_name, drift_name, drift_access}
-use Rattle.scene_engine_tests.specs.Watched.{watch_name, halt_name, watch_access, configured, watched_book}
+use Rattle.scene_runs_tests.specs.Watched.{watch_name, halt_name, watch_access, configured, watched_book}
 
 abbrev KindKnown : Name → Type 0
 KindKnown kind = is_among kind watched_book.part_names ≡ true

@@ -5,10 +5,10 @@ ghost use Rattle.scene_draft.specs.Drafts.{Draft};
 ghost use Rattle.scene_document.specs.Documents.{document_of};
 ghost use Rattle.scene.specs.Outcomes.{IsRunOf, TellsOnly, full_bounds};
 ghost use Rattle.scene_turns_tests.specs.Drifting.{drifting_book};
-ghost use Rattle.scene_engine_tests.specs.Alone.{IsDriftAlone, IsDriftedText};
+ghost use Rattle.scene_runs_tests.specs.Alone.{IsDriftAlone, IsDriftedText};
 
 use scene::{Counted, RunError};
-use scene_engine::run;
+use scene::run;
 use scene_rules::Report;
 use scene_turns_tests::Drifting;
 use std::sync::Wait;

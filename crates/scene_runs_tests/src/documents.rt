@@ -5,7 +5,7 @@ use crate::watched::Watched;
 use scene::{Counted, RunError};
 use scene_acts_tests::Owning;
 use scene_document::Limits;
-use scene_engine::run_with;
+use scene::run_with;
 use scene_rules::{FrameRefusal, Report, Skip};
 use scene_turns_tests::Drifting;
 use std::alloc::AllocError;

@@ -4,7 +4,7 @@ use crate::rows::Under;
 use crate::watched::Watched;
 use scene::{Counted, RunError};
 use scene_acts_tests::Owning;
-use scene_engine::run;
+use scene::run;
 use scene_rules::{FrameRefusal, Report};
 use scene_turns_tests::Drifting;
 use std::sync::Wait;

@@ -8,8 +8,8 @@ ghost use Rattle.scene_rules.specs.Rulebook.{misshapen};
 ghost use Rattle.scene_turns.specs.Turns.{sense_of};
 ghost use Rattle.scene_turns_tests.specs.Drifting.{counting, drifting_columns, drifting-apart};
 ghost use Rattle.scene_turns_tests.specs.DriftingLaws.{law-kinds_ascend, law-globals_ascend, law-reads_admitted, law-reads_back, law-no_float};
-ghost use Rattle.scene_engine_tests.specs.Watched.{configured, mover_access, mover_does, mover_name, watched_book, law-does, IsHalt};
-ghost use Rattle.scene_engine_tests.specs.WatchedLaws.{law-declares_known};
+ghost use Rattle.scene_runs_tests.specs.Watched.{configured, mover_access, mover_does, mover_name, watched_book, law-does, IsHalt};
+ghost use Rattle.scene_runs_tests.specs.WatchedLaws.{law-declares_known};
 
 use scene_rules::{Accessor, DocumentRules, Queue, ReadError, RunningTime};
 use scene_stores::Store;

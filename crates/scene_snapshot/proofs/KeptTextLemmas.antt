@@ -9,7 +9,7 @@ use Rattle.scene_rules.specs.Parts.{Json, Name, Part, place_of}
 use Rattle.scene_rules.specs.Rulebook.{Book}
 use Rattle.scene_rules.specs.Scenes.{PlainScene}
 use Rattle.scene_rules.specs.Laws.{Ascend}
-use Rattle.scene_rules.specs.Lent.{texts}
+use Rattle.scene_rules.specs.Declaring.{texts}
 use Rattle.scene_draft.specs.Texts.{members_with, entity_json, scene_json, text_of}
 use Rattle.scene_draft.specs.TextSteps.{with_found}
 use Rattle.scene_draft.proofs.CallerLemmas.{IsFloatFree, entries_more, scene_json_free}

@@ -8,7 +8,7 @@ use Rattle.shred_world.specs.contracts.resource_id.ResourceIdPartialEq.TheImpl.{
 use Rattle.shred.specs.Building.{Declared, nothing_built, built_with, fenced}
 use Rattle.shred.specs.Dispatchers.{Drafting, with_building, dispatcher_of}
 use Rattle.scene_rules.specs.Parts.{Json, Name}
-use Rattle.scene_rules.specs.Lent.{texts}
+use Rattle.scene_rules.specs.Declaring.{texts}
 use Rattle.scene_rules.specs.Laws.{DeclaresKnown}
 use Rattle.scene_rules.specs.Rulebook.{Access, Book, Facts, Fragment, Outcome}
 use Rattle.scene_rules.specs.Rulebook as said

@@ -9,7 +9,7 @@ use Rattle.scene_rules.specs.declared.view.PlainView.{PlainView}
 use Rattle.scene_rules.specs.Parts.{Json, Name, Part}
 use Rattle.scene_rules.specs.Rulebook.{Fragment}
 use Rattle.scene_rules.specs.Scenes.{lives, PartsAdmitted, GlobalsReadable}
-use Rattle.scene_rules.specs.Lent.{shown, held}
+use Rattle.scene_rules.specs.Declaring.{shown, held}
 use Rattle.scene_basics.specs.declared.data.Datum.{Datum}
 use Rattle.scene_basics.specs.Names.{hp_kind, g_name}
 use Rattle.scene_basics.specs.Numbers.{part_of, json_of}

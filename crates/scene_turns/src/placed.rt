@@ -1,6 +1,6 @@
 //! Systems of rules at their positions among the entries of a document, as a dispatcher owns them.
 ghost use Rattle.std.specs.Prelude.{◌≡◌, ◌++◌, true, None, map, IfOk, OnOk, IfSome, IfNone};
-ghost use Rattle.scene_rules.specs.Lent.{texts, access_of};
+ghost use Rattle.scene_rules.specs.Declaring.{texts, access_of};
 ghost use Rattle.scene_world.specs.Lent.{id_of_place, read_places, written_places};
 ghost use Rattle.scene_turns.specs.Places.{kinds_of, TakesQueue};
 ghost use Rattle.scene_turns.specs.Turns.{placed_as, TakesTurn};

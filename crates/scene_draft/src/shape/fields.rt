@@ -4,7 +4,7 @@ ghost use Rattle.serde_json.specs.Find.{as_str, as_bool};
 ghost use Rattle.scene_rules.specs.Parts.{is_among};
 ghost use Rattle.scene_draft.specs.Drafts.{keys_within, whole, whole_32, read_or, is_true, names_from, each};
 ghost use Rattle.scene_draft.specs.Drafts.{stores};
-ghost use Rattle.scene_rules.specs.Lent.{texts};
+ghost use Rattle.scene_rules.specs.Declaring.{texts};
 ghost use Rattle.scene_draft.specs.DraftViews.{seen};
 ghost use Rattle.scene_draft.specs.ShapeWords.{items_seen, members_seen, Reads, Anything, IsKnownAt};
 

@@ -7,8 +7,8 @@ use Rattle.scene_turns.specs.Turns.{placed_as}
 use Rattle.scene_world.specs.Standing.{plain_of}
 use Rattle.scene_acts.specs.Acts.{seen_of}
 use Rattle.scene_systems.specs.Orders.{turn_order}
-use Rattle.scene_engine.specs.Running.{listed_scene}
-use Rattle.scene_engine.proofs.advance.advance.Goals as goal
+use Rattle.scene.specs.Running.{listed_scene}
+use Rattle.scene.proofs.advance.advance.Goals as goal
 
 pub returns-in-Err-clause-refused : goal.returns-in-Err-clause-refused
 returns-in-Err-clause-refused g c =

@@ -2,8 +2,8 @@ use Rattle.std.proofs.Common.{◌≡◌, sym, ◌∙◌, ap}
 use Rattle.scene_document.specs.Openings.{commands_for, frames_of}
 use Rattle.scene_turns.specs.Turns.{placed_as}
 use Rattle.scene_systems.specs.Orders.{turn_order}
-use Rattle.scene_engine.proofs.PlaceLemmas.{frame-commands, frame-lawful}
-use Rattle.scene_engine.proofs.load.course_of.Goals as goal
+use Rattle.scene.proofs.PlaceLemmas.{frame-commands, frame-lawful}
+use Rattle.scene.proofs.load.course_of.Goals as goal
 
 pub stage_systems-requires-clause-document : goal.stage_systems-requires-clause-document
 stage_systems-requires-clause-document g c =

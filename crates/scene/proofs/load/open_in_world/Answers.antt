@@ -8,7 +8,7 @@ use Rattle.scene_staging.specs.Opened.{HasEmptyQueue}
 use Rattle.scene_frames.proofs.CallerLemmas.{none-left}
 use Rattle.scene_acts.specs.Acts.{seen_of}
 use Rattle.scene_staging.proofs.CallerLemmas.{opened-scene, opened-stands, empty-commands}
-use Rattle.scene_engine.proofs.load.open_in_world.Goals as goal
+use Rattle.scene.proofs.load.open_in_world.Goals as goal
 
 pub keep_scene-requires : goal.keep_scene-requires
 keep_scene-requires g c =

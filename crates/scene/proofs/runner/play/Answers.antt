@@ -6,8 +6,8 @@ use Rattle.scene.specs.Turns.{RunsOut}
 use Rattle.scene.proofs.CallerLemmas.{run_of}
 use Rattle.scene_turns.specs.Places.{kinds_of}
 use Rattle.scene_turns.specs.Turns.{placed_as}
-use Rattle.scene_engine.specs.Running.{shown_of, rules_of, IsReady}
-use Rattle.scene_engine.proofs.runner.play.Goals as goal
+use Rattle.scene.specs.Running.{shown_of, rules_of, IsReady}
+use Rattle.scene.proofs.runner.play.Goals as goal
 
 pub returns : goal.returns
 returns g c =

@@ -3,8 +3,8 @@ use Rattle.scene.specs.Turns.{frames_left, Advances, Stays}
 use Rattle.scene.proofs.CallerLemmas.{going_start, going_on, ended_all, ended_refused}
 use Rattle.scene_turns.specs.Places.{kinds_of}
 use Rattle.scene_turns.specs.Turns.{placed_as}
-use Rattle.scene_engine.specs.Running.{shown_of, rules_of, IsReady}
-use Rattle.scene_engine.proofs.runner.run_to_end.Goals as goal
+use Rattle.scene.specs.Running.{shown_of, rules_of, IsReady}
+use Rattle.scene.proofs.runner.run_to_end.Goals as goal
 
 pub loop-scene-init : goal.loop-scene-init
 loop-scene-init g c = record { rules = refl; ready = c.requires.ready; going = going_start (g.R.DocumentRules.book (rules_of c.args.scene.now)) (shown_of (kinds_of g.R.Value.SceneValue.places g.R.DocumentRules.part_of g.R.Rules.columns) g.R.DocumentRules.part_of g.R.DocumentRules.global_of (placed_as (λ placed. placed.position) (λ placed. placed.system) g.R.DocumentRules.kind_of g.R.DocumentRules.config_of g.R.DocumentRules.declared g.R.Rules.sense g.R.Rules.does) g.R.DocumentRules.book c.args.scene.now) c.requires.start }

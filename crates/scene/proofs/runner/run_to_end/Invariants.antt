@@ -2,8 +2,8 @@ use Rattle.std.proofs.Common.{◌≡◌}
 use Rattle.scene.specs.Turns.{Going, frames_left}
 use Rattle.scene_turns.specs.Places.{kinds_of}
 use Rattle.scene_turns.specs.Turns.{placed_as}
-use Rattle.scene_engine.specs.Running.{shown_of, rules_of, IsReady}
-use Rattle.scene_engine.proofs.runner.run_to_end.Given as goal
+use Rattle.scene.specs.Running.{shown_of, rules_of, IsReady}
+use Rattle.scene.proofs.runner.run_to_end.Given as goal
 
 abbrev pub decreases-loop-scene : goal.decreases-loop-scene
 decreases-loop-scene g l = frames_left (shown_of (kinds_of g.R.Value.SceneValue.places g.R.DocumentRules.part_of g.R.Rules.columns) g.R.DocumentRules.part_of g.R.DocumentRules.global_of (placed_as (λ placed. placed.position) (λ placed. placed.system) g.R.DocumentRules.kind_of g.R.DocumentRules.config_of g.R.DocumentRules.declared g.R.Rules.sense g.R.Rules.does) g.R.DocumentRules.book l.scene)

@@ -4,7 +4,7 @@ use Rattle.scene_rules.specs.declared.refusals.DocRefusal.{DocRefusal}
 use Rattle.scene_document.specs.Documents.{document_of}
 use Rattle.scene.specs.declared.runner.RunError.TheVariants as run
 use Rattle.scene.specs.Outcomes.{TellsOnly, bounds_of}
-use Rattle.scene_engine.proofs.runner.run_with.Goals as goal
+use Rattle.scene.proofs.runner.run_with.Goals as goal
 
 -- what holds of each holds of what there may be
 any-some : {X : Type 0} (o : Option X) (P : X → Type 0) → ((x : X) → P x) → IfSome o P

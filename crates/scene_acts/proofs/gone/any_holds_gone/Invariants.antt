@@ -2,7 +2,7 @@ use Rattle.std.proofs.Common.{◌≡◌, false, take}
 use Rattle.std.specs.Prelude.{option_map}
 use Rattle.std.specs.List.{list_any}
 use Rattle.scene_rules.specs.Commands.{holds_gone}
-use Rattle.scene_rules.specs.Lent.{texts}
+use Rattle.scene_rules.specs.Declaring.{texts}
 use Rattle.scene_turns.specs.Places.{kinds_of}
 use Rattle.scene_world.specs.Rolls.{ref_to}
 use Rattle.scene_world.specs.Standing.{column_of, roll_of}

@@ -4,7 +4,7 @@ use Rattle.std.specs.List.{list_any}
 use Rattle.std.proofs.lemmas.List.{take_all}
 use Rattle.scene_rules.specs.Parts.{Name, is_among}
 use Rattle.scene_rules.specs.Commands.{holds_gone}
-use Rattle.scene_rules.specs.Lent.{texts}
+use Rattle.scene_rules.specs.Declaring.{texts}
 use Rattle.scene_turns.specs.Places.{kinds_of}
 use Rattle.scene_world.specs.Rolls.{Roll, part_in, ref_to}
 use Rattle.scene_world.specs.Standing.{column_of, roll_of}

@@ -3,7 +3,7 @@ use Rattle.std.specs.List.{filter_map}
 use Rattle.std.specs.Option.{option_to_list}
 use Rattle.std.proofs.lemmas.List.{take_all, length-map}
 use Rattle.scene_rules.specs.Rulebook.{queue_room}
-use Rattle.scene_rules.specs.Lent.{shown}
+use Rattle.scene_rules.specs.Declaring.{shown}
 use Rattle.scene_rules.specs.Queues.{waiting, plain_command, plain_commands}
 use Rattle.scene_basics.specs.Numbers.{part_of}
 use Rattle.scene_basics.specs.Gains.{fragment_of}

@@ -1,7 +1,7 @@
 use Rattle.std.proofs.Common.{◌≡◌, refl, sym, ◌∙◌, ap, cond, eqb, ◌&&◌, take, get_or, map}
 use Rattle.std.proofs.lemmas.List.{take_all}
 use Rattle.std.specs.Str.{bytes_eq}
-use Rattle.scene_rules.specs.Lent.{shown, held}
+use Rattle.scene_rules.specs.Declaring.{shown, held}
 use Rattle.scene_basics.specs.Gains.{fragment_of, sum_at, gain_in}
 use Rattle.scene_basics.specs.Turns.{put_in}
 use Rattle.scene_basics.proofs.TurnLemmas.{after, after-more, summed, Gains-after}

@@ -1,5 +1,5 @@
 use Rattle.std.proofs.Common.{◌≡◌, ℕ, List, take}
-use Rattle.scene_rules.specs.Lent.{held, held_global, SameLoan}
+use Rattle.scene_rules.specs.Declaring.{held, held_global, SameLoan}
 use Rattle.scene_basics.specs.Gains.{fragment_of, sum_at, gain_in}
 use Rattle.scene_basics.proofs.TurnLemmas.{after}
 use Rattle.scene_basics.proofs.systems.gain_each.Given as goal

@@ -1,6 +1,6 @@
 use Rattle.std.proofs.Common.{◌-◌, map, length, drop, get_or, arith}
 use Rattle.scene_document.proofs.IdLemmas.{drop_last, IsSetOf-insert}
-use Rattle.scene_document.proofs.columns.ids_of.Goals as goal
+use Rattle.scene_document.proofs.ids.ids_of.Goals as goal
 
 pub loop-index-preserved : goal.loop-index-preserved
 loop-index-preserved g c =

@@ -1,5 +1,5 @@
 use Rattle.std.proofs.Common.{◌≡◌, ◌-◌, ◌∷◌, ◌||◌, true, drop, get_or, ap, sym, ◌∙◌, arith}
-use Rattle.scene_rules.specs.Lent.{texts}
+use Rattle.scene_rules.specs.Declaring.{texts}
 use Rattle.scene_document.specs.Documents.{has_taken_name}
 use Rattle.scene_draft.specs.DraftViews.{systems_in}
 use Rattle.scene_document.proofs.IdLemmas.{drop_last}

@@ -1,5 +1,5 @@
 use Rattle.std.proofs.Common.{take}
-use Rattle.scene_rules.specs.Lent.{texts}
+use Rattle.scene_rules.specs.Declaring.{texts}
 use Rattle.scene_turns.specs.Places.{kinds_of}
 use Rattle.scene_acts.specs.Acts.{seen_of}
 use Rattle.scene_keeping.specs.Taken.{AreOfIndex}

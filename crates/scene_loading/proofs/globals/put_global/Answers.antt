@@ -1,6 +1,6 @@
 use Rattle.std.proofs.Common.{◌≡◌, true, Some, get_or, ap, sym, ◌∙◌, subst, arith}
 use Rattle.scene_rules.specs.Parts.{is_among}
-use Rattle.scene_rules.specs.Lent.{texts}
+use Rattle.scene_rules.specs.Declaring.{texts}
 use Rattle.scene_draft.specs.DraftViews.{named}
 use Rattle.scene_turns.specs.Places.{kinds_of}
 use Rattle.scene_acts.proofs.CallerLemmas.{no_name, named-there}

@@ -1,5 +1,5 @@
 use Rattle.std.proofs.Common.{map, drop}
-use Rattle.scene_rules.specs.Lent.{texts}
+use Rattle.scene_rules.specs.Declaring.{texts}
 use Rattle.scene_draft.specs.DraftViews.{named}
 use Rattle.scene_loading.specs.Entries.{with_list}
 use Rattle.scene_turns.specs.Places.{kinds_of}

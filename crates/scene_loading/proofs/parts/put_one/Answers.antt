@@ -1,7 +1,7 @@
 use Rattle.std.proofs.Common.{◌≡◌, true, get_or, sym, subst, arith}
 use Rattle.scene_rules.specs.Parts.{is_among}
 use Rattle.scene_rules.specs.Rulebook.{put}
-use Rattle.scene_rules.specs.Lent.{texts}
+use Rattle.scene_rules.specs.Declaring.{texts}
 use Rattle.scene_draft.specs.DraftViews.{named}
 use Rattle.scene_turns.specs.Places.{kinds_of}
 use Rattle.scene_acts.specs.Acts.{Acts}

@@ -3,8 +3,8 @@ use Rattle.serde_json.specs.View.{view}
 use Rattle.serde_json.specs.Find.{as_null}
 use Rattle.scene_rules.specs.Rulebook.{known, misshapen}
 use Rattle.scene_turns_tests.specs.DriftingLaws.{null-as_null}
-use Rattle.scene_engine_tests.specs.Watched.{mover_access}
-use Rattle.scene_engine_tests.proofs.watched.with_config.Goals as goal
+use Rattle.scene_runs_tests.specs.Watched.{mover_access}
+use Rattle.scene_runs_tests.proofs.watched.with_config.Goals as goal
 
 pub returns-then-is_null : goal.returns-then-is_null
 returns-then-is_null c =

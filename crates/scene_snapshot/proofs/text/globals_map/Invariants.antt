@@ -1,7 +1,7 @@
 use Rattle.std.proofs.Common.{◌≡◌, take}
 use Rattle.std.specs.List.{filter_map}
 use Rattle.serde_json.specs.View.{members_view}
-use Rattle.scene_rules.specs.Lent.{texts}
+use Rattle.scene_rules.specs.Declaring.{texts}
 use Rattle.scene_draft.specs.Texts.{members_with}
 use Rattle.scene_draft.specs.TextSteps.{global_entry}
 use Rattle.scene_snapshot.specs.KeptScenes.{kept_scene}

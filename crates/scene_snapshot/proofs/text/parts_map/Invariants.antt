@@ -1,7 +1,7 @@
 use Rattle.std.proofs.Common.{◌≡◌, take, option_map}
 use Rattle.std.specs.List.{filter_map}
 use Rattle.serde_json.specs.View.{members_view}
-use Rattle.scene_rules.specs.Lent.{texts}
+use Rattle.scene_rules.specs.Declaring.{texts}
 use Rattle.scene_draft.specs.Texts.{members_with}
 use Rattle.scene_snapshot.specs.KeptScenes.{shown_parts}
 use Rattle.scene_snapshot.proofs.text.parts_map.Given as goal

@@ -1,5 +1,5 @@
 use Rattle.std.proofs.Common.{◌≡◌, ◌++◌, map, take}
-use Rattle.scene_rules.specs.Lent.{texts}
+use Rattle.scene_rules.specs.Declaring.{texts}
 use Rattle.scene_turns.proofs.placed.push_globals.Given as goal
 
 abbrev pub invariant-loop-name : goal.invariant-loop-name

@@ -1,5 +1,5 @@
 use Rattle.std.proofs.Common.{rules, ◌≡◌, ◌∷◌, ◌++◌, [], map, sym, ap, ◌∙◌}
-use Rattle.scene_rules.specs.Lent.{texts, access_of}
+use Rattle.scene_rules.specs.Declaring.{texts, access_of}
 use Rattle.scene_turns.specs.Places.{kinds_of}
 use Rattle.scene_turns.proofs.PlacedLemmas.{declared-ids}
 use Rattle.scene_turns.proofs.placed.read_ids.Goals as goal

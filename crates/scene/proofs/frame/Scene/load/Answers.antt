@@ -12,11 +12,11 @@ use Rattle.scene_acts.specs.Acts.{seen_of}
 use Rattle.scene_systems.specs.Orders.{turn_order}
 use Rattle.scene_rules.specs.Lawful.{IsLawful}
 use Rattle.scene_frames.specs.Waiting.{PlacesAscend}
-use Rattle.scene_engine.specs.Running.{listed_scene, course_of}
+use Rattle.scene.specs.Running.{listed_scene, course_of}
 use Rattle.scene.proofs.CallerLemmas.{is_opening, is_nothing_yet}
 use Rattle.scene_frames.proofs.CallerLemmas.{seen-stand}
-use Rattle.scene_engine.proofs.PlaceLemmas.{places-ascend, order-there, order-described}
-use Rattle.scene_engine.proofs.frame.Scene.load.Goals as goal
+use Rattle.scene.proofs.PlaceLemmas.{places-ascend, order-there, order-described}
+use Rattle.scene.proofs.frame.Scene.load.Goals as goal
 
 pub places_of_systems-requires : goal.places_of_systems-requires
 places_of_systems-requires g c =

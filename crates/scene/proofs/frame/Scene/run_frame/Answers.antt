@@ -10,8 +10,8 @@ use Rattle.scene_turns.specs.Places.{kinds_of}
 use Rattle.scene_turns.specs.Turns.{placed_as}
 use Rattle.scene_systems.specs.Orders.{turn_order}
 use Rattle.scene.proofs.CallerLemmas.{none_there, told_first}
-use Rattle.scene_engine.specs.Running.{listed_scene, course_of, Stands}
-use Rattle.scene_engine.proofs.frame.Scene.run_frame.Goals as goal
+use Rattle.scene.specs.Running.{listed_scene, course_of, Stands}
+use Rattle.scene.proofs.frame.Scene.run_frame.Goals as goal
 
 pub advance-requires-clause-stands : goal.advance-requires-clause-stands
 advance-requires-clause-stands g c κs within =

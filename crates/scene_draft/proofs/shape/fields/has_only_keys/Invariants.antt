@@ -1,6 +1,6 @@
 use Rattle.std.proofs.Common.{◌≡◌}
 use Rattle.scene_draft.specs.Drafts.{keys_within}
-use Rattle.scene_rules.specs.Lent.{texts}
+use Rattle.scene_rules.specs.Declaring.{texts}
 use Rattle.scene_draft.specs.ShapeWords.{members_seen}
 use Rattle.scene_draft.proofs.shape.fields.has_only_keys.Given as goal
 

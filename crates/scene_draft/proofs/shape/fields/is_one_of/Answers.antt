@@ -1,6 +1,6 @@
 use Rattle.std.proofs.Common.{◌∙◌}
 use Rattle.scene_draft.proofs.ShapeLemmas.{is_some-place_of}
-use Rattle.scene_rules.specs.Lent.{texts}
+use Rattle.scene_rules.specs.Declaring.{texts}
 use Rattle.scene_draft.proofs.shape.fields.is_one_of.Goals as goal
 
 pub returns : goal.returns

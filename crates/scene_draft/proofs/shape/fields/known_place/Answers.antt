@@ -1,4 +1,4 @@
-use Rattle.scene_rules.specs.Lent.{texts}
+use Rattle.scene_rules.specs.Declaring.{texts}
 use Rattle.scene_draft.proofs.ShapeLemmas.{known_at-place_of}
 use Rattle.scene_draft.proofs.shape.fields.known_place.Goals as goal
 

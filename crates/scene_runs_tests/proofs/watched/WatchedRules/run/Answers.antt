@@ -1,5 +1,5 @@
 use Rattle.shred_stages.proofs.CallerLemmas.{leaves-itself}
-use Rattle.scene_engine_tests.proofs.watched.WatchedRules.run.Goals as goal
+use Rattle.scene_runs_tests.proofs.watched.WatchedRules.run.Goals as goal
 
 pub returns-in-Watch-clause-leaves : goal.returns-in-Watch-clause-leaves
 returns-in-Watch-clause-leaves g c = leaves-itself _
