@@ -9,17 +9,13 @@ use Rattle.scene_document.specs.declared.loaded.LoadError.TheVariants.{Document,
 use Rattle.scene_rules.specs.Rulebook.{Book}
 use Rattle.scene_rules.specs.Scenes.{IsProper, PartsStand, IsDescribed}
 use Rattle.scene_rules.specs.Lawful.{IsLawful}
-use Rattle.scene_rules.specs.Slots.{in_column}
 use Rattle.scene_rules.proofs.CallerLemmas.{owned-held}
 use Rattle.scene_rules.specs.Parts.{Json, Name, Part, is_among, place_of}
-use Rattle.scene_rules.specs.declared.view.Columns.{Columns}
-use Rattle.scene_rules.specs.Lending.{scene_in, system_in, IsSound}
 use Rattle.scene_draft.proofs.CallerLemmas.{is_some-place_of}
 use Rattle.scene_draft.specs.Drafts.{Draft}
 use Rattle.scene_document.specs.Documents.{of_reading, document_from}
 use Rattle.scene_draft.specs.Texts.{json_of, scene_json, text_of, ReadsBack}
-use Rattle.scene_document.specs.Loading.{loaded_scene, frames_in, CanRun, IsNotLoaded}
-use Rattle.scene_document.specs.declared.loaded.Loaded.{Loaded}
+use Rattle.scene_document.specs.Loading.{IsNotLoaded}
 use Rattle.scene_document.specs.Openings.{first_scene, frames_of}
 use Rattle.scene.specs.Runs.{CanBegin, Ran}
 use Rattle.scene.specs.Turns.{Shown, opening, RunsOut}

@@ -9,9 +9,10 @@ pub use Rattle.scene_document.specs.Documents
 pub use Rattle.scene_document.specs.Openings
 pub use Rattle.scene_draft.specs.Texts
 pub mod Runs
-pub mod Engine
 pub mod Limits
 pub mod Turns
+pub use Rattle.scene_frames.specs.Waiting
+pub mod Running
 pub mod Outcomes
 pub use Rattle.scene_devices.specs.Faults
 pub use Rattle.scene_devices.specs.Reading

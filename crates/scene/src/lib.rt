@@ -1,5 +1,10 @@
-//! A scene in a world of entities: a JSON document is loaded into a world, its systems run frame by frame on a
-//! dispatcher under rules of the caller's own, and the scene that they reach is printed again.
+//! Scenes: a JSON document is loaded into a world of entities, its systems run frame by frame on a dispatcher under rules of the
+//! caller's own, and the scene that they reach is printed again.
+//!
+//! `run` and `run_with` carry the whole: the bytes that a reader gives are refused by name, and then nothing is written,
+//! or the bytes written are the text of a scene that the document's frames reach, over plain maps from id to parts, whatever the
+//! number of workers and the kind of store. `Scene` runs the same frame by frame. `Rules` is what the caller provides: parts,
+//! globals and systems, with what they mean to a document, and where they stand in a world.
 #![tactic(auto)]
 
 mod advance;
@@ -8,4 +13,13 @@ mod load;
 mod runner;
 
 pub use frame::{Refused, Scene};
-pub use runner::{run, run_to_end, run_with};
+pub use runner::{RunError, run, run_to_end, run_with};
+pub use scene_devices::{Counted, CountedRead, CountedWrite, Faults};
+pub use scene_document::{Limits, LoadError};
+pub use scene_rules::{
+    Accessor, Command, DocRefusal, DocumentRules, FrameRefusal, NotQueued, Queue, ReadError, Report,
+    RunningTime, Skip, Skips, Text,
+};
+pub use scene_stores::Store;
+pub use scene_turns::{Rules, SceneValue};
+pub use shred_stages::Stop;

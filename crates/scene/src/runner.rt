@@ -8,13 +8,25 @@ ghost use Rattle.scene_turns.specs.Turns.{placed_as};
 ghost use Rattle.scene.specs.Running.{shown_of, rules_of, IsReady};
 
 use crate::frame::Scene;
-use scene::RunError;
 use scene_devices::{CountedRead, CountedWrite, ReadFailure, read_document, write_text};
 use scene_document::{Limits, LoadError};
-use scene_rules::Report;
+use scene_rules::{DocRefusal, Report};
 use scene_turns::{Rules, SceneValue};
 use std::sync::Wait;
 use std::thread::Threads;
+
+/// Why a run gave no report.
+#[derive(Clone, Copy, Debug, PartialEq, Eq)]
+pub enum RunError {
+    /// The document is no scene, and this is the least refusal that stands. Nothing was written.
+    Document(DocRefusal),
+    /// The reader failed, or gave bytes 4,294,967,295 times without its end. Nothing was written.
+    Read,
+    /// The writer failed, or took nothing, after so many bytes of the text had gone out.
+    Write(u64),
+    /// Memory was wanting. Nothing was written.
+    Memory,
+}
 
 /// The report and the text of the run of the document in these bytes.
 ///

@@ -3,19 +3,20 @@ use Rattle.std.proofs.Common.{◌≡◌, ◌<◌, ◌+◌, ℕ, zero, suc, List,
 use Rattle.std.specs.List.{filter_map, cons_option}
 use Rattle.std.specs.Option.{option_to_list}
 use Rattle.std.proofs.lemmas.List.Elements.{filter_map-append}
-use Rattle.scene_rules.specs.declared.rules.Stop.{Stop}
-use Rattle.scene_rules.specs.declared.rules.Stop.TheVariants as stop
 use Rattle.scene_rules.specs.Rulebook.{Fragment, Command, queue_room}
-use Rattle.scene_rules.specs.Laws.{IsStopOf}
 use Rattle.std.proofs.lemmas.List.{length-map}
 use Rattle.scene_rules.specs.declared.command.Command.{Command as CodeCommand}
 use Rattle.scene_rules.specs.declared.command.NotQueued.{NotQueued}
 use Rattle.scene_rules.specs.declared.command.NotQueued.TheVariants as refusals
-use Rattle.scene_rules.specs.Queues.{plain_command, plain_commands, IsFull, stop_for}
+use Rattle.scene_rules.specs.Queues.{plain_command, plain_commands, IsFull}
+use Rattle.shred_stages.specs.declared.stop.Stop.{Stop}
+use Rattle.shred_stages.specs.declared.stop.Stop.TheVariants as stop
+use Rattle.scene_turns.specs.Stops.{stop_for}
 use Rattle.scene_basics.specs.declared.data.Datum.{Datum}
 use Rattle.scene_basics.specs.Numbers.{part_of}
 use Rattle.scene_basics.specs.declared.data.Ask.{Ask}
-use Rattle.scene_basics.specs.Asks.{asked_for, Asking, IsNotAsked}
+use Rattle.scene_basics.specs.Asks.{asked_for, IsNotAsked}
+use Rattle.scene_basics.specs.Asked.{StopsAsking}
 
 -- one in front, or none, and a list behind
 cons_option-append : {X : Type 0} (o : Option X) (xs ys : List X) → cons_option o (xs ++ ys) ≡ cons_option o xs ++ ys
@@ -57,7 +58,7 @@ asked-full f ids place one within gives long = (subst (λ all. queue_room < leng
     more = omega (arith, length-append (filter_map f (take place ids)) (one ∷ rest), long)
 
 -- a command that was not asked for stops the system
-pub stopped : (ask : Ask) (old : Fragment) (place : ℕ) (before after : List Command) (why : Stop) → place < length old.ids → before ≡ filter_map (asked_for ask old) (take place old.ids) → IsNotAsked (asked_for ask old (get_or old.ids place 0)) before after why → IsStopOf (Asking ask old) after why
+pub stopped : (ask : Ask) (old : Fragment) (place : ℕ) (before after : List Command) (why : Stop) → place < length old.ids → before ≡ filter_map (asked_for ask old) (take place old.ids) → IsNotAsked (asked_for ask old (get_or old.ids place 0)) before after why → StopsAsking ask old after why
 stopped ask old place before after (stop.Refused text) within so_far told = absurd told
 stopped ask old place before after stop.Memory within so_far told = tt
 stopped ask old place before after stop.Full within so_far told =

@@ -118,11 +118,6 @@ Makes-lawful Decay old new commands made admitted = subst (All (IsLawful basics)
 Makes-lawful Reap old new commands made admitted = subst (All (IsLawful basics)) (sym made.1) (filter_map-all (IsLawful basics) (asked_for Deaths old) (λ id command is. death-lawful id (number_at old hp_kind id) command is) old.ids)
 Makes-lawful Bud old new commands made admitted = subst (All (IsLawful basics)) (sym made.1) (filter_map-all (IsLawful basics) (asked_for Births old) (λ id command is. birth-lawful (number_at old hp_kind id) (old.part id pos_kind) command (λ part held. admitted id pos_kind part held) is) old.ids)
 
--- what follows of an accepted turn
-pub of_turn : {T E : Type 0} (outcome : Result T E) (Left : Type 0) (Stopped : E → Type 0) (Then : Type 0) → (Left → Then) → MatchResult outcome (λ _. Left) Stopped → OnOk outcome Then
-of_turn (Ok value) Left Stopped Then follows left = follows left
-of_turn (Err error) Left Stopped Then follows left = tt
-
 -- a gain leaves one fragment
 pub Gains-one : (access : Access) (kind : Name) (gain : ℕ → Option ℤ) (old one other : Fragment) → Gains kind gain old one → Gains kind gain old other → SameLeft access one other
 Gains-one access kind gain old one other first second = record {

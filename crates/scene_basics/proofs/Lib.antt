@@ -4,7 +4,6 @@ pub mod AddLemmas
 pub mod SightLemmas
 pub mod AskedLemmas
 pub mod WorldLemmas
-pub mod TurnLemmas
 pub mod GainLemmas
 pub mod LineLemmas
 pub mod AskLemmas

@@ -29,7 +29,3 @@ module _ {X : Type 0} (f : X → List ℕ) (xs : List X) (place : ℕ) (d : X) (
     bytes = subst (λ (bytes : List ℕ). Appends before after bytes) (sym (ap (take (length (flat_map f (take place xs)) + sent)) texts-split ∙ (take-append-add (flat_map f (take place xs)) (f (get_or xs place d) ++ flat_map f (drop (suc place) xs)) sent ∙ ap (λ rest. flat_map f (take place xs) ++ rest) (take-append-le sent (f (get_or xs place d)) (flat_map f (drop (suc place) xs)) short)))) (Appends-trans before between after (flat_map f (take place xs)) (take sent (f (get_or xs place d))) out part);
     whole = inr (subst (λ (count : ℕ). HasFailed count last) steady failed);
   }
-
--- a line that went out is the line that it is
-pub Tells-same : (one other : List ℕ) (before after : Option (List ℕ)) (first last : ℕ) → one ≡ other → Tells one before after first last → Tells other before after first last
-Tells-same one other before after first last same tells = subst (λ (line : List ℕ). Tells line before after first last) same tells

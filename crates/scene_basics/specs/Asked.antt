@@ -3,8 +3,6 @@ use Rattle.std.specs.Prelude.{◌≡◌, ℕ, ℤ, List, length, Option, option_
 use Rattle.shred_world.specs.Bundles.{Holding, readable}
 use Rattle.shred_stages.specs.declared.stop.Stop.{Stop}
 use Rattle.shred_stages.specs.declared.stop.Stop.TheVariants as stop
-use Rattle.scene_rules.specs.declared.rules.Stop.{Stop as RulesStop}
-use Rattle.scene_rules.specs.declared.rules.Stop.TheVariants as rules_stop
 use Rattle.scene_rules.specs.Parts.{Name}
 use Rattle.scene_rules.specs.Rulebook.{Fragment, Command, fills, queue_room}
 use Rattle.scene_world.specs.Rolls.{index_of}
@@ -31,12 +29,6 @@ number_under w kind id = option_and_then (number_seen w kind) (index_of (basic_r
 abbrev pub lent_for : Ask → Holding Value → Fragment
 lent_for Deaths w = fragment_of basic_kinds (declared_access Reap) w
 lent_for Births w = fragment_of basic_kinds (declared_access Bud) w
-
--- the stop of a staged system that stops so
-abbrev pub staged : RulesStop → Stop
-staged (rules_stop.Refused text) = stop.Refused text
-staged rules_stop.Memory = stop.Memory
-staged rules_stop.Full = stop.Full
 
 -- a stop of a system that asks: its queue is full of the first of what it asks for, or memory was wanting
 abbrev pub StopsAsking : Ask → Fragment → List Command → Stop → Type 0

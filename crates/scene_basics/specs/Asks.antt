@@ -3,8 +3,8 @@ use Rattle.std.specs.Prelude.{◌≡◌, ◌<◌, ◌≤◌, ℕ, ℤ, pos, int_
 use Rattle.std.specs.List.{filter_map}
 use Rattle.scene_rules.specs.Parts.{Part}
 use Rattle.scene_rules.specs.Rulebook.{Fragment, Outcome, leaves, refuses, fills, queue_room, Command, spawn, kill}
-use Rattle.scene_rules.specs.declared.rules.Stop.{Stop}
-use Rattle.scene_rules.specs.declared.rules.Stop.TheVariants as stop
+use Rattle.shred_stages.specs.declared.stop.Stop.{Stop}
+use Rattle.shred_stages.specs.declared.stop.Stop.TheVariants as stop
 use Rattle.scene_basics.specs.declared.data.Ask.{Ask}
 use Rattle.scene_basics.specs.declared.data.Ask.TheVariants.{Deaths, Births}
 use Rattle.scene_basics.specs.Names.{hp_kind, pos_kind}

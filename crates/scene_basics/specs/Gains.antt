@@ -5,17 +5,8 @@ use Rattle.std.specs.Str.{bytes_eq}
 use Rattle.scene_rules.specs.Parts.{Name}
 use Rattle.scene_rules.specs.Rulebook.{Fragment, Outcome, leaves, refuses, fills}
 use Rattle.scene_rules.specs.Scenes.{lives}
-use Rattle.scene_rules.specs.Declaring.{lent}
-use Rattle.scene_rules.specs.declared.view.PlainView.{PlainView}
-use Rattle.scene_basics.specs.declared.data.Datum.{Datum}
-use Rattle.scene_basics.specs.declared.data.Gain.{Gain}
-use Rattle.scene_basics.specs.declared.data.Gain.TheVariants.{Under, Each}
 use Rattle.scene_basics.specs.Names.{overflow}
-use Rattle.scene_basics.specs.Numbers.{part_of, json_of, counting, whole_in, number_of}
-
--- the fragment that a view lends
-abbrev pub fragment_of : PlainView Datum ℤ → Fragment
-fragment_of view = lent part_of json_of view
+use Rattle.scene_basics.specs.Numbers.{counting, whole_in, number_of}
 
 -- the number that an id has under a kind
 abbrev pub number_at : Fragment → Name → ℕ → Option ℤ
@@ -54,8 +45,3 @@ abbrev pub Gaining : Name → (ℕ → Option ℤ) → Fragment → Outcome → 
 Gaining kind gain old (leaves new commands) = Gains kind gain old new × (commands ≡ [])
 Gaining kind gain old (refuses text) = (text ≡ overflow) × Overflows kind gain old
 Gaining kind gain old (fills commands) = ⊥
-
--- what an id gains: the number that it has under a kind, or the same for each
-abbrev pub gain_in : Gain → Fragment → ℕ → Option ℤ
-gain_in (Under kind) fragment id = number_at fragment kind.now id
-gain_in (Each by) fragment id = by

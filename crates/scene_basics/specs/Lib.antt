@@ -3,7 +3,6 @@ pub mod Names
 pub mod Numbers
 pub mod Gains
 pub mod Asks
-pub mod Turns
 pub mod Systems
 pub mod RuleLaws
 pub mod Values

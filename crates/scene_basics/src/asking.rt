@@ -1,18 +1,19 @@
 //! The systems in a world that ask for deaths or births.
-ghost use Rattle.std.specs.Prelude.{◌≡◌, IfOk, MatchResult, [], option_map};
+ghost use Rattle.std.specs.Prelude.{◌≡◌, ◌++◌, OnOk, IfOk, IfErr, MatchResult, [], option_map};
+ghost use Rattle.std.specs.Option.{option_to_list};
 ghost use Rattle.scene_rules.specs.Rulebook.{leaves};
 ghost use Rattle.scene_rules.specs.Queues.{waiting, plain_command, plain_commands};
 ghost use Rattle.scene_basics.specs.Names.{hp_kind, pos_kind};
 ghost use Rattle.scene_basics.specs.Numbers.{counting, part_of};
-ghost use Rattle.scene_basics.specs.Asks.{death_by, birth_by, asked_for, Asking};
-ghost use Rattle.scene_basics.specs.Asked.{number_seen, number_under, lent_for, staged, StopsAsking};
+ghost use Rattle.scene_basics.specs.Asks.{death_by, birth_by, asked_for, Asking, IsNotAsked};
+ghost use Rattle.scene_basics.specs.Asked.{number_seen, number_under, lent_for, StopsAsking};
 
 use crate::columns::part_id;
 use crate::data::{Ask, Datum, HP, POS};
 use crate::known::{ids_in_order, index_under};
-use crate::systems::ask_for;
 use crate::values::Value;
 use scene_rules::{Command, Queue};
+use scene_turns::stop_for;
 use shred_stages::Stop;
 use shred_world::Holder;
 use std::alloc::{AllocError, Global};
@@ -92,14 +93,22 @@ fn command_of<W: Holder<Value>>(
     }
 }
 
-/// The stop of a staged system that stops so.
-fn staged(stop: scene_rules::Stop) -> Stop
-    ensures { result ≡ staged stop }
+/// Puts a command into a queue, if there is one.
+///
+/// Errors: `Full`, `Memory`; the queue is then as it was.
+fn ask_for(queue: &mut Queue<Datum>, command: Option<Command<Datum>>) -> Result<(), Stop>
+    ensures ok { OnOk result (plain_commands part_of (waiting queue.new)
+        ≡ plain_commands part_of (waiting queue.old) ++ option_to_list (option_map (plain_command part_of) command)) }
+    ensures err { IfErr result
+        (IsNotAsked (option_map (plain_command part_of) command) (plain_commands part_of (waiting queue.old))
+        (plain_commands part_of (waiting queue.new))) }
 {
-    match stop {
-        scene_rules::Stop::Refused(text) => Stop::Refused(text),
-        scene_rules::Stop::Memory => Stop::Memory,
-        scene_rules::Stop::Full => Stop::Full,
+    match command {
+        None => Ok(()),
+        Some(command) => match queue.push(command) {
+            Ok(()) => Ok(()),
+            Err(refused) => Err(stop_for(refused)),
+        },
     }
 }
 
@@ -128,7 +137,7 @@ pub(crate) fn ask_all<H: AllocGlobal, W: Holder<Value>>(
         };
         match ask_for(queue, command) {
             Ok(()) => {}
-            Err(stop) => return Err(staged(stop)),
+            Err(stop) => return Err(stop),
         }
     }
     Ok(())

@@ -9,8 +9,7 @@ ghost use Rattle.scene_basics.specs.Numbers.{part_of, json_of, signed_in};
 ghost use Rattle.scene_basics.specs.Systems.{basics, facts_of, kind_of, system_named};
 
 use crate::data::{BasicSystem, Datum, G, HP, OWNER, POS, VEL};
-use crate::systems::turn;
-use scene::{Accessor, DocumentRules, PlainView, Queue, ReadError, Rules, RunningTime, Stop};
+use scene::{Accessor, DocumentRules, ReadError, RunningTime};
 use serde_json::Value;
 use std::alloc::{AllocError, Global};
 
@@ -205,16 +204,4 @@ impl DocumentRules for Basics {
     ghost no_global_float = { law-no_global_float };
 
     ghost declares_known = { λ _. law-declares_known };
-}
-
-impl Rules for Basics {
-    fn run<H: AllocGlobal>(
-        &self,
-        rt: &H,
-        system: &mut BasicSystem,
-        view: &mut PlainView<'_, Datum, i64>,
-        queue: &mut Queue<Datum>,
-    ) -> Result<(), Stop> {
-        turn(rt, *system, view, queue)
-    }
 }

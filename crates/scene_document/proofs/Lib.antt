@@ -1,10 +1,7 @@
-pub mod BuildLemmas
 pub mod PlaceLemmas
 pub mod IdLemmas
 pub mod NameLemmas
 pub mod RefusalLemmas
-pub mod OrderLemmas
-pub mod PlacingLemmas
 pub mod CommandLemmas
 pub mod LoadedLemmas
 pub mod CallerLemmas

@@ -2,62 +2,40 @@
 use Rattle.scene_rules.specs.declared.refusals.DocRefusal.TheVariants.{NotWhole}
 use Rattle.scene_rules.specs.declared.refusals.DocRefusal.{DocRefusal}
 use Rattle.serde_json.specs.Written.{has_float}
-use Rattle.std.proofs.Common.{◌≡◌, ℕ, zero, suc, ◌+◌, ◌<◌, ◌≤◌, Bool, true, false, not, cond, eqb, ltb, List, [], ◌∷◌, ◌++◌, map, length, find, Option, Some, None, AllPairs, option_map, option_and_then, slice_get, vec_len, refl, ap, sym, subst, ◌∙◌, ⊎_elim, arith, Result, Ok, Err}
+use Rattle.std.proofs.Common.{◌≡◌, ℕ, zero, suc, ◌<◌, ◌≤◌, Bool, true, false, not, cond, eqb, ltb, List, [], ◌∷◌, map, length, Option, Some, None, AllPairs, option_map, slice_get, vec_len, refl, ap, sym, subst, ◌∙◌, arith, Result, Ok, Err}
 use Rattle.std.specs.List.{All, AllByRecursion, list_any, filter_map, cons_option}
 use Rattle.std.specs.List.Sorted.{IsStrictlySortedBy}
-use Rattle.std.specs.BTreeMap.{BTreeMap}
 use Rattle.std.specs.Global.{Vec}
-use Rattle.std.specs.BTreeSet.{insert_key}
-use Rattle.std.specs.Ordering.{nat_cmp, match_ordering}
-use Rattle.std.specs.declared.cmp.Ordering.{Ordering}
-use Rattle.std.specs.declared.cmp.Ordering.TheVariants.{Less, Equal, Greater}
+use Rattle.std.specs.Ordering.{nat_cmp}
+use Rattle.std.specs.declared.cmp.Ordering.TheVariants.{Less}
 use Rattle.std.specs.Str.{bytes_eq}
-use Rattle.std.proofs.lemmas.Bool.{not-false, eq-eqb, cases_lt}
+use Rattle.std.proofs.lemmas.Bool.{not-false}
 use Rattle.std.proofs.lemmas.Bool.Decides.{nat_tests}
 use Rattle.std.proofs.lemmas.Option.{slice_get-map}
-use Rattle.std.proofs.lemmas.List.{map-append, length-map}
+use Rattle.std.proofs.lemmas.List.{length-map}
 use Rattle.std.proofs.lemmas.List.Kept.{AllPairs-cons}
 use Rattle.std.proofs.lemmas.Map.Views.{All-insert_key}
 use Rattle.scene_rules.proofs.CallerLemmas.{lives-ascending}
-use Rattle.std.proofs.Math.Path.{fun_ext}
 use Rattle.std.proofs.lemmas.Slice.Eq.{bytes_eq-Decides}
-use Rattle.std.proofs.lemmas.List.Elements.{All-head, All-tail, All-cons, All-nil, All-map, All-weaker, All-same, All-append}
+use Rattle.std.proofs.lemmas.List.Elements.{All-head, All-tail, All-cons, All-nil, All-map, All-weaker}
 use Rattle.scene_draft.specs.declared.draft.EntityDraft.{EntityDraft}
-use Rattle.scene_draft.specs.declared.draft.MadeDraft.{MadeDraft}
-use Rattle.scene_draft.specs.declared.draft.SystemDraft.{SystemDraft}
 use Rattle.scene_draft.specs.declared.draft.CommandDraft.{CommandDraft}
-use Rattle.scene_draft.specs.declared.draft.EntryDraft.{EntryDraft}
-use Rattle.scene_draft.specs.declared.draft.EntryDraft.TheVariants as entry
 use Rattle.scene_draft.specs.declared.draft.DocumentDraft.{DocumentDraft}
-use Rattle.scene_document.specs.declared.loaded.Loaded.{Loaded}
-use Rattle.scene_rules.specs.declared.view.Columns.{Columns}
-use Rattle.scene_rules.specs.declared.placed.Placed.{Placed}
 use Rattle.scene_rules.specs.declared.command.Command.{Command}
-use Rattle.scene_rules.specs.Parts.{Json, Name, Ref, living, gone, Part, place_of, name_at}
+use Rattle.scene_rules.specs.Parts.{Json, Name, Ref, living, gone, Part, name_at}
 use Rattle.scene_rules.specs.Rulebook.{Book, Facts}
 use Rattle.scene_rules.specs.Rulebook as plain
-use Rattle.scene_rules.specs.Declaring.{access_of}
 use Rattle.scene_rules.specs.Queues.{plain_commands}
-use Rattle.scene_rules.specs.Scenes.{PlainScene, PlainSystem, lives, RefLives, RefsLive, PartsAdmitted, GlobalsReadable}
-use Rattle.scene_rules.proofs.CallerLemmas.{same_scene}
+use Rattle.scene_rules.specs.Scenes.{lives, RefLives, RefsLive, PartsAdmitted, GlobalsReadable}
 use Rattle.scene_rules.specs.Commands.{ref_lives}
-use Rattle.scene_rules.specs.Laws.{Ascend}
 use Rattle.scene_rules.specs.Lawful.{IsKnownPart, IsLawful}
-use Rattle.scene_draft.specs.Drafts.{Draft, DraftPart, DraftEntity, DraftEntry, DraftCommand, spawn, kill, put, take, draft_from}
+use Rattle.scene_draft.specs.Drafts.{Draft, DraftPart, DraftEntity, DraftCommand, spawn, kill, put, take, draft_from}
 use Rattle.scene_document.specs.Documents.{listed_ids, systems_of, has_unknown_kind, has_double, has_id_past_next, dangles, part_dangles, has_unknown_system, has_taken_name, has_unknown_dependency, lacks_global, writes_reserved, refusal_of, document_from, of_shape, unless_refused}
-use Rattle.scene_draft.specs.DraftViews.{named, plain_entity, plain_system, plain_draft, plain_asked, plain_list, facts_of, seen, config_seen, IsPlaced, IsAdmitted, IsReadable, IsDraft, IsMadeOf, IsMadeAs, IsOfBook, IsKnownDraft, Differ, AreApart, IsLawfulDraft}
+use Rattle.scene_draft.specs.DraftViews.{named, plain_entity, plain_draft, plain_asked, plain_list, IsAdmitted, IsReadable, IsDraft, IsKnownDraft, Differ, AreApart, IsLawfulDraft}
 use Rattle.scene_rules.specs.Ids.{ascending}
-use Rattle.scene_document.specs.Openings.{part_in, part_among, global_among, first_scene, Resource, same_resource, staged, with_facts, systems_at, staged_systems, local_systems, command_of, commands_in, commands_for, frames_of}
-use Rattle.shred_plan.specs.Plan.{Added, order}
-use Rattle.shred_plan.specs.Laws.{systems_added}
-use Rattle.scene_rules.specs.Slots.{in_column, filled, HoldsOnly}
-use Rattle.scene_rules.specs.Lending.{scene_in, system_in, IsOfRules}
-use Rattle.scene_document.specs.Loading.{order_in, commands_found, commands_at, frames_in, IsLoaded}
-use Rattle.scene_document.specs.Columns.{stored, first_at, datum_among}
-use Rattle.scene_document.specs.Placing.{placed_at, placed_if, locals_from, slots_from, slot_at}
-use Rattle.scene_document.proofs.PlaceLemmas.{or_false, ids-plain}
-use Rattle.scene_document.proofs.RefusalLemmas.{next-plain}
-use Rattle.scene_document.proofs.OrderLemmas.{times}
+use Rattle.scene_document.specs.Openings.{part_in, part_among, global_among, command_of, commands_in}
+use Rattle.scene_document.specs.Loading.{commands_found}
+use Rattle.scene_document.proofs.PlaceLemmas.{or_false}
 
 -- a fact holds of what a document gives, where it is known
 abbrev Holds : (Name → Part → Type 0) → DraftPart → Type 0
@@ -168,12 +146,6 @@ readable-loaded book [] h name value e = absurd cc
 readable-loaded book (None ∷ globals) h name value e = readable-loaded book globals (All-tail (IsReadable book) None globals h) name value e
 readable-loaded book (Some global ∷ globals) h name value e =
     readable_step book name (bytes_eq name global.0) global (global_among globals name) value refl (All-head (IsReadable book) (Some global) globals h) (readable-loaded book globals (All-tail (IsReadable book) (Some global) globals h) name value) e
-
-module _ {D G : Type 0} (part_of : D → Part) (global_of : G → Json) (book : Book) (columns : Columns D G) where
-
--- ---- systems
-
-module _ {S : Type 0} (kind_of : S → Name) (config_of : S → Json) (book : Book) where
 
 -- ---- commands
 

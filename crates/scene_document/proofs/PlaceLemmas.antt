@@ -1,23 +1,15 @@
 -- Lemmas on names and parts that stand at places of the rules' names.
-use Rattle.std.proofs.Common.{◌≡◌, ℕ, zero, suc, ◌+◌, ◌<◌, Bool, true, false, cond, eqb, ◌||◌, List, [], ◌∷◌, map, length, get_or, Option, Some, None, option_map, refl, ap, sym, ◌∙◌, ⊎_elim, arith}
-use Rattle.std.specs.List.{position_from, All}
-use Rattle.std.specs.Str.{bytes_eq}
+use Rattle.std.proofs.Common.{◌≡◌, ℕ, ◌<◌, Bool, true, false, cond, ◌||◌, List, [], ◌∷◌, map, length, Option, Some, option_map, refl, ap, sym, ◌∙◌, ⊎_elim, arith}
 use Rattle.std.specs.Ordering.{nat_cmp, is_eq}
 use Rattle.std.specs.Cmp.Lexicographic.{slice_cmp}
 use Rattle.std.specs.declared.cmp.Ordering.TheVariants.{Less}
-use Rattle.std.proofs.lemmas.Bool.{cases_lt, eqb-true, eq-eqb, false≢true, false_from_ne_true}
-use Rattle.std.proofs.lemmas.Bool.Decides.{same_from_decides}
+use Rattle.std.proofs.lemmas.Bool.{cases_lt, false≢true}
 use Rattle.std.proofs.lemmas.Slice.Eq.{bytes_eq-Decides}
 use Rattle.std.proofs.lemmas.Map.Text.{is_eq-slice_cmp}
-use Rattle.std.proofs.lemmas.List.Elements.{All-head, All-tail}
 use Rattle.scene_draft.specs.declared.draft.EntityDraft.{EntityDraft}
-use Rattle.scene_rules.specs.Parts.{Json, Name, Part, place_of, name_at}
-use Rattle.scene_rules.specs.Scenes.{lives}
+use Rattle.scene_rules.specs.Parts.{Name, Part, name_at}
 use Rattle.scene_rules.specs.Laws.{Ascend}
-use Rattle.scene_document.specs.Documents.{has_double}
-use Rattle.scene_draft.specs.DraftViews.{named, plain_entity, IsPlaced}
-use Rattle.scene_document.specs.Openings.{part_in, part_among, global_among}
-use Rattle.scene_document.specs.Columns.{first_at, datum_among}
+use Rattle.scene_draft.specs.DraftViews.{plain_entity}
 
 -- no name is less than itself
 not_below_itself : (name : Name) → slice_cmp nat_cmp name name ≡ Less → ⊥
@@ -34,16 +26,10 @@ same_place names ascend one other p q e =
     (cases_lt other one))
     (cases_lt one other)
 
-module _ (names : List Name) (kind : Name) where
-
 -- a choice between two data, and between what they mean
 chosen : {D X : Type 0} (meaning : D → X) (b : Bool) (datum : D) (later : Option X) (held : Option D) → later ≡ option_map meaning held → cond b (Some (meaning datum)) later ≡ option_map meaning (cond b (Some datum) held)
 chosen meaning true datum later held e = refl
 chosen meaning false datum later held e = e
-
-module _ {D : Type 0} (part_of : D → Part) (names : List Name) (kind : Name) where
-
-module _ {G : Type 0} (global_of : G → Json) (names : List Name) (name : Name) where
 
 -- what is false of two tests is false of each
 pub or_false : (one other : Bool) → (one || other) ≡ false → (one ≡ false) × (other ≡ false)

@@ -1,4 +1,6 @@
 //! The limits of a run, and why a document is not loaded.
+ghost use Rattle.std.specs.Prelude.{◌≡◌};
+
 use scene_rules::DocRefusal;
 use std::alloc::{AllocError, AllocFailed};
 

@@ -14,15 +14,13 @@ use Rattle.std.proofs.lemmas.Bool.Decides.{same_from_decides}
 use Rattle.std.proofs.lemmas.List.{map-append}
 use Rattle.scene_draft.specs.declared.draft.DocumentDraft.{DocumentDraft}
 use Rattle.scene_rules.specs.Parts.{Json, Name, Part, is_among, place_of, name_at}
-use Rattle.scene_rules.specs.Rulebook.{Book, Facts, Access}
-use Rattle.scene_draft.specs.Drafts.{Draft, DraftPart, DraftEntity, DraftEntry, system, DraftCommand, only_member, each, part_under, read_or, names_from, anything, members_list, keys_within, document_keys, whole, whole_32, entities_from, globals_from, entries_from, commands_from, global_under, facts_in_shape, system_found, draft_found, draft_from}
-use Rattle.scene_draft.specs.Drafts.{stores}
-use Rattle.scene_draft.specs.DraftViews.{config_seen, named, plain_entity, plain_draft, plain_list, IsPlaced, IsAdmitted, IsOfBook, EntryIsMade, AreMade, IsOther, Differ, AreApart, IsReadable, IsDraft}
+use Rattle.scene_rules.specs.Rulebook.{Book, Access}
+use Rattle.scene_draft.specs.Drafts.{Draft, DraftPart, DraftEntity, DraftEntry, DraftCommand, only_member, each, part_under, read_or, members_list, keys_within, document_keys, whole, whole_32, entities_from, globals_from, entries_from, commands_from, global_under, draft_found, draft_from}
+use Rattle.scene_draft.specs.DraftViews.{named, plain_entity, plain_draft, plain_list, IsPlaced, IsAdmitted, IsOfBook, EntryIsMade, AreMade, IsOther, Differ, AreApart, IsReadable, IsDraft}
 use Rattle.serde_json.specs.declared.value.Value.{Value}
 use Rattle.serde_json.specs.Data.{null, boolean, number, string, array, object, Members}
-use Rattle.serde_json.specs.Find.{as_str, as_bool, as_object}
-use Rattle.serde_json.specs.View.{view}
-use Rattle.scene_draft.specs.ShapeWords.{items_seen, members_seen, draft_in, IsPart, IsEntity, IsEntry, IsAsked, IsKnownAt, IsReadUpTo, IsOtherKey, KeysDiffer}
+use Rattle.serde_json.specs.Find.{as_str, as_object}
+use Rattle.scene_draft.specs.ShapeWords.{members_seen, draft_in, IsPart, IsEntity, IsEntry, IsAsked, IsKnownAt, IsReadUpTo, IsOtherKey, KeysDiffer}
 
 -- ---- names
 

@@ -1,5 +1,5 @@
 -- Lemmas on the JSON of a scene: what its loops have made, and that no float stands in it.
-use Rattle.std.proofs.Common.{◌≡◌, ℕ, zero, suc, ◌+◌, ◌<◌, Bool, true, false, true≢false, ◌||◌, List, [], ◌∷◌, map, length, get_or, take, Option, Some, None, option_map, option_and_then, slice_get, fold, IfSome, IsUtf8, codes, Bor, refl, sym, ap, subst, ◌∙◌, arith}
+use Rattle.std.proofs.Common.{◌≡◌, ℕ, zero, suc, ◌+◌, ◌<◌, Bool, true, false, true≢false, ◌||◌, List, [], ◌∷◌, map, length, get_or, take, Option, Some, None, option_map, fold, IfSome, IsUtf8, codes, Bor, refl, sym, ap, subst, ◌∙◌, arith}
 use Rattle.std.proofs.lemmas.List.{take_more, get_or-map, length-map}
 use Rattle.std.proofs.lemmas.List.Elements.{filter_map-append}
 use Rattle.std.proofs.lemmas.List.Sums.{fold-append}
@@ -15,18 +15,15 @@ use Rattle.std.specs.declared.cmp.Ordering.TheVariants.{Less, Equal, Greater}
 use Rattle.serde_json.specs.Data.{array, Members, no_members, member, put, number, unsigned}
 use Rattle.serde_json.specs.Read.{read}
 use Rattle.serde_json.specs.View.{view, items_of, items_view, members_view}
-use Rattle.serde_json.specs.Written.{has_float, items_have_float, members_have_float, compact_text}
+use Rattle.serde_json.specs.Written.{has_float, items_have_float, members_have_float}
 use Rattle.serde_json.proofs.Views.{Entry}
 use Rattle.scene_rules.specs.Parts.{Json, Name, Part, place_of}
 use Rattle.scene_rules.specs.Rulebook.{Book}
 use Rattle.scene_rules.specs.Scenes.{PlainScene}
 use Rattle.scene_draft.specs.Texts.{json_of}
 use Rattle.scene_rules.specs.Laws.{Ascend}
-use Rattle.scene_rules.specs.Declaring.{texts, datum, value}
-use Rattle.scene_rules.specs.Slots.{in_column, filled}
-use Rattle.scene_rules.specs.Lending.{scene_in}
-use Rattle.scene_rules.specs.declared.view.Columns.{Columns}
-use Rattle.scene_draft.specs.Texts.{members_with, parts_json, entity_json, globals_json, scene_json, text_of}
+use Rattle.scene_rules.specs.Declaring.{texts}
+use Rattle.scene_draft.specs.Texts.{members_with, parts_json, entity_json, globals_json, scene_json}
 use Rattle.scene_draft.specs.TextSteps.{part_entry, global_entry, with_found}
 
 -- ---- bytes that do not read
@@ -89,8 +86,6 @@ module _ (names : List (Bor Name)) (listed : List Name) (same : texts names ≡ 
       ap (entry (get_or (texts names) k unset.now)) placed ∙ ap (λ name. entry name (Some k)) at in
       is ∙ ap (with_found (entry (get_or names k unset).now (Some k))) was ∙ ap (λ one. with_found one seen) (sym found)
       ∙ sym (members_more find (texts names) k unset.now within)
-
-module _ {D G : Type 0} (part_of : D → Part) (global_of : G → Json) (book : Book) (columns : Columns D G) where
 
 -- ---- no float
 
@@ -164,10 +159,6 @@ scene_json_free book scene free =
     members_free-put (codes "next") (number (unsigned scene.next)) two refl
     (members_free-put (codes "globals") (globals_json book scene) one (globals_json_free book scene free)
     (members_free-put (codes "entities") entities no_members (items_free scene.ids (entity_json book scene) (λ id. entity_json_free book scene id free)) refl))
-
-module _ {D G : Type 0} (part_of : D → Part) (global_of : G → Json) (parts : (datum : D) → has_float (part_of datum).json ≡ false) (globals : (global : G) → has_float (global_of global) ≡ false) where
-
-  }
 
 -- members have a float where their values have
 pub members_have_float-values : (entries : List Entry) → members_have_float (members_view entries) ≡ items_have_float (items_view (map (λ entry. entry.1) entries))

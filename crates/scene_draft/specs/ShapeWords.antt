@@ -1,10 +1,9 @@
 -- What the readers of a document's shape ensure; no public clause cites this.
-use Rattle.std.specs.Prelude.{◌≡◌, ◌<◌, ℕ, true, false, List, [], ◌∷◌, ◌++◌, length, map, String, codes, Option, Some, None, option_map, option_and_then, Result, MatchResult, All}
+use Rattle.std.specs.Prelude.{◌≡◌, ◌<◌, ℕ, true, false, List, [], ◌∷◌, ◌++◌, length, map, String, codes, Option, Some, None, option_map, Result, MatchResult, All}
 use Rattle.std.specs.declared.alloc.Global.{Global}
 use Rattle.std.specs.Str.{bytes_eq}
 use Rattle.serde_json.specs.declared.value.Value.{Value}
-use Rattle.serde_json.specs.Data.{null}
-use Rattle.serde_json.specs.Find.{get, as_str, as_bool}
+use Rattle.serde_json.specs.Find.{get}
 use Rattle.serde_json.specs.View.{items_view, members_view}
 use Rattle.scene_rules.specs.declared.reading.ReadError.{ReadError}
 use Rattle.scene_rules.specs.declared.reading.ReadError.TheVariants.{Shape}

@@ -1,18 +1,16 @@
 -- Lemmas on a scene that can run: what is printed for it is read again as it.
 use Rattle.std.proofs.Common.{◌≡◌, ℕ, Bool, true, false, cond, List, Option, Some, None, option_map, option_and_then, is_some, slice_get, refl, sym, ◌∙◌, ap, subst}
 use Rattle.std.proofs.lemmas.Option.{none-some, same_Some}
+use Rattle.std.specs.Global.{Vec}
 use Rattle.std.specs.Prelude.{Result, Ok, Err, MatchResult, IfOk, IfErr}
 use Rattle.serde_json.specs.Written.{has_float}
-use Rattle.scene_rules.specs.declared.view.Columns.{Columns}
 use Rattle.scene_rules.specs.declared.refusals.DocRefusal.{DocRefusal}
 use Rattle.scene_rules.specs.declared.refusals.DocRefusal.TheVariants.{NotWhole}
 use Rattle.scene_rules.specs.Parts.{Json, Name, Part, is_among, place_of}
 use Rattle.scene_rules.specs.Rulebook.{Book}
-use Rattle.scene_rules.specs.Scenes.{PlainScene}
-use Rattle.scene_rules.specs.Declaring.{datum}
-use Rattle.scene_rules.specs.Slots.{filled}
+use Rattle.scene_rules.specs.Scenes.{PlainScene, IsProper}
 use Rattle.scene_rules.specs.Laws.{Ascend}
-use Rattle.scene_rules.specs.Lending.{scene_in, IsSound}
+use Rattle.scene_kept.specs.Keeping.{Keeping, kept_at}
 use Rattle.scene_draft.specs.Drafts.{Draft, draft_from}
 use Rattle.scene_draft.specs.Texts.{json_of, scene_json}
 use Rattle.scene_draft.proofs.CallerLemmas.{is_some-place_of}
@@ -21,7 +19,7 @@ use Rattle.scene_document.specs.Openings.{first_scene}
 use Rattle.scene_document.specs.declared.loaded.LoadError.{LoadError}
 use Rattle.scene_document.specs.declared.loaded.LoadError.TheVariants.{Document, Memory}
 use Rattle.scene.specs.Outcomes.{Bounds, IsNoDocument}
-use Rattle.scene.proofs.CallerLemmas.{sound-proper, sound-stand}
+use Rattle.scene.specs.Running.{listed_scene, value_at}
 use Rattle.scene_laws.specs.Printed.{ReadsAlike, CanBeRead}
 use Rattle.scene_laws.proofs.PrintLemmas.{draft_read, draft-back, scene-back}
 
@@ -65,39 +63,52 @@ from_document book indices json draft made = whole (has_float json) (draft_from 
     whole true o is = absurd (cc)
     whole false o is = shaped o is
 
-module _ {D G : Type 0} (part_of : D → Part) (global_of : G → Json) (book : Book) (next : ℕ) (ids : List ℕ) (columns : Columns D G) (sound : IsSound part_of global_of book next ids columns)
+module _ {D G : Type 0} (part_of : D → Part) (global_of : G → Json) (book : Book) (kept : Keeping (Vec (Option D)) (Vec (Option G))) (proper : IsProper book (listed_scene part_of global_of book kept))
     (back : (kind : Name) (one : D) → book.admits kind (part_of one) ≡ true → book.read_part kind (part_of one).json ≡ Some (part_of one)) where
   abbrev scene : PlainScene
-  scene = scene_in part_of global_of book next ids columns
+  scene = listed_scene part_of global_of book kept
+
+  stands : (id : ℕ) (kind : Name) (held : Part) → scene.part id kind ≡ Some held → is_among kind book.part_names ≡ true
+  stands id kind held is = here (kept_at kept id) (place_of kind book.part_names) (is_some-place_of kind book.part_names) is
+    where
+      here : (parts : Option (Vec (Option D))) (o : Option ℕ) → is_some o ≡ is_among kind book.part_names → option_and_then (λ one. option_map part_of (option_and_then (value_at one) o)) parts ≡ Some held → is_among kind book.part_names ≡ true
+      here None o among some = absurd (none-some held some)
+      here (Some parts) None among some = absurd (none-some held some)
+      here (Some parts) (Some place) among some = sym among
 
   named : (name : Name) (one : Json) → scene.global name ≡ Some one → is_among name book.global_names ≡ true
   named name one is = here (place_of name book.global_names) (is_some-place_of name book.global_names) is
     where
-      here : (o : Option ℕ) → is_some o ≡ is_among name book.global_names → option_map global_of (filled (option_and_then (λ place. slice_get columns.globals.items place) o)) ≡ Some one → is_among name book.global_names ≡ true
-      here None none some = absurd (none-some one some)
+      here : (o : Option ℕ) → is_some o ≡ is_among name book.global_names → option_map global_of (option_and_then (value_at kept.globals) o) ≡ Some one → is_among name book.global_names ≡ true
+      here None among some = absurd (none-some one some)
       here (Some place) among some = sym among
 
   parts-back : (id : ℕ) (kind : Name) (held : Part) → scene.part id kind ≡ Some held → book.read_part kind held.json ≡ Some held
-  parts-back id kind held is = from_map part_of (datum book.part_names columns id kind) held is (λ one stood made.
-      let admitted : book.admits kind (part_of one) ≡ true = ap (book.admits kind) made ∙ sound.admitted id kind held is in
-      subst (λ (part : Part). book.read_part kind part.json ≡ Some part) made (back kind one admitted))
+  parts-back id kind held is = here (kept_at kept id) is
+    where
+      of_datum : (datum : D) → part_of datum ≡ held → book.read_part kind held.json ≡ Some held
+      of_datum datum made = subst (λ (part : Part). book.read_part kind part.json ≡ Some part) made (back kind datum (ap (book.admits kind) made ∙ proper.admitted id kind held is))
+
+      here : (parts : Option (Vec (Option D))) → option_and_then (λ one. option_map part_of (option_and_then (value_at one) (place_of kind book.part_names))) parts ≡ Some held → book.read_part kind held.json ≡ Some held
+      here None some = absurd (none-some held some)
+      here (Some parts) some = from_map part_of (option_and_then (value_at parts) (place_of kind book.part_names)) held some (λ datum found made. of_datum datum made)
 
   -- it can be read
   pub can-be-read : CanBeRead book scene
   can-be-read = record {
-    ids = sound.ids_fit;
-    owned = (sound-proper part_of global_of book next ids columns sound).owned;
-    stand = λ id kind held alive is. sound-stand part_of global_of book next ids columns id kind held is;
+    ids = proper.ids;
+    owned = proper.owned;
+    stand = λ id kind held alive is. stands id kind held is;
     parts = parts-back;
     named = named;
-    globals = sound.readable;
+    globals = proper.readable;
   }
 
-  -- a document that is read of what is printed for it begins with it
-  pub read-again : (kinds : Ascend book.part_names) (names : Ascend book.global_names) (indices : ℕ) (draft : Draft) → document_from book indices (scene_json book scene) ≡ Ok draft → first_scene draft ≡ scene
-  read-again kinds names indices draft made =
-      let shaped = from_document book indices (scene_json book scene) draft made in
-      ap first_scene (same_Some draft (draft_read book scene kinds names can-be-read) (sym shaped ∙ draft-back book scene kinds names can-be-read)) ∙ scene-back book scene kinds names can-be-read
+-- a document that is read of what is printed for a scene that can be read begins with it
+pub read-again : (book : Book) (scene : PlainScene) (readable : CanBeRead book scene) (kinds : Ascend book.part_names) (names : Ascend book.global_names) (indices : ℕ) (draft : Draft) → document_from book indices (scene_json book scene) ≡ Ok draft → first_scene draft ≡ scene
+read-again book scene readable kinds names indices draft made =
+    let shaped = from_document book indices (scene_json book scene) draft made in
+    ap first_scene (same_Some draft (draft_read book scene kinds names readable) (sym shaped ∙ draft-back book scene kinds names readable)) ∙ scene-back book scene kinds names readable
 
 -- a document that bytes are is that of a JSON which they read as
 pub from_bytes : {P : Type 0} (book : Book) (indices : ℕ) (bytes : List ℕ) (draft : Draft) → document_of book indices bytes ≡ Ok draft → ((json : Json) → json_of bytes ≡ Some json → document_from book indices json ≡ Ok draft → P) → P

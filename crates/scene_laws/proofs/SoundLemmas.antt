@@ -1,10 +1,12 @@
 -- Lemmas on proper scenes: systems, commands and frames leave a scene proper.
-use Rattle.std.proofs.Common.{◌≡◌, ℕ, Bool, true, false, ◌||◌, cond, List, [], ◌∷◌, Some, refl, sym, subst, All}
+use Rattle.std.proofs.Common.{◌≡◌, ℕ, Bool, true, false, ◌||◌, cond, List, [], ◌∷◌, Some, Ordering, Less, Equal, Greater, refl, sym, subst, All}
 use Rattle.std.specs.List.{fold, flat_map}
 use Rattle.std.specs.Str.{bytes_eq}
 use Rattle.std.proofs.lemmas.Bool.{false≢true}
 use Rattle.std.proofs.lemmas.Slice.Eq.{bytes_eq-Decides}
-use Rattle.std.proofs.lemmas.List.Elements.{All-head, All-tail, All-nil}
+use Rattle.std.proofs.lemmas.List.Elements.{All-head, All-tail, All-nil, All-cons, All-append}
+use Rattle.std.specs.Ordering.{nat_cmp, match_ordering}
+use Rattle.std.specs.BTreeMap.{insert_entry}
 use Rattle.scene_rules.specs.Parts.{Json, Name, is_among}
 use Rattle.scene_rules.specs.Rulebook.{Book, Access, Facts, known, Outcome, Command}
 use Rattle.scene_rules.specs.Laws.{DeclaresKnown}
@@ -12,11 +14,34 @@ use Rattle.scene_rules.specs.Lawful.{IsLawful}
 use Rattle.scene_rules.specs.Scenes.{PlainScene, PlainSystem, PlainFrame, Steps, IsProper, IsDescribed, PartsStand, PartsOwned, RefsLive, fragment, with_left, lives}
 use Rattle.scene_rules.proofs.CallerLemmas.{admitted-fragment, living-fragment, readable-fragment, admitted-left, living-left, readable-left, play-keeps, IsBetween, apply-between, admitted-again, proper-between}
 use Rattle.scene_rules.specs.Frames.{Queues, SystemsRun, entered, by_place, all_commands, Accepts}
-use Rattle.scene.specs.Engine.{AllLawful}
-use Rattle.scene.proofs.CallerLemmas.{lawful-entered, lawful-flat, All-both}
 use Rattle.scene_laws.specs.OneOutcome.{IsSoundFragment, OneOutcome, SameOutcome}
 use Rattle.scene_laws.proofs.IdLemmas.{accepts-goes-on}
 use Rattle.scene_laws.proofs.ReferenceLemmas.{accepts-live}
+
+-- the commands of all queues are the rules'
+abbrev AllLawful : Book → Queues → Type 0
+AllLawful book queues = All (λ queue. All (IsLawful book) queue.1) queues
+
+-- what holds of the commands of all queues holds of them with one more
+lawful-entered : (book : Book) (queues : Queues) (queue : ℕ × List Command) → AllLawful book queues → All (IsLawful book) queue.1 → AllLawful book (entered queues queue)
+lawful-entered book [] queue all one = All-cons (λ q. All (IsLawful book) q.1) queue [] one all
+lawful-entered book (first ∷ queues) queue all one = here (lawful-entered book queues queue tail one) (nat_cmp queue.0 first.0)
+  where
+    head : All (IsLawful book) first.1
+    head = All-head (λ q. All (IsLawful book) q.1) first queues all
+
+    tail : AllLawful book queues
+    tail = All-tail (λ q. All (IsLawful book) q.1) first queues all
+
+    here : AllLawful book (entered queues queue) → (o : Ordering) → AllLawful book (match_ordering o ((queue.0, queue.1) ∷ first ∷ queues) ((first.0, queue.1) ∷ queues) (first ∷ insert_entry nat_cmp queues queue.0 queue.1))
+    here later Less = All-cons (λ q. All (IsLawful book) q.1) (queue.0, queue.1) (first ∷ queues) one all
+    here later Equal = All-cons (λ q. All (IsLawful book) q.1) (first.0, queue.1) queues one tail
+    here later Greater = All-cons (λ q. All (IsLawful book) q.1) first (insert_entry nat_cmp queues queue.0 queue.1) head later
+
+-- what holds of the commands of all queues holds of the list of them
+lawful-flat : (book : Book) (queues : Queues) → AllLawful book queues → All (IsLawful book) (flat_map (λ queue. queue.1) queues)
+lawful-flat book [] all = All-nil (IsLawful book)
+lawful-flat book (first ∷ queues) all = All-append (IsLawful book) first.1 (flat_map (λ queue. queue.1) queues) (All-head (λ q. All (IsLawful book) q.1) first queues all) (lawful-flat book queues (All-tail (λ q. All (IsLawful book) q.1) first queues all))
 
 -- a scene is proper, and its parts stand under the rules' kinds
 pub record IsGood (book : Book) (scene : PlainScene) : Type 0 where
@@ -83,7 +108,7 @@ module _ (book : Book) (declares : (kind : Name) (config : Json) (facts : Facts)
   systems-good [] scene after queues described good ran = (subst (IsGood book) (sym ran.0) good, subst (AllLawful book) (sym ran.1) (All-nil (λ queue. All (IsLawful book) queue.1)))
   systems-good (system ∷ order) scene after queues described good ran =
       let rest = systems-good order ran.0 after ran.2 (All-tail (IsDescribed book) system order described) (turn-good system scene ran.0 ran.1 (All-head (IsDescribed book) system order described) good ran.3) ran.4 in
-      (rest.0, subst (AllLawful book) (sym ran.5) (All-both (λ queue. All (IsLawful book) queue.1) ((system.position, ran.1) ∷ []) ran.2 (one ((system.position, ran.1)) ran.3.2.known) rest.1))
+      (rest.0, subst (AllLawful book) (sym ran.5) (All-append (λ queue. All (IsLawful book) queue.1) ((system.position, ran.1) ∷ []) ran.2 (one ((system.position, ran.1)) ran.3.2.known) rest.1))
     where
       one : (queue : ℕ × List Command) → All (IsLawful book) queue.1 → AllLawful book (queue ∷ [])
       one queue lawful = lawful-entered book [] queue (All-nil (λ other. All (IsLawful book) other.1)) lawful
@@ -97,7 +122,7 @@ lawful-fold book done (queue ∷ queues) before all =
     (All-tail (λ other. All (IsLawful book) other.1) queue queues all)
 
 lawful-commands : (book : Book) (frame : PlainFrame) (queues : Queues) → All (IsLawful book) frame.commands → AllLawful book queues → All (IsLawful book) (all_commands frame queues)
-lawful-commands book frame queues given all = All-both (IsLawful book) frame.commands (flat_map (λ queue. queue.1) (by_place queues)) given (lawful-flat book (by_place queues) (lawful-fold book [] queues (All-nil (λ queue. All (IsLawful book) queue.1)) all))
+lawful-commands book frame queues given all = All-append (IsLawful book) frame.commands (flat_map (λ queue. queue.1) (by_place queues)) given (lawful-flat book (by_place queues) (lawful-fold book [] queues (All-nil (λ queue. All (IsLawful book) queue.1)) all))
 
 module _ (book : Book) (declares : (kind : Name) (config : Json) (facts : Facts) → book.system kind config ≡ known facts → DeclaresKnown book facts.access) where
   -- an accepted frame leaves a scene proper

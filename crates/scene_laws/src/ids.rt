@@ -14,13 +14,13 @@ ghost use Rattle.scene.specs.Outcomes.{Bounds, IsRunOf};
 ghost use Rattle.scene_laws.specs.Parts.{frames_behind};
 ghost use Rattle.scene_laws.specs.Ids.{IdsGoOn, Gives, TakesAway};
 
-use scene_rules::Rules;
+use scene_rules::DocumentRules;
 
 /// No id is given twice: over any number of frames the next id does not fall, an id that was given and does not live
 /// stays dead, and each id that came is new; a spawn gives the next id, which no entity had; and a killed id
 /// is dead and below the next one, so that it stays dead. So it is from the scene of each document on, over its frames,
 /// between any two of the scenes that they reach, and for each run.
-pub fn an_id_is_given_once<R: Rules>(rules: &R)
+pub fn an_id_is_given_once<R: DocumentRules>(rules: &R)
     ensures go_on { (limit : ℕ) (frames : ℕ → PlainFrame) (count : ℕ) (scene after : PlainScene)
         (skips : List Skip) → IdsFit scene.next scene.ids
         → Reaches (R.book rules.now) limit frames count scene after skips → IdsGoOn scene after }

@@ -8,12 +8,12 @@ ghost use Rattle.scene.specs.Runs.{CanBegin, Ran};
 ghost use Rattle.scene.specs.Outcomes.{Bounds, IsRunOf};
 ghost use Rattle.scene_laws.specs.OneOutcome.{OneOutcome, HadMeans, SameButPlace};
 
-use scene_rules::Rules;
+use scene_rules::DocumentRules;
 
 /// Where each system allows one outcome of what it may be lent, told by what it writes, a document that can begin has one: two
 /// runs of it, in which no frame is refused for want of memory or of a thread or at a limit of the world's entities, have the same
 /// report and reach the same scene.
-pub fn one_outcome<R: Rules>(rules: &R)
+pub fn one_outcome<R: DocumentRules>(rules: &R)
     ensures report { (limit : ℕ) (draft : Draft) (one other : Report) (scene after : PlainScene)
         → OneOutcome (R.book rules.now) → CanBegin (R.book rules.now) draft → HadMeans one → HadMeans other
         → Ran (R.book rules.now) limit draft one scene → Ran (R.book rules.now) limit draft other after
@@ -27,7 +27,7 @@ pub fn one_outcome<R: Rules>(rules: &R)
 /// Where each system allows one outcome, neither the workers nor the store that a document names change what its run
 /// answers: the runs of two documents that differ in those alone, in which no frame is refused for want of memory or of a thread
 /// or at a limit of the world's entities, have the same report and the same text.
-pub fn workers_and_store_change_nothing<R: Rules>(rules: &R)
+pub fn workers_and_store_change_nothing<R: DocumentRules>(rules: &R)
     ensures report { (bounds : Bounds) (input other : List ℕ) (one two : Draft) (first second : Report)
         (text more : List ℕ) → OneOutcome (R.book rules.now) → HadMeans first → HadMeans second
         → document_of (R.book rules.now) bounds.indices input ≡ Ok one

@@ -11,12 +11,12 @@ ghost use Rattle.scene.specs.Runs.{CanBegin, Ran};
 ghost use Rattle.scene_laws.specs.OneOutcome.{OneOutcome, HadMeans};
 ghost use Rattle.scene_laws.specs.Parts.{frames_behind, later_skips, joined, IsInTwoParts};
 
-use scene_rules::Rules;
+use scene_rules::DocumentRules;
 
 /// Frames and then more of them are the frames together; so a document whose first frames are all accepted, and whose
 /// rest begins with the scene that those reached, leads where the whole leads, with the same report, where each system
 /// allows one outcome and no run ends in a want of memory or of a thread or at a limit of the world's entities.
-pub fn frames_in_two_parts<R: Rules>(rules: &R)
+pub fn frames_in_two_parts<R: DocumentRules>(rules: &R)
     ensures chain { (limit : ℕ) (frames : ℕ → PlainFrame) (count more : ℕ) (scene mid after : PlainScene)
         (skips rest : List Skip) → Reaches (R.book rules.now) limit frames count scene mid skips
         → Reaches (R.book rules.now) limit (frames_behind count frames) more mid after rest

@@ -8,16 +8,18 @@ ghost use Rattle.scene_document.specs.Openings.{first_scene};
 ghost use Rattle.scene_draft.specs.Texts.{scene_json, text_of, ReadsBack};
 ghost use Rattle.scene.specs.Limits.{AreLimits};
 ghost use Rattle.scene.specs.Outcomes.{IsNoDocument, bounds_of};
-ghost use Rattle.scene.specs.Turns.{shown_of, rules_of, IsReady};
+ghost use Rattle.scene_turns.specs.Places.{kinds_of};
+ghost use Rattle.scene_turns.specs.Turns.{placed_as};
+ghost use Rattle.scene.specs.Running.{shown_of, rules_of, IsReady};
 ghost use Rattle.scene_laws.specs.Printed.{ReadsAlike, CanBeRead, CanBeLoaded, document_json, HasCourse};
 
-use scene::{Limits, LoadError, Rules, Scene};
+use scene::{DocumentRules, Limits, LoadError, Rules, Scene, SceneValue};
 use std::alloc::Global;
 
 /// The JSON of a sound scene has the shape of a document, and the scene that this document gives is the scene; where no
 /// float is written and references live, and there are not too many entities, no refusal of the document stands. So is it
 /// with systems, frames and commands put in. A text that was printed for a scene, and that is a document, gives the scene.
-pub fn a_printed_scene_is_read_again<R: Rules>(rules: &R)
+pub fn a_printed_scene_is_read_again<R: DocumentRules>(rules: &R)
     ensures read { (scene : PlainScene) → CanBeRead (R.book rules.now) scene → (draft : Draft)
         × (draft_from (R.book rules.now) (scene_json (R.book rules.now) scene) ≡ Some draft)
         × (first_scene draft ≡ scene) }
@@ -38,9 +40,15 @@ pub fn a_printed_scene_is_read_again<R: Rules>(rules: &R)
 
 /// A scene that can run can be read again from what is printed for it.
 pub fn a_ready_scene_can_be_read<R: Rules + Drop>(scene: &Scene<R>)
-    requires { IsReady R.part_of R.global_of R.kind_of R.config_of R.book scene.now }
+where
+    R::Value: Drop,
+    requires { IsReady (kinds_of ⟦<R::Value as SceneValue<R::Data>>⟧.places R.part_of R.columns)
+        R.part_of R.global_of (placed_as (λ placed. placed.position) (λ placed. placed.system) R.kind_of R.config_of
+        R.declared R.sense R.does) R.book scene.now }
     ensures { CanBeRead (R.book (rules_of scene.now))
-        (shown_of R.part_of R.global_of R.kind_of R.config_of R.book scene.now).scene }
+        (shown_of (kinds_of ⟦<R::Value as SceneValue<R::Data>>⟧.places R.part_of R.columns)
+        R.part_of R.global_of (placed_as (λ placed. placed.position) (λ placed. placed.system) R.kind_of R.config_of
+        R.declared R.sense R.does) R.book scene.now).scene }
 {}
 
 /// Prints a scene, reads the text and loads it under rules that read documents as the scene's do: what is loaded is the scene,
@@ -56,16 +64,28 @@ pub fn print_and_load<R: Rules + Drop>(
     rules: R,
     limits: Limits,
 ) -> Result<Scene<R>, LoadError>
-    requires ready { IsReady R.part_of R.global_of R.kind_of R.config_of R.book scene.now }
+where
+    R::Value: Drop,
+    requires ready { IsReady (kinds_of ⟦<R::Value as SceneValue<R::Data>>⟧.places R.part_of R.columns)
+        R.part_of R.global_of (placed_as (λ placed. placed.position) (λ placed. placed.system) R.kind_of R.config_of
+        R.declared R.sense R.does) R.book scene.now }
     requires book { ReadsAlike (R.book rules) (R.book (rules_of scene.now)) }
     requires limits { AreLimits limits }
-    ensures same { IfOk result (λ again. (shown_of R.part_of R.global_of R.kind_of R.config_of R.book again).scene
-        ≡ (shown_of R.part_of R.global_of R.kind_of R.config_of R.book scene.now).scene) }
-    ensures ready { IfOk result (λ again. IsReady R.part_of R.global_of R.kind_of R.config_of R.book again) }
+    ensures same { IfOk result (λ again. (shown_of (kinds_of ⟦<R::Value as SceneValue<R::Data>>⟧.places R.part_of R.columns)
+        R.part_of R.global_of (placed_as (λ placed. placed.position) (λ placed. placed.system) R.kind_of R.config_of
+        R.declared R.sense R.does) R.book again).scene
+        ≡ (shown_of (kinds_of ⟦<R::Value as SceneValue<R::Data>>⟧.places R.part_of R.columns)
+        R.part_of R.global_of (placed_as (λ placed. placed.position) (λ placed. placed.system) R.kind_of R.config_of
+        R.declared R.sense R.does) R.book scene.now).scene) }
+    ensures ready { IfOk result (λ again. IsReady (kinds_of ⟦<R::Value as SceneValue<R::Data>>⟧.places R.part_of R.columns)
+        R.part_of R.global_of (placed_as (λ placed. placed.position) (λ placed. placed.system) R.kind_of R.config_of
+        R.declared R.sense R.does) R.book again) }
     ensures rules { IfOk result (λ again. rules_of again ≡ rules) }
     ensures err { IfErr result (IsNoDocument (R.book (rules_of scene.now)) (bounds_of limits)
         (text_of (R.book (rules_of scene.now))
-        (shown_of R.part_of R.global_of R.kind_of R.config_of R.book scene.now).scene)) }
+        (shown_of (kinds_of ⟦<R::Value as SceneValue<R::Data>>⟧.places R.part_of R.columns)
+        R.part_of R.global_of (placed_as (λ placed. placed.position) (λ placed. placed.system) R.kind_of R.config_of
+        R.declared R.sense R.does) R.book scene.now).scene)) }
 {
     let text = match scene.snapshot(alloc) {
         Ok(text) => text,

@@ -5,11 +5,11 @@ ghost use Rattle.scene_rules.specs.declared.refusals.Skip.{Skip};
 ghost use Rattle.scene_rules.specs.Frames.{Accepts, Reaches};
 ghost use Rattle.scene_laws.specs.References.{RefsLiveUnder, StandUnder};
 
-use scene_rules::Rules;
+use scene_rules::DocumentRules;
 
 /// No accepted frame leaves a reference to an entity that is gone, under any kind of the rules; where parts stand under the
 /// rules' kinds alone, that is each reference.
-pub fn references_live<R: Rules>(rules: &R)
+pub fn references_live<R: DocumentRules>(rules: &R)
     ensures frame { (limit : ℕ) (frame : PlainFrame) (scene after : PlainScene) (places : List ℕ)
         → RefsLiveUnder (R.book rules.now).part_names scene.ids scene.part
         → Accepts (R.book rules.now) limit frame scene after places

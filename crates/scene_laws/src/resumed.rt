@@ -8,10 +8,13 @@ ghost use Rattle.scene_laws.specs.OneOutcome.{OneOutcome, HadMeans};
 ghost use Rattle.scene_laws.specs.Printed.{with_course};
 ghost use Rattle.scene_laws.specs.Resumed.{IsFinished, GoesOn};
 
+use crate::printed::a_ready_scene_can_be_read;
 use scene::{DocRefusal, FrameRefusal, Limits, LoadError, Report, Rules, Scene, run_to_end};
 use scene_draft::{JsonError, read_json};
 use serde_json::{Value, put};
 use std::alloc::{AllocError, Global};
+use std::sync::Wait;
+use std::thread::Threads;
 
 /// What a document asks for beside its scene: `systems`, `frames` and `commands`, as they stand in its JSON.
 #[derive(Drop)]
@@ -69,12 +72,17 @@ fn had_means(report: &Report) -> bool
 /// Runs the document that a JSON is to its end.
 ///
 /// Errors: `Load`, where it is none; `Means`, where a frame was refused for a cause that is not of the scene; `Memory`.
-fn finish<R: Rules + Drop, H: AllocGlobal>(
+fn finish<R: Rules + Drop + Send + Sync, H: AllocGlobal + Threads + Wait + Sync>(
     rt: &H,
     rules: R,
     limits: Limits,
     document: &Value,
 ) -> Result<Finished<R>, ResumeError>
+where
+    R::Value: Drop + Send + Sync,
+    R::Data: Send + Sync,
+    R::Global: Send + Sync,
+    R::System: Send + Sync,
     requires { AreLimits limits }
     ensures rules { IfOk result (λ done. done.rules ≡ rules) }
     ensures done { IfOk result (λ done. IsFinished (R.book rules) limits (view document.now) done.report done.text.items) }
@@ -84,6 +92,7 @@ fn finish<R: Rules + Drop, H: AllocGlobal>(
         Err(error) => return Err(ResumeError::Load(error)),
     };
     run_to_end(rt, &mut scene);
+    a_ready_scene_can_be_read(&scene);
     let text = scene.snapshot(rt.alloc())?;
     let (rules, report) = scene.into_parts();
     if !had_means(&report) {
@@ -142,7 +151,7 @@ fn read_back(alloc: Global, text: &[u8]) -> Result<Value, ResumeError>
 /// Errors: `Load`, with the least refusal that stands of the first of the three documents that is none; `Means`, where a frame is
 /// refused for want of memory or of a thread, or at a limit of the world's entities; `Refused`, where a frame of the first part is
 /// refused otherwise; `Memory`.
-pub fn run_in_parts<R: Rules + Drop, H: AllocGlobal>(
+pub fn run_in_parts<R: Rules + Drop + Send + Sync, H: AllocGlobal + Threads + Wait + Sync>(
     rt: &H,
     rules: R,
     limits: Limits,
@@ -150,6 +159,11 @@ pub fn run_in_parts<R: Rules + Drop, H: AllocGlobal>(
     first: &Value,
     rest: Course,
 ) -> Result<(Vec<u8>, Vec<u8>), ResumeError>
+where
+    R::Value: Drop + Send + Sync,
+    R::Data: Send + Sync,
+    R::Global: Send + Sync,
+    R::System: Send + Sync,
     requires { AreLimits limits }
     ensures whole { IfOk result (λ texts. (report : Report) × IsFinished (R.book rules) limits (view whole.now) report texts.0.items) }
     ensures same { IfOk result (λ texts. OneOutcome (R.book rules)

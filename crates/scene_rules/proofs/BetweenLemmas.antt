@@ -6,17 +6,14 @@ use Rattle.std.proofs.lemmas.Bool.{false≢true, and_parts, or_parts}
 use Rattle.std.proofs.lemmas.Bool.Decides.{Decides-eqb}
 use Rattle.std.proofs.lemmas.Option.{none-some, same_Some}
 use Rattle.std.proofs.lemmas.Slice.Eq.{bytes_eq-Decides}
-use Rattle.std.proofs.lemmas.List.{append-nil}
 use Rattle.std.proofs.lemmas.List.Elements.{All-head, All-tail}
 use Rattle.serde_json.specs.Data.{null}
 use Rattle.scene_rules.specs.Parts.{Name, Ref, living, gone, Part, is_among, under}
 use Rattle.scene_rules.specs.Rulebook.{Book, Command, spawn, kill, put, take}
 use Rattle.scene_rules.specs.Lawful.{IsKnownPart, IsLawful}
 use Rattle.scene_rules.specs.Scenes.{PlainScene, IsProper, PartsStand, PartsOwned, PartsAdmitted, GlobalsReadable, lives}
-use Rattle.scene_rules.specs.Commands.{apply, changed, played, play, is_to, without_ref, part_without, is_gone, holds_gone, first_gone, refs_live}
-use Rattle.scene_rules.specs.Leads.{CommandsLead}
-use Rattle.scene_rules.proofs.LeadLemmas.{behind_all-played}
-use Rattle.scene_rules.proofs.MadeLemmas.{spawn-makes, tested-makes, play-keeps, lives-last, lives-longer, lives-passed}
+use Rattle.scene_rules.specs.Commands.{apply, changed, is_to, without_ref, part_without, is_gone, holds_gone, first_gone, refs_live}
+use Rattle.scene_rules.proofs.MadeLemmas.{spawn-makes, tested-makes, lives-last, lives-longer, lives-passed}
 
 -- what no element passes, none of them passes
 pub find-none : {X : Type 0} (test : X → Bool) (xs : List X) → find test xs ≡ None → list_any test xs ≡ false

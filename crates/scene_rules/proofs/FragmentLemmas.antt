@@ -1,21 +1,11 @@
 -- Lemmas on what a system is lent, and on the scene after it was put back.
-use Rattle.std.proofs.Common.{◌≡◌, ℕ, Bool, true, false, cond, List, Option, Some, None, option_map, option_and_then, refl, sym, ◌∙◌, ap, subst, length}
-use Rattle.std.specs.List.{slice_get, All}
-use Rattle.std.specs.BTreeMap.{BTreeMap}
+use Rattle.std.proofs.Common.{◌≡◌, ℕ, Bool, true, false, cond, Option, Some, None, refl}
+use Rattle.std.specs.List.{All}
 use Rattle.std.proofs.Math.Path.{fun_ext}
-use Rattle.scene_rules.specs.Parts.{Json, Name, Part, is_among, place_of}
-use Rattle.scene_rules.specs.Rulebook.{Access, declares, declares_global, Fragment, Book, refuses, fills, Command}
+use Rattle.scene_rules.specs.Parts.{Json, Name, is_among}
+use Rattle.scene_rules.specs.Rulebook.{Access, declares, declares_global, Fragment, Book}
 use Rattle.std.proofs.lemmas.Option.{none-some}
-use Rattle.scene_rules.specs.Scenes.{PlainScene, PlainSystem, fragment, with_left, PartsAdmitted, PartsOwned, GlobalsReadable, RefsLive, RefLives, lives}
-use Rattle.std.specs.String.{string_bytes}
-use Rattle.scene_rules.specs.declared.view.Columns.{Columns}
-use Rattle.scene_rules.specs.declared.rules.Stop.{Stop}
-use Rattle.scene_rules.specs.declared.rules.Stop.TheVariants as stops
-use Rattle.scene_rules.specs.Laws.{IsStopOf}
-use Rattle.scene_rules.specs.Declaring.{datum, value}
-use Rattle.scene_rules.specs.Slots.{in_column, filled, HoldsOnly}
-use Rattle.scene_rules.specs.Lending.{LendsColumns, LendsGlobals, PutsBack, scene_in, told_as, StepIsRefused}
-use Rattle.scene_rules.proofs.NameLemmas.{place_of-bound, place_of-name}
+use Rattle.scene_rules.specs.Scenes.{PlainScene, fragment, with_left, PartsAdmitted, GlobalsReadable, RefsLive, RefLives}
 
 -- one of two, either way the same
 pub cond_same : {X : Type 0} (b : Bool) (x : X) → cond b x x ≡ x

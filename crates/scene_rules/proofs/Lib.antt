@@ -1,5 +1,4 @@
 pub mod NameLemmas
-pub mod ColumnsLemmas
 pub mod FragmentLemmas
 pub mod OrderLemmas
 pub mod LeadLemmas

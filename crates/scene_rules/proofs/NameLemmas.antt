@@ -1,10 +1,10 @@
 -- Lemmas on names and their places in a list.
-use Rattle.std.proofs.Common.{◌≡◌, ◌≤◌, ◌<◌, ℕ, suc, ◌+◌, Bool, true, false, ◌||◌, cond, length, List, [], ◌∷◌, map, Some, refl, sym, ◌∙◌, ap, arith}
+use Rattle.std.proofs.Common.{◌≡◌, ◌<◌, ℕ, suc, ◌+◌, Bool, true, false, cond, length, List, [], ◌∷◌, map, Some, refl, ap, arith}
 use Rattle.std.proofs.lemmas.Option.{none-some, same_Some}
 use Rattle.std.proofs.lemmas.Slice.Eq.{bytes_eq-Decides}
 use Rattle.std.specs.Str.{bytes_eq}
-use Rattle.std.specs.List.{position_from, list_any, slice_index_or}
-use Rattle.scene_rules.specs.Parts.{is_among, place_of, name_at}
+use Rattle.std.specs.List.{position_from, slice_index_or}
+use Rattle.scene_rules.specs.Parts.{place_of, name_at}
 
 -- a place is found in a mapped list where it is found in the list
 pub position_from-map : {X Y : Type 0} (f : X → Y) (p : Y → Bool) (i : ℕ) (xs : List X) → position_from p i (map f xs) ≡ position_from (λ x. p (f x)) i xs

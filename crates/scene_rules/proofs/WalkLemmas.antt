@@ -1,12 +1,7 @@
 -- Lemmas on walks over lists: one step, and the end.
-use Rattle.std.proofs.Common.{◌≡◌, ◌<◌, ◌+◌, ℕ, ◌||◌, Bool, true, false, cond, List, [], ◌∷◌, ◌++◌, Some, None, refl, sym, ◌∙◌, ap, subst, length, get_or, map, take, drop, All, zero, suc, arith}
-use Rattle.std.proofs.lemmas.Bool.{false≢true}
+use Rattle.std.proofs.Common.{◌≡◌, ◌<◌, ◌+◌, ℕ, List, [], ◌∷◌, ◌++◌, refl, sym, ◌∙◌, ap, subst, length, get_or, map, take, drop, All, zero, suc, arith}
 use Rattle.std.proofs.Math.ListN.{get_or-map}
 use Rattle.std.proofs.lemmas.List.{at_drop_more, length-map, take-append-drop, map-append, map_more}
-use Rattle.std.specs.List.{list_any, list_all, find, filter}
-use Rattle.std.proofs.lemmas.List.Folds.{list_all_at, flat_map-map}
-use Rattle.std.proofs.lemmas.Grind.{flat_map-append}
-use Rattle.std.specs.List.{flat_map}
 
 module _ {X Y : Type 0} (f : X → Y) (xs : List X) (k : ℕ) (e : X) (below : k < length xs) (is : e ≡ get_or xs k e) where
   -- what stands at a place of a mapped list

@@ -5,7 +5,7 @@ use Rattle.std.specs.Ordering.{nat_cmp}
 use Rattle.std.specs.declared.cmp.Ordering.TheVariants.{Less}
 use Rattle.scene_rules.specs.declared.reading.ReadError.{ReadError}
 use Rattle.scene_rules.specs.declared.reading.ReadError.TheVariants.{Shape}
-use Rattle.scene_rules.specs.Parts.{Json, Name, Ref, living, Part, is_among}
+use Rattle.scene_rules.specs.Parts.{Json, Name, Ref, living, is_among}
 use Rattle.scene_rules.specs.Rulebook.{Book, Facts, Described, unknown, known, Access}
 
 -- names ascend by their bytes, and so stand once each

@@ -1,4 +1,6 @@
 //! Why something of a document is not read.
+ghost use Rattle.std.specs.Prelude.{◌≡◌};
+
 use std::alloc::{AllocError, AllocFailed};
 
 /// Why something of a document is not read by the rules.

@@ -5,11 +5,9 @@ use Rattle.std.proofs.lemmas.Option.{none-some, same_Some}
 use Rattle.std.proofs.lemmas.Bool.{false≢true}
 use Rattle.std.proofs.lemmas.Slice.Eq.{bytes_eq-Decides}
 use Rattle.std.proofs.lemmas.Bool.Decides.{Decides-eqb}
-use Rattle.scene_rules.specs.declared.view.PlainView.{PlainView}
 use Rattle.scene_rules.specs.Parts.{Json, Name, Part}
 use Rattle.scene_rules.specs.Rulebook.{Fragment}
 use Rattle.scene_rules.specs.Scenes.{lives, PartsAdmitted, GlobalsReadable}
-use Rattle.scene_rules.specs.Declaring.{shown, held}
 use Rattle.scene_basics.specs.declared.data.Datum.{Datum}
 use Rattle.scene_basics.specs.Names.{hp_kind, g_name}
 use Rattle.scene_basics.specs.Numbers.{part_of, json_of}

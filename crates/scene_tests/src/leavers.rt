@@ -7,7 +7,6 @@ ghost use Rattle.serde_json.specs.View.{view};
 ghost use Rattle.scene_rules.specs.Laws.{IsMaking};
 ghost use Rattle.scene_rules.specs.Rulebook.{misshapen};
 ghost use Rattle.scene_rules.specs.Parts.{Name, is_among, place_of};
-ghost use Rattle.scene_rules.specs.Declaring.{declared_by, globals, held_global, kinds, SameLoan};
 ghost use Rattle.scene_basics.specs.Names.{hp_kind, g_name};
 ghost use Rattle.scene_basics.specs.Numbers.{part_of, json_of};
 ghost use Rattle.scene_basics.specs.Gains.{fragment_of};

@@ -6,3 +6,4 @@ pub mod Putting
 pub mod Turns
 pub mod Chains
 pub mod Writes
+pub mod Stops

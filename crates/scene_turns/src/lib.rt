@@ -4,8 +4,10 @@
 pub mod laws;
 mod placed;
 mod rules;
+mod stops;
 mod value;
 
 pub use placed::Placed;
 pub use rules::Rules;
+pub use stops::stop_for;
 pub use value::{QueueValue, SceneValue};

@@ -8,7 +8,7 @@ use Rattle.scene_basics.specs.Numbers.{part_of}
 use Rattle.scene_basics.specs.Asks.{asked_for, IsNotAsked}
 use Rattle.scene_basics.specs.Asked.{lent_for}
 use Rattle.scene_basics.proofs.AskLemmas.{asked-next, stopped}
-use Rattle.scene_basics.proofs.AskedLemmas.{lent-ids, stops-asking}
+use Rattle.scene_basics.proofs.AskedLemmas.{lent-ids}
 use Rattle.scene_basics.proofs.asking.ask_all.Goals as goal
 
 pub loop-place-preserved : goal.loop-place-preserved
@@ -33,10 +33,8 @@ returns-in-Err g c =
     let before : List Command = plain_commands part_of (waiting c.loop-place.queue) in
     let after : List Command = plain_commands part_of (waiting c.ask_for.new.queue) in
     let ids : c.as_slice-ids.result.now ≡ old.ids = c.as_slice-ids.ensures.value ∙ c.in-Ok.ensures ∙ sym (lent-ids c.args.ask (g.W.Holder.slots c.args.view.now)) in
-    stops-asking c.args.ask old after c.in-Err.stop c.staged.result
-    (stopped c.args.ask old c.loop-place.place before after c.in-Err.stop
+    stopped c.args.ask old c.loop-place.place before after c.in-Err.stop
     (subst (λ (xs : List ℕ). c.loop-place.place < length xs) ids c.loop-place-test.true)
     (subst (λ (xs : List ℕ). before ≡ filter_map (asked_for c.args.ask old) (take c.loop-place.place xs)) ids c.loop-place.invariant)
     (subst (λ (xs : List ℕ). IsNotAsked (asked_for c.args.ask old (get_or xs c.loop-place.place 0)) before after c.in-Err.stop) ids
-    (subst (λ one. IsNotAsked one before after c.in-Err.stop) c.in-Ok-command_of.ensures c.in-Err.ensures.err)))
-    c.staged.ensures
+    (subst (λ one. IsNotAsked one before after c.in-Err.stop) c.in-Ok-command_of.ensures c.in-Err.ensures.err))

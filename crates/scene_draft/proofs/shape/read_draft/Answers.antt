@@ -1,9 +1,9 @@
-use Rattle.std.proofs.Common.{None, ◌≡◌, codes, ap, ◌∙◌, [], Some, Err, Option, map, length, option_map, option_and_then, sym, subst, arith}
+use Rattle.std.proofs.Common.{None, ◌≡◌, codes, ap, ◌∙◌, [], Some, Err, Option, map, length, option_and_then, sym, subst, arith}
 use Rattle.std.specs.List.{All}
 use Rattle.serde_json.specs.Find.{get, as_str}
 use Rattle.serde_json.specs.View.{view, members_view}
-use Rattle.scene_rules.specs.Parts.{Json, is_among}
-use Rattle.scene_draft.specs.Drafts.{read_or, whole, whole_32, entities_from, globals_from, entries_from, commands_from, stores, draft_from}
+use Rattle.scene_rules.specs.Parts.{Json}
+use Rattle.scene_draft.specs.Drafts.{read_or, whole, whole_32, entities_from, globals_from, entries_from, commands_from, draft_from}
 use Rattle.scene_draft.specs.DraftViews.{named, plain_entity, plain_draft, plain_list, IsPlaced}
 use Rattle.scene_draft.specs.ShapeWords.{IsEntity, IsEntry, IsAsked, draft_in}
 use Rattle.scene_draft.proofs.ShapeLemmas.{draft_from-in, no_entries, no_frames, no_commands, no_workers, no_store, draft_made}

@@ -1,7 +1,6 @@
 use Rattle.std.proofs.Common.{◌≡◌, ◌∙◌, ap, cond, eqb, ◌&&◌, None, take, get_or}
 use Rattle.std.proofs.lemmas.List.{take_all}
 use Rattle.std.specs.Str.{bytes_eq}
-use Rattle.scene_rules.specs.Declaring.{shown, held}
 use Rattle.scene_basics.specs.Names.{hp_kind}
 use Rattle.scene_tests.proofs.LeaverLemmas.{without, without-more, HpGone-after}
 use Rattle.scene_tests.proofs.leavers.take_hp.Goals as goal

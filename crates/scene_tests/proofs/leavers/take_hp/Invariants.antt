@@ -1,5 +1,4 @@
 use Rattle.std.proofs.Common.{◌≡◌, ℕ, List, take}
-use Rattle.scene_rules.specs.Declaring.{held, held_global, SameLoan}
 use Rattle.scene_tests.proofs.LeaverLemmas.{without}
 use Rattle.scene_tests.proofs.leavers.take_hp.Given as goal
 
