@@ -23,7 +23,8 @@ pub type FetchMut<'a, R> = &'a mut R;
 /// The resources: a finite map from ids to values of the caller's type.
 ///
 /// A value that is taken out for a while leaves its slot behind, so that it is put back without memory. A slot is found
-/// in the logarithm of their number; a new one costs the moves of those with greater ids.
+/// in the logarithm of their number, and at once where the world holds one resource of each lesser kind; a new one
+/// costs the moves of those with greater ids.
 pub struct World<V> {
     slots: Vec<(ResourceId, Option<V>)>,
 }
@@ -555,12 +556,17 @@ impl<V> World<V> {
     }
 }
 
-/// Where the slot of `id` stands, or would stand.
+/// Where the slot of `id` stands, or would stand. The place that is its kind's number is looked at first: in a world
+/// that holds each lesser kind under one number the slot stands there.
 fn place_of<V>(slots: &[(ResourceId, Option<V>)], id: ResourceId) -> Result<usize, usize>
     requires sorted { AreSorted slots.now }
     ensures found { IfOk result (IsPlaceOf slots.now id) }
     ensures absent { IfErr result (IsGapFor slots.now id) }
 {
+    let likely = id.kind as usize;
+    if likely < slots.len() && slots[likely].0 == id {
+        return Ok(likely);
+    }
     slots.binary_search_by_key(&id, |slot| slot.0)
 }
 

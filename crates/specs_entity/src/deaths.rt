@@ -43,7 +43,8 @@ impl EntitiesRes {
         }
     }
 
-    /// Tests whether all entities of a list can die at once: then `kill` of it isn't refused. Takes no memory.
+    /// Tests whether all entities of a list can die at once: then `kill` of it isn't refused, and `bury_each` may be
+    /// called. Takes no memory.
     ///
     /// Errors: `WrongGeneration` with the first entity of the list that isn't alive or stands in it before.
     pub fn test_kill(&mut self, entities: &[Entity]) -> Result<(), Error>
@@ -57,10 +58,12 @@ impl EntitiesRes {
         }
     }
 
-    /// Buries the entities of a list, in its order.
-    fn bury_each(&mut self, entities: &[Entity])
-        requires { CanKill (living self.old) entities.now }
+    /// Lets all entities of a list die that `test_kill` accepted, in its order: what `kill` does after its test. Takes
+    /// no memory.
+    pub fn bury_each(&mut self, entities: &[Entity])
+        requires killable { CanKill (living self.old) entities.now }
         ensures value { self.new ≡ all_buried self.old (indices_of entities.now) }
+        ensures lives { LivesBut (is_named entities.now) self.old self.new }
         ensures continues { Continues self.old self.new }
     {
         for entity in entities {

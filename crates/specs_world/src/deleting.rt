@@ -40,7 +40,7 @@ fn kill_with_parts<V: AnyStorage>(
 {
     births.test_kill(entities)?;
     make_room_in(world, kinds, entities.len())?;
-    births.kill(entities)?;
+    births.bury_each(entities);
     drop_in(world, kinds, entities);
     Ok(())
 }

@@ -8,14 +8,13 @@ ghost use Rattle.specs_entity.specs.declared.errors.WrongGeneration.{WrongGenera
 ghost use Rattle.specs_entity.specs.declared.errors.Error.TheVariants as refusal;
 ghost use Rattle.specs_storage.specs.Found.{IsRefusal};
 ghost use Rattle.specs_world.specs.Resources.{held, place, Becomes};
-ghost use Rattle.specs_world.specs.Inserting.{IsPut, Keeps};
+ghost use Rattle.specs_world.specs.Inserting.{IsPut, KeepsStorage};
 
 use crate::held::Held;
 use hibitset::Index;
 use shred_world::{Resource, World};
 use specs_entity::{EntitiesRes, Entity, Error, WrongGeneration};
 use specs_layouts::{Component, MaskedStorage, UnprotectedStorage};
-use std::alloc::AllocFailed;
 
 /// Tests whether an entity of a world is alive.
 pub(crate) fn test_alive<V>(world: &World<V>, entity: Entity) -> Result<(), Error>
@@ -46,23 +45,28 @@ where
     }
 }
 
-/// Puts a part at an index of a storage that is there.
+/// Puts a part at an index of the storage of its kind.
+///
+/// Errors: `NotRegistered`, exactly where the world has no such storage; `Memory`. Both hand `part` back, and each index has the
+/// part that it had.
 pub(crate) fn put_part<V, T: Component>(
     world: &mut World<V>,
     id: Index,
     part: T,
-) -> Result<Option<T>, AllocFailed<T>>
+) -> Result<Option<T>, (Error, T)>
 where
     MaskedStorage<T>: Resource<V>,
-    requires there { IsSome (held ⟦<MaskedStorage<T> as Held<V>>⟧.stands_at world.old) }
     requires range { id < 16777216 }
     ensures ok { IfOk result (λ had. Becomes
         ⟦<MaskedStorage<T> as Held<V>>⟧.stands_at
         (IsPut T.Storage.part_at T.Storage.events T.Storage.emits id part had) world.old world.new) }
-    ensures err { OnErr result (Becomes
+    ensures err { OnErr result (KeepsStorage
         ⟦<MaskedStorage<T> as Held<V>>⟧.stands_at
-        (Keeps T.Storage.part_at T.Storage.events T.Storage.emits) world.old world.new) }
-    ensures handed_back { IfErr result (λ refused. refused.value ≡ part) }
+        T.Storage.part_at T.Storage.events T.Storage.emits world.old world.new) }
+    ensures handed_back { IfErr result (λ refused. refused.1 ≡ part) }
+    ensures refused { IfErr result (λ refused. MatchOption
+        (held ⟦<MaskedStorage<T> as Held<V>>⟧.stands_at world.old)
+        (refused.0 ≡ refusal.NotRegistered) (λ _. refused.0 ≡ refusal.Memory)) }
     ensures succeeds { MatchOption (held ⟦<MaskedStorage<T> as Held<V>>⟧.stands_at world.old) ⊥
         (λ storage. IsSome (T.Storage.part_at storage.inner id) × (T.Storage.emits storage.inner ≡ false))
         → IsOk result }
@@ -70,8 +74,8 @@ where
     match world.get_mut::<MaskedStorage<T>>() {
         Some(storage) => match storage.insert(id, part) {
             Ok(had) => Ok(had),
-            Err(refused) => Err(refused),
+            Err(refused) => Err((Error::Memory, refused.value)),
         },
-        None => unreachable!(),
+        None => Err((Error::NotRegistered, part)),
     }
 }

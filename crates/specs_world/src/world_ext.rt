@@ -391,15 +391,15 @@ where
     where
         MaskedStorage<T>: Resource<V>,
     {
-        if self.try_fetch::<MaskedStorage<T>>().is_none() {
-            return Err((Error::NotRegistered, part));
-        }
         match test_alive(self, entity) {
-            Ok(()) => match put_part::<V, T>(self, entity.id(), part) {
-                Ok(had) => Ok(had),
-                Err(refused) => Err((Error::Memory, refused.value)),
-            },
-            Err(error) => Err((error, part)),
+            Ok(()) => put_part::<V, T>(self, entity.id(), part),
+            Err(error) => {
+                if self.try_fetch::<MaskedStorage<T>>().is_some() {
+                    Err((error, part))
+                } else {
+                    Err((Error::NotRegistered, part))
+                }
+            }
         }
     }
 

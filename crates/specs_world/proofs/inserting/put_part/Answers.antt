@@ -1,3 +1,4 @@
+use Rattle.std.proofs.Common.{inr}
 use Rattle.shred_world.specs.ResourceIds.{id_of}
 use Rattle.specs_world.specs.Inserting.{IsPut, Keeps}
 use Rattle.specs_world.proofs.ResourceLemmas.{lent-becomes}
@@ -13,6 +14,6 @@ returns-in-Ok-clause-ok g c =
 pub returns-in-Err-clause-err : goal.returns-in-Err-clause-err
 returns-in-Err-clause-err g c =
     let storage = g.T.Storage.UnprotectedStorage in
-    lent-becomes g.bound-4.part g.bound-4.wrapped c.args.world.now _ (id_of g.bound-4.kind_number 0) c.get_mut.result c.in-Some.storage c.insert.new.self c.in-Some.is c.get_mut.ensures.value
+    inr (lent-becomes g.bound-4.part g.bound-4.wrapped c.args.world.now _ (id_of g.bound-4.kind_number 0) c.get_mut.result c.in-Some.storage c.insert.new.self c.in-Some.is c.get_mut.ensures.value
     (c.get_mut.follows.holds c.insert.new.self) (Keeps storage.part_at storage.events storage.emits)
-    (record { parts = c.in-Err.ensures.err; told = c.in-Err.ensures.silent; emission = c.in-Err.ensures.emission })
+    (record { parts = c.in-Err.ensures.err; told = c.in-Err.ensures.silent; emission = c.in-Err.ensures.emission }))

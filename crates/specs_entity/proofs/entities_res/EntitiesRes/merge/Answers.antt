@@ -10,8 +10,8 @@ use Rattle.specs_entity.proofs.entities_res.EntitiesRes.merge.Goals as goal
 
 pub bury_each-requires : goal.bury_each-requires
 bury_each-requires c =
-    subst (CanKill (living c.settle_all.new.self)) (sym c.deref.ensures.value)
-    (CanKill-same (living c.args.self.now) (living c.settle_all.new.self) c.in_ok-deleted.deleted.items c.settle_all.ensures.lives c.in_ok-deleted.ensures.killable)
+    let listed = CanKill-same (living c.args.self.now) (living c.settle_all.new.self) c.in_ok-deleted.deleted.items c.settle_all.ensures.lives c.in_ok-deleted.ensures.killable in
+    record { killable = subst (CanKill (living c.settle_all.new.self)) (sym c.deref.ensures.value) listed }
 
 pub returns-clause-ok : goal.returns-clause-ok
 returns-clause-ok c =

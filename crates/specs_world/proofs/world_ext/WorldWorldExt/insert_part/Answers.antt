@@ -1,16 +1,19 @@
 use Rattle.std.proofs.Common.{subst}
+use Rattle.std.proofs.lemmas.Result.{IfOk-weaker}
 use Rattle.specs_world.specs.Resources.{place, Becomes}
 use Rattle.specs_world.specs.Inserting.{IsPut}
 use Rattle.specs_world.proofs.world_ext.WorldWorldExt.insert_part.Goals as goal
 
-pub returns-in-Ok-put_part-clause-ok : goal.returns-in-Ok-put_part-clause-ok
-returns-in-Ok-put_part-clause-ok g c =
+pub returns-in-Ok-clause-ok : goal.returns-in-Ok-clause-ok
+returns-in-Ok-clause-ok g c =
     let storage = g.T.Storage.UnprotectedStorage in
-    record {
+    IfOk-weaker c.put_part.result _ _
+    (λ had put. record {
       alive = c.in-Ok.ensures.alive;
       puts =
           subst
           (λ index. Becomes (place g.bound-8.part g.bound-8.wrapped g.bound-8.kind_number)
-          (IsPut storage.part_at storage.events storage.emits index c.args.part c.in-Ok-put_part.had) c.args.self.now c.put_part.new.world)
-          c.id.ensures c.in-Ok-put_part.ensures.ok;
-    }
+          (IsPut storage.part_at storage.events storage.emits index c.args.part had) c.args.self.now c.put_part.new.world)
+          c.id.ensures put;
+    })
+    c.put_part.ensures.ok
