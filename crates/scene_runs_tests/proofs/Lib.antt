@@ -1,2 +1,4 @@
 pub mod AloneLemmas
+pub mod RestLemmas
 pub mod WatchLemmas
+pub mod GateLemmas

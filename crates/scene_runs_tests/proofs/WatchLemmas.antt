@@ -1,5 +1,5 @@
--- The turns of the three systems are ones that the rules allow.
-use Rattle.std.proofs.Common.{◌≡◌, List, [], Option, Some, None, refl, sym, subst}
+-- The turns of the systems are ones that the rules allow.
+use Rattle.std.proofs.Common.{◌≡◌, true, List, [], Option, Some, None, refl, sym, subst}
 use Rattle.std.proofs.lemmas.Bool.{false≢true}
 use Rattle.std.proofs.lemmas.List.Elements.{All-nil}
 use Rattle.serde_json.specs.Data.{null}
@@ -7,20 +7,19 @@ use Rattle.shred_world.specs.Bundles.{Holding}
 use Rattle.shred_stages.specs.declared.stop.Stop.{Stop}
 use Rattle.shred_stages.specs.declared.stop.Stop.TheVariants as stop
 use Rattle.scene_rules.specs.Lawful.{IsLawful}
-use Rattle.scene_rules.specs.Rulebook.{Command}
-use Rattle.scene_world.specs.Standing.{Kinds}
+use Rattle.scene_rules.specs.Parts.{Name, is_among}
+use Rattle.scene_rules.specs.Rulebook.{Command, Fragment, leaves}
+use Rattle.scene_world.specs.Standing.{Kinds, fragment_of}
 use Rattle.scene_turns.specs.Places.{kinds_of}
 use Rattle.scene_turns.specs.Turns.{Meaning, sense_of, rules_by, Runs, Ends, meaning_of}
 use Rattle.scene_turns_tests.specs.Drifting.{counting, drift_name, drift_access, drifting_book, drifting_columns, drifting_places, Drifts}
 use Rattle.scene_turns_tests.specs.declared.values.Value.{Value}
 use Rattle.scene_runs_tests.specs.Watched.{mover_access, mover_does, mover_name, watched_book, IsHalt}
+use Rattle.scene_runs_tests.proofs.RestLemmas.{watched_kinds, rests-runs}
 use Rattle.scene_runs_tests.specs.declared.watched.Mover.{Mover}
-use Rattle.scene_runs_tests.specs.declared.watched.Mover.TheVariants.{Drift, Watch, Halt}
+use Rattle.scene_runs_tests.specs.declared.watched.Mover.TheVariants.{Drift, Watch, Halt, Found}
 
-abbrev pub watched_kinds : Kinds Value
-watched_kinds = kinds_of drifting_places counting drifting_columns
-
--- what is meant of the three, and of a system that is drift
+-- what is meant of the systems, and of one that is drift
 abbrev pub mover_meaning : Meaning Mover
 mover_meaning = meaning_of 0 mover_name (λ _. null) mover_access (λ _. sense_of watched_book) mover_does
 
@@ -44,28 +43,12 @@ drift-runs system system_after seen left refused commands runs = record {
     by (Some stop.Memory) said = tt
     by (Some stop.Full) said = said
 
--- who watches leaves all as it was
+-- who watches leaves all as it was, and so would who founds
 pub watch-runs : (seen : Holding Value) (commands : List Command) → commands ≡ [] → Runs watched_kinds mover_meaning Watch seen None Watch seen commands
-watch-runs seen commands none = subst (λ asked. Runs watched_kinds mover_meaning Watch seen None Watch seen asked) (sym none) (record {
-  stays = tt;
-  same = refl;
-  same_sense = refl;
-  no_more = λ f o did. did;
-  ends = λ lent. record {
-    did = (refl, refl);
-    lawful = record {
-      ids = refl;
-      owned = lent.fit.owned;
-      living = lent.fit.living;
-      admitted = lent.fit.admitted;
-      valued = λ name some. some;
-      readable = lent.fit.readable;
-      known = All-nil (IsLawful (rules_by (sense_of watched_book)));
-    };
-    within = λ kind known writes_it. absurd (false≢true writes_it);
-    shown = λ kind known writes_it. absurd (false≢true writes_it);
-  };
-})
+watch-runs seen commands none = rests-runs mover_name mover_access watched_book mover_does Watch (λ f. (refl, refl)) (λ kind e. false≢true e) seen commands none
+
+pub found-runs : (seen : Holding Value) (commands : List Command) → commands ≡ [] → Runs watched_kinds mover_meaning Found seen None Found seen commands
+found-runs seen commands none = rests-runs mover_name mover_access watched_book mover_does Found (λ f. (refl, refl)) (λ kind e. false≢true e) seen commands none
 
 -- who halts refuses, or finds no memory
 pub halt-runs : (seen : Holding Value) (why : Stop) (commands : List Command) → IsHalt why → Runs watched_kinds mover_meaning Halt seen (Some why) Halt seen commands

@@ -1,4 +1,4 @@
--- Rules with three systems over positions and velocities: drift, one that watches, and one that halts the frame.
+-- Rules with four systems over positions and velocities: drift, one that watches, one that halts the frame, and one that would write entities.
 use Rattle.std.specs.Prelude.{◌≡◌, Bool, true, false, [], ◌∷◌, codes, is_some, if◌then◌else◌}
 use Rattle.std.specs.Str.{bytes_eq}
 use Rattle.std.specs.String.{string_bytes}
@@ -9,28 +9,37 @@ use Rattle.scene_rules.specs.Parts.{Json, Name}
 use Rattle.scene_rules.specs.Rulebook.{Access, Book, Fragment, Outcome, leaves, refuses, fills, Described, known, unknown, misshapen}
 use Rattle.scene_turns_tests.specs.Drifting.{vel_name, drift_name, drift_access, drifting_book, Drifts}
 use Rattle.scene_runs_tests.specs.declared.watched.Mover.{Mover}
-use Rattle.scene_runs_tests.specs.declared.watched.Mover.TheVariants.{Drift, Watch, Halt}
+use Rattle.scene_runs_tests.specs.declared.watched.Mover.TheVariants.{Drift, Watch, Halt, Found}
 
--- the names of the other two kinds of systems
+-- the names of the other kinds of systems
 abbrev pub watch_name : Name
 watch_name = codes "watch"
 
 abbrev pub halt_name : Name
 halt_name = codes "halt"
 
+abbrev pub found_name : Name
+found_name = codes "found"
+
 abbrev pub mover_name : Mover → Name
 mover_name Drift = drift_name
 mover_name Watch = watch_name
 mover_name Halt = halt_name
+mover_name Found = found_name
 
--- they read velocities, and write nothing
+-- two of them read velocities, and write nothing
 abbrev pub watch_access : Access
 watch_access = record { reads = vel_name ∷ []; writes = []; read_globals = []; written_globals = []; reserved = false }
+
+-- who would found declares a write to entities, and nothing else
+abbrev pub found_access : Access
+found_access = record { reads = []; writes = []; read_globals = []; written_globals = []; reserved = true }
 
 abbrev pub mover_access : Mover → Access
 mover_access Drift = drift_access
 mover_access Watch = watch_access
 mover_access Halt = watch_access
+mover_access Found = found_access
 
 -- who watches leaves all as it is, and asks for nothing
 abbrev pub Rests : Fragment → Outcome → Type 0
@@ -48,12 +57,14 @@ abbrev pub mover_does : Mover → Fragment → Outcome → Type 0
 mover_does Drift = Drifts
 mover_does Watch = Rests
 mover_does Halt = Halts
+mover_does Found = Rests
 
--- what a system may do by whether its kind is that of drift, and else by whether it is that of who watches
-abbrev pub does_by : Bool → Bool → Fragment → Outcome → Type 0
-does_by true watches = Drifts
-does_by false true = Rests
-does_by false false = Halts
+-- what a system may do by whether its kind is that of drift, else of who watches, else of who halts
+abbrev pub does_by : Bool → Bool → Bool → Fragment → Outcome → Type 0
+does_by true watches halts = Drifts
+does_by false true halts = Rests
+does_by false false true = Halts
+does_by false false false = Rests
 
 -- what is said of a system that declares this, whose configuration is null
 abbrev pub configured : Access → Json → Described
@@ -67,8 +78,8 @@ watched_book = record {
   read_part = drifting_book.read_part;
   read_global = drifting_book.read_global;
   admits = drifting_book.admits;
-  system = λ kind config. if bytes_eq kind drift_name then configured drift_access config else if bytes_eq kind watch_name then configured watch_access config else if bytes_eq kind halt_name then configured watch_access config else unknown;
-  meets = λ kind config. does_by (bytes_eq kind drift_name) (bytes_eq kind watch_name);
+  system = λ kind config. if bytes_eq kind drift_name then configured drift_access config else if bytes_eq kind watch_name then configured watch_access config else if bytes_eq kind halt_name then configured watch_access config else if bytes_eq kind found_name then configured found_access config else unknown;
+  meets = λ kind config. does_by (bytes_eq kind drift_name) (bytes_eq kind watch_name) (bytes_eq kind halt_name);
 }
 
 -- a system does what the rules say of its kind
@@ -76,6 +87,7 @@ pub law-does : (system : Mover) (f : Fragment) (o : Outcome) (config : Json) →
 law-does Drift f o config did = did
 law-does Watch f o config did = did
 law-does Halt f o config did = did
+law-does Found f o config did = did
 
 -- a stop says that the frame is halted, or that memory was wanting
 abbrev pub IsHalt : Stop → Type 0

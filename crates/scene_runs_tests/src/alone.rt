@@ -7,8 +7,7 @@ ghost use Rattle.scene.specs.Outcomes.{IsRunOf, TellsOnly, full_bounds};
 ghost use Rattle.scene_turns_tests.specs.Drifting.{drifting_book};
 ghost use Rattle.scene_runs_tests.specs.Alone.{IsDriftAlone, IsDriftedText};
 
-use scene::{Counted, RunError};
-use scene::run;
+use scene::{Counted, RunError, run};
 use scene_rules::Report;
 use scene_turns_tests::Drifting;
 use std::sync::Wait;

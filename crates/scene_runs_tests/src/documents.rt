@@ -2,10 +2,9 @@
 use crate::alone::drift_in_memory;
 use crate::rows::{Cause, ROWS, Row, Told, Under};
 use crate::watched::Watched;
-use scene::{Counted, RunError};
+use scene::{Counted, RunError, run_with};
 use scene_acts_tests::Owning;
 use scene_document::Limits;
-use scene::run_with;
 use scene_rules::{FrameRefusal, Report, Skip};
 use scene_turns_tests::Drifting;
 use std::alloc::AllocError;

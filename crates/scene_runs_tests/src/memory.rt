@@ -2,9 +2,8 @@
 //! and apart from that with ample means.
 use crate::rows::Under;
 use crate::watched::Watched;
-use scene::{Counted, RunError};
+use scene::{Counted, RunError, run};
 use scene_acts_tests::Owning;
-use scene::run;
 use scene_rules::{FrameRefusal, Report};
 use scene_turns_tests::Drifting;
 use std::sync::Wait;

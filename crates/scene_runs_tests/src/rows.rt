@@ -69,7 +69,7 @@ const ONE_COMMAND: Limits = Limits {
     commands: 1,
 };
 
-pub const ROWS: [Row; 28] = [
+pub const ROWS: [Row; 33] = [
     Row {
         name: "no frames: ids and kinds ascend",
         rules: Under::Drifting,
@@ -325,6 +325,51 @@ pub const ROWS: [Row; 28] = [
         limits: Limits::FULL,
         document: "{\"next\":1,\"entities\":[{\"id\":0,\"parts\":{\"pos\":0.5}}]",
         told: Told::NoDocument(DocRefusal::NotWhole),
+        skips: &[],
+        text: "",
+    },
+    Row {
+        name: "a system that writes entities",
+        rules: Under::Watched,
+        limits: Limits::FULL,
+        document: "{\"next\":0,\"entities\":[],\"systems\":[{\"kind\":\"found\"}],\"frames\":1",
+        told: Told::NoDocument(DocRefusal::ReservedWrite),
+        skips: &[],
+        text: "",
+    },
+    Row {
+        name: "a local system that writes entities",
+        rules: Under::Watched,
+        limits: Limits::FULL,
+        document: "{\"next\":0,\"entities\":[],\"systems\":[{\"kind\":\"drift\"},{\"kind\":\"found\",\"local\":true}]",
+        told: Told::NoDocument(DocRefusal::ReservedWrite),
+        skips: &[],
+        text: "",
+    },
+    Row {
+        name: "an unknown system is told before one that writes entities",
+        rules: Under::Watched,
+        limits: Limits::FULL,
+        document: "{\"next\":0,\"entities\":[],\"systems\":[{\"kind\":\"found\"},{\"kind\":\"founds\"}]",
+        told: Told::NoDocument(DocRefusal::UnknownSystem),
+        skips: &[],
+        text: "",
+    },
+    Row {
+        name: "a configuration that the system has not",
+        rules: Under::Watched,
+        limits: Limits::FULL,
+        document: "{\"next\":0,\"entities\":[],\"systems\":[{\"kind\":\"found\",\"config\":1}]",
+        told: Told::NoDocument(DocRefusal::WrongShape),
+        skips: &[],
+        text: "",
+    },
+    Row {
+        name: "a write to entities is told before too many commands",
+        rules: Under::Watched,
+        limits: ONE_COMMAND,
+        document: "{\"next\":0,\"entities\":[],\"systems\":[{\"kind\":\"found\"}],\"frames\":1,\"commands\":[[{\"spawn\":{}},{\"spawn\":{}}]]",
+        told: Told::NoDocument(DocRefusal::ReservedWrite),
         skips: &[],
         text: "",
     },

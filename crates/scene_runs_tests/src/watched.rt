@@ -1,4 +1,4 @@
-//! Rules with three systems over positions and velocities, of which no two conflict.
+//! Rules with four systems over positions and velocities, of which no two conflict.
 ghost use Rattle.std.specs.Prelude.{◌≡◌, MatchResult, refl};
 ghost use Rattle.std.proofs.Common.{rules};
 ghost use Rattle.serde_json.specs.Data.{null};
@@ -25,12 +25,14 @@ use std::alloc::{AllocError, Global};
 #[derive(Clone, Copy, Debug)]
 pub struct Watched;
 
-/// The systems: each position gains the velocity of its entity; one looks at the velocities and does nothing; one refuses each frame.
+/// The systems: each position gains the velocity of its entity; one looks at the velocities and does nothing; one refuses each frame;
+/// one declares a write to entities, so that no document with it is a scene.
 #[derive(Clone, Copy, Debug, PartialEq, Eq)]
 pub enum Mover {
     Drift,
     Watch,
     Halt,
+    Found,
 }
 
 /// The refusal of a system that halts.
@@ -126,20 +128,24 @@ impl DocumentRules for Watched {
         if kind == "halt" {
             return with_config(Mover::Halt, config);
         }
+        if kind == "found" {
+            return with_config(Mover::Found, config);
+        }
         Ok(None)
     }
 
     fn accessor(system: &Mover, alloc: Global) -> Result<Accessor, AllocError> {
-        let writes = match system {
-            Mover::Drift => vec![in alloc; "pos"]?,
-            _ => Vec::new(alloc),
+        let (reads, writes, writes_reserved) = match system {
+            Mover::Drift => (vec![in alloc; "vel"]?, vec![in alloc; "pos"]?, false),
+            Mover::Watch | Mover::Halt => (vec![in alloc; "vel"]?, Vec::new(alloc), false),
+            Mover::Found => (Vec::new(alloc), Vec::new(alloc), true),
         };
         Ok(Accessor {
-            reads: vec![in alloc; "vel"]?,
+            reads,
             writes,
             read_globals: Vec::new(alloc),
             written_globals: Vec::new(alloc),
-            writes_reserved: false,
+            writes_reserved,
         })
     }
 
@@ -246,6 +252,7 @@ impl Rules for Watched {
             Mover::Drift => Drifting::run(rt, &mut Drift, view, queue),
             Mover::Watch => Ok(()),
             Mover::Halt => Err(halted(rt)),
+            Mover::Found => Ok(()),
         }
     }
 }

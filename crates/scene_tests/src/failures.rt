@@ -5,7 +5,9 @@ use scene::{Counted, RunError, run};
 use scene_basics::Basics;
 use scene_basics::program::program;
 use std::io::ErrorKind;
+use std::sync::Wait;
 use std::test::Fail;
+use std::thread::Threads;
 
 /// Documents whose frames are all accepted: none but frames, a system, a death, the document's commands, a birth.
 const ROWS: [Accepted; 5] = [
@@ -32,7 +34,13 @@ const ROWS: [Accepted; 5] = [
 ];
 
 /// Whether a run, over a writer that takes so many bytes a call and in all, sends just those and tells how many.
-fn run_sends<H: AllocGlobal>(rt: &H, row: &Accepted, step: usize, room: usize, full: Full) -> bool {
+fn run_sends<H: AllocGlobal + Threads + Wait + Sync>(
+    rt: &H,
+    row: &Accepted,
+    step: usize,
+    room: usize,
+    full: Full,
+) -> bool {
     let mut reader = Counted::new(row.document.as_bytes());
     let mut out = Counted::new(Narrow::new(rt.alloc(), step, room, full));
     let error = run(rt, Basics, &mut reader, &mut out).err();
@@ -46,7 +54,7 @@ fn run_sends<H: AllocGlobal>(rt: &H, row: &Accepted, step: usize, room: usize, f
 }
 
 /// Whether the program, over such a writer, answers the status of it and tells the line.
-fn program_sends<H: AllocGlobal>(
+fn program_sends<H: AllocGlobal + Threads + Wait + Sync>(
     rt: &H,
     row: &Accepted,
     step: usize,
@@ -71,7 +79,7 @@ fn program_sends<H: AllocGlobal>(
 }
 
 /// The first number of bytes, up to the whole text, after which a writer that fails gets or tells something else.
-fn first_wrong_room<H: AllocGlobal>(
+fn first_wrong_room<H: AllocGlobal + Threads + Wait + Sync>(
     rt: &H,
     row: &Accepted,
     step: usize,
@@ -102,7 +110,12 @@ fn failed_writes_tell_the_bytes_that_went_out(rt: HostRuntime) -> Result<(), Fai
 }
 
 /// Whether a run, over a reader that gives one byte a call and fails after so many calls, gives the scene or tells the failure.
-fn run_reads<H: AllocGlobal>(rt: &H, row: &Accepted, calls: u32, is_sound: bool) -> bool {
+fn run_reads<H: AllocGlobal + Threads + Wait + Sync>(
+    rt: &H,
+    row: &Accepted,
+    calls: u32,
+    is_sound: bool,
+) -> bool {
     let mut reader = Counted::new(Slow::new(row.document, calls, ErrorKind::Other));
     let mut out = Counted::new(Vec::new(rt.alloc()));
     let error = run(rt, Basics, &mut reader, &mut out).err();
@@ -115,7 +128,12 @@ fn run_reads<H: AllocGlobal>(rt: &H, row: &Accepted, calls: u32, is_sound: bool)
 }
 
 /// Whether the program, over such a reader, answers the status of it, writes the text or nothing, and tells the line.
-fn program_reads<H: AllocGlobal>(rt: &H, row: &Accepted, calls: u32, is_sound: bool) -> bool {
+fn program_reads<H: AllocGlobal + Threads + Wait + Sync>(
+    rt: &H,
+    row: &Accepted,
+    calls: u32,
+    is_sound: bool,
+) -> bool {
     let mut reader = Counted::new(Slow::new(row.document, calls, ErrorKind::Other));
     let mut out = Counted::new(Vec::new(rt.alloc()));
     let mut err = Counted::new(Vec::new(rt.alloc()));
@@ -148,7 +166,11 @@ fn failed_reads_write_nothing(rt: HostRuntime) {
 }
 
 /// Whether a flush that fails after the text is told before all else, by this line.
-fn flush_is_told<H: AllocGlobal>(rt: &H, document: &str, line: &str) -> bool {
+fn flush_is_told<H: AllocGlobal + Threads + Wait + Sync>(
+    rt: &H,
+    document: &str,
+    line: &str,
+) -> bool {
     let mut narrow = Narrow::new(rt.alloc(), 64, 1000, Full::Fails);
     narrow.flush_fails = true;
     let mut reader = Counted::new(document.as_bytes());
@@ -167,7 +189,7 @@ fn a_failed_flush_comes_before_a_refused_frame(rt: HostRuntime) {
 }
 
 /// Whether the program refuses these bytes as unreadable, and writes nothing.
-fn is_unreadable<H: AllocGlobal>(rt: &H, bytes: &[u8]) -> bool {
+fn is_unreadable<H: AllocGlobal + Threads + Wait + Sync>(rt: &H, bytes: &[u8]) -> bool {
     let mut reader = Counted::new(bytes);
     let mut out = Counted::new(Vec::new(rt.alloc()));
     let mut err = Counted::new(Vec::new(rt.alloc()));

@@ -1,8 +1,10 @@
 //! The laws of scenes at the program's rules, and what they say shown on documents.
 ghost use Rattle.std.specs.Prelude.{IfSome};
-ghost use Rattle.scene.specs.Turns.{IsReady};
+ghost use Rattle.scene_turns.specs.Places.{kinds_of};
+ghost use Rattle.scene_turns.specs.Turns.{placed_as};
+ghost use Rattle.scene.specs.Running.{IsReady};
 
-use scene::{Limits, Rules, Scene};
+use scene::{Limits, Rules, Scene, SceneValue};
 use scene_basics::Basics;
 use scene_basics::laws::{
     a_document_has_one_outcome, a_turn_has_one_outcome, a_turn_keeps_references,
@@ -13,7 +15,9 @@ use scene_laws::{
     an_id_is_given_once, frames_in_two_parts, print_and_load,
 };
 use std::alloc::{AllocError, Global};
+use std::sync::Wait;
 use std::test::Fail;
+use std::thread::Threads;
 
 #[test]
 fn the_laws_are_of_the_program() {
@@ -43,12 +47,19 @@ const ROWS: [(&str, u64); 3] = [
 ];
 
 /// The scene of a document after its first frame, where it has one.
-fn first_scene<R: Rules + Drop, H: AllocGlobal>(
+fn first_scene<R: Rules + Drop + Send + Sync, H: AllocGlobal + Threads + Wait + Sync>(
     rt: &H,
     rules: R,
     document: &str,
 ) -> Option<Scene<R>>
-    ensures { IfSome result (IsReady R.part_of R.global_of R.kind_of R.config_of R.book) }
+where
+    R::Value: Drop + Send + Sync,
+    R::Data: Send + Sync,
+    R::Global: Send + Sync,
+    R::System: Send + Sync,
+    ensures { IfSome result (IsReady (kinds_of ⟦<R::Value as SceneValue<R::Data>>⟧.places R.part_of R.columns)
+        R.part_of R.global_of (placed_as (λ placed. placed.position) (λ placed. placed.system) R.kind_of R.config_of
+        R.declared R.sense R.does) R.book) }
 {
     let mut scene = match Scene::open(rt.alloc(), rules, Limits::FULL, document.as_bytes()) {
         Ok(scene) => scene,
@@ -82,7 +93,11 @@ fn are_one(
 }
 
 /// Whether the scene that a document reaches is printed and loaded again.
-fn loads_again<H: AllocGlobal>(rt: &H, document: &str, next: u64) -> Result<bool, AllocError> {
+fn loads_again<H: AllocGlobal + Threads + Wait + Sync>(
+    rt: &H,
+    document: &str,
+    next: u64,
+) -> Result<bool, AllocError> {
     let Some(scene) = first_scene(rt, Basics, document) else {
         return Ok(false);
     };

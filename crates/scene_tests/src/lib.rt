@@ -1,4 +1,4 @@
-//! Rows of documents, of devices and of rules, which no contract says.
+//! Rows of documents and of devices, which no contract says.
 #![tactic(auto)]
 
 #[cfg(test)]
@@ -12,13 +12,9 @@ mod documents;
 #[cfg(test)]
 mod failures;
 #[cfg(test)]
-mod founders;
-#[cfg(test)]
 mod frames;
 #[cfg(test)]
 mod laws;
-#[cfg(test)]
-mod leavers;
 #[cfg(test)]
 mod limits;
 #[cfg(test)]

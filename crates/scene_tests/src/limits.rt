@@ -1,6 +1,8 @@
 //! Runs under smaller limits, and the places of skipped commands.
 use scene::{Counted, DocRefusal, FrameRefusal, Limits, Report, RunError, Skip, run, run_with};
 use scene_basics::Basics;
+use std::sync::Wait;
+use std::thread::Threads;
 
 /// A document, two of its limits, what is told of the run, and the text that goes out.
 struct Row {
@@ -63,7 +65,7 @@ fn told(outcome: &Result<Report, RunError>) -> &'static str {
     }
 }
 
-fn holds<H: AllocGlobal>(rt: &H, row: &Row) -> bool {
+fn holds<H: AllocGlobal + Threads + Wait + Sync>(rt: &H, row: &Row) -> bool {
     if row.indices > 3 || row.commands > 2 {
         return false;
     }
@@ -90,7 +92,7 @@ fn limits_are_told_by_name(rt: HostRuntime) {
 }
 
 /// Whether the skips of two frames are told, each by its frame and its place in the frame.
-fn skips_are_told<H: AllocGlobal>(rt: &H) -> bool {
+fn skips_are_told<H: AllocGlobal + Threads + Wait + Sync>(rt: &H) -> bool {
     let document =
         "{\"next\":1,\"entities\":[{\"id\":0,\"parts\":{}}],\"frames\":2,\"commands\":[[{\"spawn\":{\"pos\":4}},{\"kill\":0},{\"put\":{\"id\":0,\"kind\":\"pos\",\"value\":9}}],[{\"kill\":0}]]}";
     let mut reader = Counted::new(document.as_bytes());

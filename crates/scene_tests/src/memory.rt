@@ -1,6 +1,8 @@
 //! Want of memory is an ordinary answer: the tests run with each allocation refused in turn, and apart from that with ample memory.
 use scene::{Counted, FrameRefusal, Report, RunError, run};
 use scene_basics::Basics;
+use std::sync::Wait;
+use std::thread::Threads;
 
 /// Three frames of a drift.
 const DRIFT: &str =
@@ -24,7 +26,7 @@ fn is_of_its_frames(report: &Report) -> bool {
 }
 
 /// Whether a run gives a report with the text of its frames, or tells that memory was wanting and writes nothing.
-fn answers_by_name<H: AllocGlobal>(rt: &H, room: Vec<u8>) -> bool {
+fn answers_by_name<H: AllocGlobal + Threads + Wait + Sync>(rt: &H, room: Vec<u8>) -> bool {
     let mut reader = Counted::new(DRIFT.as_bytes());
     let mut out = Counted::new(room);
     match run(rt, Basics, &mut reader, &mut out) {

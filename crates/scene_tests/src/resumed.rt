@@ -12,9 +12,11 @@ use scene_draft::{JsonError, read_json};
 use scene_laws::{Course, ResumeError, run_in_parts};
 use serde_json::Value;
 use std::alloc::Global;
+use std::sync::Wait;
+use std::thread::Threads;
 
 /// Both texts of a run under the program's rules: they are one where the documents go on so.
-fn texts<H: AllocGlobal>(
+fn texts<H: AllocGlobal + Threads + Wait + Sync>(
     rt: &H,
     limits: Limits,
     whole: &Value,
@@ -115,7 +117,10 @@ fn json(alloc: Global, text: &str) -> Result<Value, ResumeError> {
 }
 
 /// Both texts of a row.
-fn texts_of<H: AllocGlobal>(rt: &H, row: &Row) -> Result<(Vec<u8>, Vec<u8>), ResumeError> {
+fn texts_of<H: AllocGlobal + Threads + Wait + Sync>(
+    rt: &H,
+    row: &Row,
+) -> Result<(Vec<u8>, Vec<u8>), ResumeError> {
     let alloc = rt.alloc();
     let whole = json(alloc, row.whole)?;
     let first = json(alloc, row.first)?;
@@ -128,7 +133,7 @@ fn texts_of<H: AllocGlobal>(rt: &H, row: &Row) -> Result<(Vec<u8>, Vec<u8>), Res
 }
 
 /// Whether a row ends as it says.
-fn holds<H: AllocGlobal>(rt: &H, row: &Row) -> bool {
+fn holds<H: AllocGlobal + Threads + Wait + Sync>(rt: &H, row: &Row) -> bool {
     match (row.end, texts_of(rt, row)) {
         (End::Text(text), Ok((at_once, in_parts))) => {
             at_once.as_slice() == text.as_bytes() && in_parts.as_slice() == text.as_bytes()

@@ -1,7 +1,7 @@
 //! What a run and the program make of a document in memory.
 use scene::{Counted, DocRefusal, RunError, run};
 use scene_basics::Basics;
-use scene_basics::program::{program, world_program};
+use scene_basics::program::program;
 use std::sync::Wait;
 use std::thread::Threads;
 
@@ -11,8 +11,14 @@ pub struct Accepted {
     pub text: &'static str,
 }
 
-/// Whether the program over plain maps answers this status, writes this text and tells this line.
-fn maps_tell<H: AllocGlobal>(rt: &H, document: &str, status: u8, text: &str, line: &str) -> bool {
+/// Whether the program answers this status, writes this text and tells this line.
+pub fn program_tells<H: AllocGlobal + Threads + Wait + Sync>(
+    rt: &H,
+    document: &str,
+    status: u8,
+    text: &str,
+    line: &str,
+) -> bool {
     let mut reader = Counted::new(document.as_bytes());
     let mut out = Counted::new(Vec::new(rt.alloc()));
     let mut err = Counted::new(Vec::new(rt.alloc()));
@@ -21,35 +27,8 @@ fn maps_tell<H: AllocGlobal>(rt: &H, document: &str, status: u8, text: &str, lin
         && err.get_ref().as_slice() == line.as_bytes()
 }
 
-/// Whether the program over a world answers this status, writes this text and tells this line.
-fn world_tells<H: AllocGlobal + Threads + Wait + Sync>(
-    rt: &H,
-    document: &str,
-    status: u8,
-    text: &str,
-    line: &str,
-) -> bool {
-    let mut reader = Counted::new(document.as_bytes());
-    let mut out = Counted::new(Vec::new(rt.alloc()));
-    let mut err = Counted::new(Vec::new(rt.alloc()));
-    world_program(rt, &mut reader, &mut out, &mut err) == status
-        && out.get_ref().as_slice() == text.as_bytes()
-        && err.get_ref().as_slice() == line.as_bytes()
-}
-
-/// Whether the program, over plain maps and over a world, answers this status, writes this text and tells this line.
-pub fn program_tells<H: AllocGlobal + Threads + Wait + Sync>(
-    rt: &H,
-    document: &str,
-    status: u8,
-    text: &str,
-    line: &str,
-) -> bool {
-    maps_tell(rt, document, status, text, line) && world_tells(rt, document, status, text, line)
-}
-
 /// Whether a run gives a report that names this frame as refused, or none, and writes this text.
-pub fn run_reaches<H: AllocGlobal>(
+pub fn run_reaches<H: AllocGlobal + Threads + Wait + Sync>(
     rt: &H,
     document: &str,
     refused: Option<u32>,
@@ -68,7 +47,11 @@ pub fn run_reaches<H: AllocGlobal>(
 }
 
 /// Whether a run refuses the document by this name, and writes nothing.
-fn run_refuses<H: AllocGlobal>(rt: &H, document: &str, refusal: DocRefusal) -> bool {
+fn run_refuses<H: AllocGlobal + Threads + Wait + Sync>(
+    rt: &H,
+    document: &str,
+    refusal: DocRefusal,
+) -> bool {
     let mut reader = Counted::new(document.as_bytes());
     let mut out = Counted::new(Vec::new(rt.alloc()));
     run(rt, Basics, &mut reader, &mut out).err() == Some(RunError::Document(refusal))
