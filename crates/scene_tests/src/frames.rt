@@ -1,5 +1,5 @@
 //! Frames of several systems and of commands: documents with the scene that they give, or the refusal and the text before it.
-use crate::runs::{Accepted, is_accepted, program_tells, run_reaches};
+use crate::runs::{Accepted, is_accepted, is_told, run_reaches};
 
 const ROWS: [Accepted; 14] = [
     // an entity that decays to nothing is reaped
@@ -148,7 +148,7 @@ const REFUSED: [Refused; 8] = [
 fn frames_are_refused_by_name(rt: HostRuntime) {
     let mut wrong = None;
     for row in REFUSED.as_slice() {
-        if !program_tells(&rt, row.document, 2, row.text, row.line)
+        if !is_told(&rt, row.document, 2, row.text, row.line)
             || !run_reaches(&rt, row.document, Some(row.frame), row.text)
         {
             wrong = Some(row.document);

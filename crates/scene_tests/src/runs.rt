@@ -2,6 +2,7 @@
 use scene::{Counted, DocRefusal, RunError, run};
 use scene_basics::Basics;
 use scene_basics::program::program;
+use std::alloc::AllocError;
 use std::sync::Wait;
 use std::thread::Threads;
 
@@ -80,13 +81,56 @@ fn line_of(refusal: DocRefusal) -> &'static str {
     }
 }
 
+/// The numbers of workers with which each document runs.
+const WORKERS: [u32; 4] = [0, 1, 2, 8];
+
+/// The stores in which it runs.
+const STORES: [&str; 4] = ["vec", "dense", "hash", "btree"];
+
+/// Whether the program tells the same of a document with each number of workers and in each store. Said twice, the later one counts.
+///
+/// Errors: want of memory.
+fn tells_the_same<H: AllocGlobal + Threads + Wait + Sync>(
+    rt: &H,
+    document: &str,
+    status: u8,
+    text: &str,
+    line: &str,
+) -> Result<bool, AllocError> {
+    let Some(open) = document.strip_suffix("}") else {
+        return Ok(false);
+    };
+    let mut same = true;
+    for workers in WORKERS {
+        for store in STORES {
+            let placed = format!(in rt.alloc();
+                "{open},\"workers\":{workers},\"store\":\"{store}\"}}"
+            )?;
+            same = program_tells(rt, placed.as_str(), status, text, line) && same;
+        }
+    }
+    Ok(same)
+}
+
+/// Whether the program answers this status, writes this text and tells this line, as the document is and with any workers and store.
+pub fn is_told<H: AllocGlobal + Threads + Wait + Sync>(
+    rt: &H,
+    document: &str,
+    status: u8,
+    text: &str,
+    line: &str,
+) -> bool {
+    program_tells(rt, document, status, text, line)
+        && tells_the_same(rt, document, status, text, line) == Ok(true)
+}
+
 /// Whether all frames of a document are done, and the scene that they reach has this text.
 pub fn is_accepted<H: AllocGlobal + Threads + Wait + Sync>(
     rt: &H,
     document: &str,
     text: &str,
 ) -> bool {
-    program_tells(rt, document, 0, text, "") && run_reaches(rt, document, None, text)
+    is_told(rt, document, 0, text, "") && run_reaches(rt, document, None, text)
 }
 
 /// Whether the document is refused by this name, by a run and by the program.

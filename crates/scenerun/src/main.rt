@@ -2,12 +2,12 @@
 #![tactic(auto)]
 
 use scene::Counted;
-use scene_basics::program::world_program;
+use scene_basics::program::program;
 use std::process::ExitCode;
 
 fn main(rt: HostRuntime) -> ExitCode {
     let mut reader = Counted::new(rt.stdin());
     let mut out = Counted::new(rt.stdout());
     let mut err = Counted::new(rt.stderr());
-    ExitCode::from(world_program(&rt, &mut reader, &mut out, &mut err))
+    ExitCode::from(program(&rt, &mut reader, &mut out, &mut err))
 }
