@@ -1,4 +1,4 @@
--- Lemmas for the author of a system that writes the parts of one kind.
+-- Lemmas for the author of a system that writes the parts of one kind, or a global.
 use Rattle.std.proofs.Common.{◌≡◌, ℕ, Bool, true, false, cond, List, Option, Some, None, refl, ap, sym, ◌∙◌, subst}
 use Rattle.std.specs.Prelude.{option_and_then, option_map, All, IsSome}
 use Rattle.std.specs.Str.{bytes_eq}
@@ -14,7 +14,7 @@ use Rattle.scene_world.specs.Standing.{seen_in, Kinds, roll_of, column_in, colum
 use Rattle.scene_world.specs.Lent.{Place, entities, markers, allocator, parts, value, StandApart, id_of_place, is_known, same_place}
 use Rattle.scene_world.proofs.CallerLemmas.{same-roll}
 use Rattle.scene_turns.specs.Turns.{Sense, rules_by, IsFit}
-use Rattle.scene_turns.specs.Writes.{WritesOne, MayStand}
+use Rattle.scene_turns.specs.Writes.{WritesOne, WritesGlobal, MayStand}
 use Rattle.scene_turns.proofs.StepLemmas.{owned-plain, owned-fragment}
 
 module _ {V : Type 0} (kinds : Kinds V) (apart : StandApart kinds) (kind : Name) (known : is_among kind kinds.part_names ≡ true) (v : V) (seen left : Holding V) (writes : WritesOne kinds kind v seen left) where
@@ -121,3 +121,56 @@ module _ {V : Type 0} (kinds : Kinds V) (apart : StandApart kinds) (kind : Name)
             let at_kind : other ≡ kind = (bytes_eq-Decides other kind).0 same in
             let found = stored-part id held (subst (λ name. (fragment_of kinds access left).part id name ≡ Some held) at_kind is) in
             subst (λ ids. All (RefLives ids) held.refs) (sym left-ids) (subst (λ part. All (RefLives (ids_in (roll_of kinds (seen_in seen)))) part.refs) found.2 found.1.living)
+
+module _ {V : Type 0} (kinds : Kinds V) (apart : StandApart kinds) (name : Name) (known : is_among name kinds.global_names ≡ true) (v : V) (seen left : Holding V) (writes : WritesGlobal kinds name v seen left) where
+  -- elsewhere than at the global the same is seen
+  set-elsewhere : (place : Place) → is_known kinds place ≡ true → same_place place (value name) ≡ false → seen_in left (id_of_place kinds place) ≡ seen_in seen (id_of_place kinds place)
+  set-elsewhere place is other = ap readable (writes.others (id_of_place kinds place) (apart place (value name) is known ∙ other))
+
+  -- so who lives stays, the columns and the other globals
+  pub set-roll : roll_of kinds (seen_in left) ≡ roll_of kinds (seen_in seen)
+  set-roll = same-roll kinds (seen_in left) (seen_in seen) (set-elsewhere entities refl refl) (set-elsewhere markers refl refl) (set-elsewhere allocator refl refl)
+
+  pub set-columns : (kind : Name) → is_among kind kinds.part_names ≡ true → (index : ℕ) → column_of kinds (seen_in left) kind index ≡ column_of kinds (seen_in seen) kind index
+  set-columns kind is index = ap (λ h. column_in kinds kind h index) (set-elsewhere (parts kind) is refl)
+
+  set-here : value_of kinds (seen_in left) name ≡ kinds.value name v
+  set-here = ap (λ h. option_and_then (kinds.value name) h) writes.here
+
+  set-others : (other : Name) → is_among other kinds.global_names ≡ true → bytes_eq other name ≡ false → value_of kinds (seen_in left) other ≡ value_of kinds (seen_in seen) other
+  set-others other is differ = ap (λ h. option_and_then (kinds.value other) h) (set-elsewhere (value other) is differ)
+
+  module _ (access : Access) where
+    -- the fragment that is left: the ids, parts and other globals are those that were seen
+    pub set-ids : (fragment_of kinds access left).ids ≡ (fragment_of kinds access seen).ids
+    set-ids = ap ids_in set-roll
+
+    pub set-parts : (id : ℕ) (kind : Name) → (fragment_of kinds access left).part id kind ≡ (fragment_of kinds access seen).part id kind
+    set-parts id kind = by (declares access kind) (is_among kind kinds.part_names) refl
+      where
+        column : is_among kind kinds.part_names ≡ true → (o : Option ℕ)
+            → option_and_then (λ index. option_map (part_under (ref_to (roll_of kinds (seen_in seen)))) (column_of kinds (seen_in left) kind index)) o
+            ≡ option_and_then (λ index. option_map (part_under (ref_to (roll_of kinds (seen_in seen)))) (column_of kinds (seen_in seen) kind index)) o
+        column is None = refl
+        column is (Some index) = ap (option_map (part_under (ref_to (roll_of kinds (seen_in seen))))) (set-columns kind is index)
+
+        by : (declared known_it : Bool) → is_among kind kinds.part_names ≡ known_it
+            → cond declared (cond known_it (part_in (roll_of kinds (seen_in left)) (column_of kinds (seen_in left) kind) id) None) None
+            ≡ cond declared (cond known_it (part_in (roll_of kinds (seen_in seen)) (column_of kinds (seen_in seen) kind) id) None) None
+        by false known_it is = refl
+        by true false is = refl
+        by true true is = ap (λ r. part_in r (column_of kinds (seen_in left) kind) id) set-roll ∙ column is (index_of (roll_of kinds (seen_in seen)) id)
+
+    pub set-globals : (other : Name) → bytes_eq other name ≡ false → (fragment_of kinds access left).global other ≡ (fragment_of kinds access seen).global other
+    set-globals other differ = by (declares_global access other) (is_among other kinds.global_names) refl
+      where
+        by : (declared known_it : Bool) → is_among other kinds.global_names ≡ known_it → cond declared (cond known_it (value_of kinds (seen_in left) other) None) None ≡ cond declared (cond known_it (value_of kinds (seen_in seen) other) None) None
+        by false known_it is = refl
+        by true false is = refl
+        by true true is = set-others other is differ
+
+    -- the global has the value that was put there
+    pub set-global : declares_global access name ≡ true → (fragment_of kinds access left).global name ≡ kinds.value name v
+    set-global declared =
+        ap (λ b. cond b (cond (is_among name kinds.global_names) (value_of kinds (seen_in left) name) None) None) declared
+        ∙ ap (λ b. cond b (value_of kinds (seen_in left) name) None) known ∙ set-here

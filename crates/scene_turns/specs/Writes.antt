@@ -1,4 +1,4 @@
--- A system that writes the parts of one kind.
+-- A system that writes the parts of one kind, or a global.
 use Rattle.std.specs.Prelude.{◌≡◌, true, false, Some, All}
 use Rattle.shred_world.specs.declared.resource_id.ResourceId.{ResourceId}
 use Rattle.shred_world.specs.ResourceIds.{same_id}
@@ -14,6 +14,11 @@ use Rattle.scene_turns.specs.Turns.{Sense}
 pub record WritesOne {V : Type 0} (kinds : Kinds V) (kind : Name) (value : V) (seen left : Holding V) : Type 0 where
   pub here : readable (left (kinds.part_id kind)) ≡ Some value
   pub others : (id : ResourceId) → same_id id (kinds.part_id kind) ≡ false → left id ≡ seen id
+
+-- where a global stands is this value after, and all else is as it was
+pub record WritesGlobal {V : Type 0} (kinds : Kinds V) (name : Name) (value : V) (seen left : Holding V) : Type 0 where
+  pub here : readable (left (kinds.global_id name)) ≡ Some value
+  pub others : (id : ResourceId) → same_id id (kinds.global_id name) ≡ false → left id ≡ seen id
 
 -- a stored part may stand under a kind: it is of that kind, and names entities that live
 pub record MayStand (sense : Sense) (roll : Roll) (kind : Name) (stored : Stored) : Type 0 where
