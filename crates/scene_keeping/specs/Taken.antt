@@ -1,6 +1,7 @@
 -- What is taken off a world to be kept; no public clause cites this.
 use Rattle.std.specs.Prelude.{◌≡◌, ℕ, List, map, Option, Some, IsSome, option_map}
-use Rattle.std.specs.Option.{MatchOption}
+use denote.Ref.{Bor}
+use Rattle.std.specs.Option.{MatchOption, option_copied}
 use Rattle.std.specs.List.{All}
 use Rattle.std.specs.Global.{Vec}
 use Rattle.specs_entity.specs.Life.{LifeAt}
@@ -13,6 +14,10 @@ use Rattle.scene_kept.specs.Keeping.{Keeping, kept_at, Enters}
 -- these are the ids with which the indices of entities are marked
 abbrev pub AreMarkedBy : Roll → List LifeAt → List ℕ → Type 0
 AreMarkedBy roll named ids = map (λ entity. roll.marker entity.id) named ≡ map (λ id. Some id) ids
+
+-- these stand for the parts of kinds
+abbrev pub AreColumns : {V : Type 0} → Kinds V → Sight V → List Name → List (Option (Bor V)) → Type 0
+AreColumns kinds w names columns = map option_copied columns ≡ map (λ kind. w (kinds.part_id kind)) names
 
 -- the part of a kind at an index, where each entity that it names is a reference to its id
 abbrev pub part_at : {V : Type 0} → Kinds V → Sight V → ℕ → Name → Option Part

@@ -1,5 +1,5 @@
 //! The scene that stands in a world, kept.
-ghost use Rattle.std.specs.Prelude.{◌≡◌, IfOk, OnOk};
+ghost use Rattle.std.specs.Prelude.{◌≡◌, map as mapped, IfOk, OnOk};
 ghost use Rattle.std.specs.FinMap as map;
 ghost use Rattle.std.specs.List.Sorted.{IsPermutation};
 ghost use Rattle.scene_rules.specs.Declaring.{texts};
@@ -8,9 +8,9 @@ ghost use Rattle.scene_turns.specs.Places.{kinds_of};
 ghost use Rattle.scene_acts.specs.Acts.{seen_of};
 ghost use Rattle.scene_acts.specs.Gone.{AreLiving};
 ghost use Rattle.scene_snapshot.specs.KeptScenes.{kept_scene};
-ghost use Rattle.scene_keeping.specs.Taken.{KeepsOne, AreKept};
+ghost use Rattle.scene_keeping.specs.Taken.{AreColumns, KeepsOne, AreKept};
 
-use crate::taking::{data_at, globals_in, next_in};
+use crate::taking::{columns_in, data_at, globals_in, next_in};
 use scene_acts::{id_marked, living_in};
 use scene_kept::Kept;
 use scene_snapshot::ByPlace;
@@ -38,18 +38,50 @@ pub fn keep_scene<R: Rules>(
 {
     let globals = globals_in::<R>(world, rules.global_names(), alloc)?;
     let next = next_in::<R>(world)?;
-    let mut entities = living_in::<R>(world)?;
-    sort_by_id::<R>(world, &mut entities);
+    let living = living_in::<R>(world)?;
+    let entities = by_ids::<R>(world, &living, alloc)?;
     let mut kept = Kept::new(alloc, next, globals);
     keep_entities(rules, world, &entities, &mut kept, alloc)?;
     Ok(kept)
 }
 
-/// Puts entities in the order of their ids, so that each is entered behind the one before it.
-fn sort_by_id<R: Rules>(world: &World<R::Value>, entities: &mut Vec<Entity>)
-    ensures { IsPermutation entities.old.items entities.new.items }
+/// Entities, each behind the id with which it is marked. Errors: want of memory.
+fn marked<R: Rules>(
+    world: &World<R::Value>,
+    entities: &[Entity],
+    alloc: Global,
+) -> Result<Vec<(Option<u64>, Entity)>, AllocError>
+    ensures { IfOk result (λ pairs. mapped (λ pair. pair.1) pairs.items ≡ entities.now) }
 {
-    entities.sort_unstable_by_key(|entity| id_marked::<R>(world, entity.id()));
+    let mut pairs = Vec::new(alloc);
+    for entity in entities {
+        pairs.push((id_marked::<R>(world, entity.id()), *entity))?;
+    }
+    Ok(pairs)
+}
+
+/// The entities of pairs. Errors: want of memory.
+fn entities_of(pairs: &[(Option<u64>, Entity)], alloc: Global) -> Result<Vec<Entity>, AllocError>
+    ensures { IfOk result (λ entities. entities.items ≡ mapped (λ pair. pair.1) pairs.now) }
+{
+    let mut entities = Vec::new(alloc);
+    for pair in pairs {
+        entities.push(pair.1)?;
+    }
+    Ok(entities)
+}
+
+/// Entities in the order of their ids, so that each is entered behind the one before it. Errors: want of memory.
+fn by_ids<R: Rules>(
+    world: &World<R::Value>,
+    entities: &[Entity],
+    alloc: Global,
+) -> Result<Vec<Entity>, AllocError>
+    ensures { IfOk result (λ sorted. IsPermutation entities.now sorted.items) }
+{
+    let mut pairs = marked::<R>(world, entities, alloc)?;
+    pairs.sort_unstable_by_key(|pair| pair.0);
+    entities_of(&pairs, alloc)
 }
 
 /// Enters living entities into what is kept, of which there is none yet. Errors: want of memory.
@@ -73,8 +105,9 @@ fn keep_entities<R: Rules>(
         (R.book rules.now).part_names entities.now kept.new) }
 {
     let names = rules.part_names();
+    let columns = columns_in::<R>(world, names, alloc)?;
     for entity in entities {
-        keep_entity(rules, world, names, entity.id(), kept, alloc)?;
+        keep_entity(rules, world, names, &columns, entity.id(), kept, alloc)?;
     }
     Ok(())
 }
@@ -86,6 +119,7 @@ fn keep_entity<R: Rules>(
     rules: &R,
     world: &World<R::Value>,
     names: &[&'static str],
+    columns: &[Option<&R::Value>],
     index: u32,
     kept: &mut Kept<Vec<Option<R::Data>>, Vec<Option<R::Global>>>,
     alloc: Global,
@@ -93,13 +127,15 @@ fn keep_entity<R: Rules>(
     requires stands { IsSceneWorld (kinds_of ⟦<R::Value as SceneValue<R::Data>>⟧.places R.part_of R.columns)
         (R.book rules.now) (seen_of world.now) }
     requires known { texts names.now ≡ (R.book rules.now).part_names }
+    requires columns { AreColumns (kinds_of ⟦<R::Value as SceneValue<R::Data>>⟧.places R.part_of R.columns)
+        (seen_of world.now) (texts names.now) columns.now }
     ensures { OnOk result (KeepsOne (kinds_of ⟦<R::Value as SceneValue<R::Data>>⟧.places R.part_of R.columns)
         R.part_of (seen_of world.now) (texts names.now) index kept.old kept.new) }
 {
     let Some(id) = id_marked::<R>(world, index) else {
         return Err(AllocError);
     };
-    let values = data_at(rules, world, names, index, alloc)?;
+    let values = data_at(rules, world, names, columns, index, alloc)?;
     match kept.enter(id, values) {
         Ok(_) => Ok(()),
         Err(_) => Err(AllocError),

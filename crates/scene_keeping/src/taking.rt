@@ -1,11 +1,11 @@
 //! What is taken off a world to be kept: the data at an index, the globals and the next id.
-ghost use Rattle.std.specs.Prelude.{◌≡◌, true, map, length, option_map, IfOk};
+ghost use Rattle.std.specs.Prelude.{◌≡◌, true, map, option_copied, option_map, IfOk};
 ghost use Rattle.scene_rules.specs.Parts.{is_among};
 ghost use Rattle.scene_rules.specs.Declaring.{texts};
 ghost use Rattle.scene_world.specs.Standing.{roll_of, value_of, IsSceneWorld};
 ghost use Rattle.scene_turns.specs.Places.{kinds_of};
 ghost use Rattle.scene_acts.specs.Acts.{seen_of};
-ghost use Rattle.scene_keeping.specs.Taken.{AreMarkedBy, part_at, AreOfIndex};
+ghost use Rattle.scene_keeping.specs.Taken.{AreColumns, AreMarkedBy, part_at, AreOfIndex};
 
 use scene_acts::id_marked;
 use scene_turns::{Rules, SceneValue};
@@ -35,23 +35,44 @@ fn ids_marked<R: Rules>(
     Ok(ids)
 }
 
-/// The datum of a kind at an index, if there is one.
+/// What stands for the parts of each of these kinds in a world.
+///
+/// Errors: want of memory.
+pub(crate) fn columns_in<'w, R: Rules>(
+    world: &'w World<R::Value>,
+    names: &[&'static str],
+    alloc: Global,
+) -> Result<Vec<Option<&'w R::Value>>, AllocError>
+    ensures { IfOk result (λ columns. AreColumns
+        (kinds_of ⟦<R::Value as SceneValue<R::Data>>⟧.places R.part_of R.columns) (seen_of world.now)
+        (texts names.now) columns.items) }
+{
+    let mut columns = Vec::new(alloc);
+    for kind in names {
+        columns.push(world.get_raw(R::part_id(kind)))?;
+    }
+    Ok(columns)
+}
+
+/// The datum of a kind at an index, if there is one, by what stands for the parts of that kind.
 ///
 /// Errors: want of memory.
 fn datum_at<R: Rules>(
     rules: &R,
     world: &World<R::Value>,
     kind: &str,
+    column: Option<&R::Value>,
     index: u32,
     alloc: Global,
 ) -> Result<Option<R::Data>, AllocError>
     requires stands { IsSceneWorld (kinds_of ⟦<R::Value as SceneValue<R::Data>>⟧.places R.part_of R.columns)
         (R.book rules.now) (seen_of world.now) }
     requires known { is_among kind.now R.columns.part_names ≡ true }
+    requires column { option_copied column.entry ≡ seen_of world.now (R.columns.part_id kind.now) }
     ensures { IfOk result (λ datum. option_map R.part_of datum ≡ part_at
         (kinds_of ⟦<R::Value as SceneValue<R::Data>>⟧.places R.part_of R.columns) (seen_of world.now) index kind.now) }
 {
-    let Some(value) = world.get_raw(R::part_id(kind)) else {
+    let Some(value) = column else {
         return Ok(None);
     };
     let mut named = Vec::new(alloc);
@@ -60,26 +81,29 @@ fn datum_at<R: Rules>(
     R::get(value, kind, index, &ids, alloc)
 }
 
-/// The data at an index, each at the place of its kind among these.
+/// The data at an index, each at the place of its kind among these, by what stands for the parts of each.
 ///
 /// Errors: want of memory.
 pub(crate) fn data_at<R: Rules>(
     rules: &R,
     world: &World<R::Value>,
     names: &[&'static str],
+    columns: &[Option<&R::Value>],
     index: u32,
     alloc: Global,
 ) -> Result<Vec<Option<R::Data>>, AllocError>
     requires stands { IsSceneWorld (kinds_of ⟦<R::Value as SceneValue<R::Data>>⟧.places R.part_of R.columns)
         (R.book rules.now) (seen_of world.now) }
     requires known { texts names.now ≡ (R.book rules.now).part_names }
+    requires columns { AreColumns (kinds_of ⟦<R::Value as SceneValue<R::Data>>⟧.places R.part_of R.columns)
+        (seen_of world.now) (texts names.now) columns.now }
     ensures { IfOk result (λ values. AreOfIndex
         (kinds_of ⟦<R::Value as SceneValue<R::Data>>⟧.places R.part_of R.columns) R.part_of (seen_of world.now)
         (texts names.now) index values.items) }
 {
     let mut values = Vec::new(alloc);
-    for kind in names {
-        values.push(datum_at(rules, world, kind, index, alloc)?)?;
+    for place in 0..names.len() {
+        values.push(datum_at(rules, world, names[place], columns[place], index, alloc)?)?;
     }
     Ok(values)
 }
