@@ -1,5 +1,7 @@
 -- Lemmas on entities that are entered one after another into what is kept, and on the scene that is kept then.
-use Rattle.std.proofs.Common.{◌≡◌, ◌<◌, ◌+◌, ℕ, take, get_or, Bool, true, false, cond, eqb, ◌||◌, List, [], ◌∷◌, ◌++◌, map, length, All, Option, Some, None, IsSome, is_some, option_map, refl, ap, sym, subst, ◌∙◌}
+use Rattle.std.proofs.Common.{◌≡◌, ◌<◌, ◌+◌, ℕ, take, get_or, Bool, true, false, cond, eqb, ◌||◌, List, [], ◌∷◌, ◌++◌, map, length, All, Option, Some, None, IsSome, is_some, option_map, refl, ap, sym, subst, ◌∙◌, arith}
+use denote.Ref.{Bor}
+use Rattle.std.specs.Option.{option_copied}
 use Rattle.std.specs.Prelude.{option_and_then, slice_get}
 use Rattle.std.specs.List.{list_any}
 use Rattle.std.specs.List.Sorted.{IsPermutation}
@@ -10,10 +12,11 @@ use Rattle.std.specs.FinMap as finite
 use Rattle.std.specs.Cmp.{nat_cmp_total}
 use Rattle.std.proofs.lemmas.Bool.{false≢true, eqb-true, eq-eqb}
 use Rattle.std.proofs.lemmas.List.Elements.{All-nil, All-head, All-tail, All-push, All-weaker}
-use Rattle.std.proofs.lemmas.List.{length-map, take_more}
+use Rattle.std.proofs.lemmas.List.{length-map, get_or-map, take_more}
 use Rattle.specs_entity.specs.Births.{Births, IsAlive, living}
 use Rattle.specs_entity.specs.Life.{LifeAt}
 use Rattle.scene_rules.specs.Parts.{Json, Name, Part, is_among, place_of, living as reaching}
+use Rattle.scene_rules.specs.Declaring.{texts}
 use Rattle.scene_rules.specs.Rulebook.{Book}
 use Rattle.scene_rules.specs.Scenes.{RefLives}
 use Rattle.scene_rules.proofs.CallerLemmas.{is_eq-nat_cmp, same-ids}
@@ -27,7 +30,7 @@ use Rattle.scene_kept.specs.Keeping.{Keeping, kept_at}
 use Rattle.scene_snapshot.specs.KeptScenes.{kept_scene}
 use Rattle.scene_snapshot.proofs.KeptTextLemmas.{kept-scene-is}
 use Rattle.scene_rules.specs.Slots.{filled}
-use Rattle.scene_keeping.specs.Taken.{AreMarkedBy, part_at, AreOfIndex, KeepsOne, IsKeptOf, AreKept}
+use Rattle.scene_keeping.specs.Taken.{AreColumns, AreMarkedBy, part_at, AreOfIndex, KeepsOne, IsKeptOf, AreKept}
 use Rattle.scene_keeping.proofs.PlaceLemmas.{by-name, keys-ascend, keys-there}
 
 -- ---- references
@@ -87,6 +90,20 @@ any-holds P index (entity ∷ entities) all some = by (eqb entity.id index) refl
     by : (b : Bool) → eqb entity.id index ≡ b → (b || list_any (λ one. eqb one.id index) entities) ≡ true → (list_any (λ one. eqb one.id index) entities ≡ true → (one : LifeAt) × (one.id ≡ index) × P one) → (one : LifeAt) × (one.id ≡ index) × P one
     by true same some later = (entity, eqb-true entity.id index same, All-head P entity entities all)
     by false apart some later = later some
+
+-- as many values stand for kinds as there are kinds, and each is that of its kind
+pub as-many-columns : {V : Type 0} (kinds : Kinds V) (w : Sight V) (names : List (Bor Name)) (columns : List (Option (Bor V))) → AreColumns kinds w (texts names) columns → length columns ≡ length names
+as-many-columns kinds w names columns are = sym (length-map columns option_copied) ∙ ap length are ∙ length-map (texts names) (λ kind. w (kinds.part_id kind)) ∙ length-map names (λ name. name.now)
+
+pub column-at : {V : Type 0} (kinds : Kinds V) (w : Sight V) (names : List (Bor Name)) (columns : List (Option (Bor V))) → AreColumns kinds w (texts names) columns → (place : ℕ) (name : Bor Name) (one : Option (Bor V))
+    → place < length names → one ≡ get_or columns place one → option_copied one ≡ w (kinds.part_id (get_or names place name).now)
+column-at kinds w names columns are place name one within is =
+    let many : length columns ≡ length names = as-many-columns kinds w names columns are in
+    let all : length (texts names) ≡ length names = length-map names (λ name. name.now) in
+    ap option_copied is ∙ sym (get_or-map option_copied columns place one (option_copied one) (omega (arith, many, within)))
+    ∙ ap (λ list. get_or list place (option_copied one)) are
+    ∙ get_or-map (λ kind. w (kinds.part_id kind)) (texts names) place name.now (option_copied one) (omega (arith, all, within))
+    ∙ ap (λ kind. w (kinds.part_id kind)) (get_or-map (λ name. name.now) names place name name.now within)
 
 -- in another order they are all that live still
 pub living-permuted : (births : Births) (entities others : List LifeAt) → IsPermutation entities others → AreLiving births entities → AreLiving births others

@@ -68,7 +68,7 @@ fn datum_at<R: Rules>(
     requires stands { IsSceneWorld (kinds_of ⟦<R::Value as SceneValue<R::Data>>⟧.places R.part_of R.columns)
         (R.book rules.now) (seen_of world.now) }
     requires known { is_among kind.now R.columns.part_names ≡ true }
-    requires column { option_copied column.entry ≡ seen_of world.now (R.columns.part_id kind.now) }
+    requires column { option_copied column ≡ seen_of world.now (R.columns.part_id kind.now) }
     ensures { IfOk result (λ datum. option_map R.part_of datum ≡ part_at
         (kinds_of ⟦<R::Value as SceneValue<R::Data>>⟧.places R.part_of R.columns) (seen_of world.now) index kind.now) }
 {

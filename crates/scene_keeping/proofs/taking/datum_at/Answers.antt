@@ -7,7 +7,7 @@ use Rattle.scene_world.specs.Standing.{roll_of, column_of}
 use Rattle.scene_turns.specs.Places.{kinds_of}
 use Rattle.scene_turns.specs.Putting.{named_in, part_read}
 use Rattle.scene_acts.specs.Acts.{seen_of}
-use Rattle.scene_acts.proofs.LookLemmas.{lent-some}
+use Rattle.std.specs.Option.{option_copied}
 use Rattle.scene_keeping.specs.Taken.{AreMarkedBy, part_at}
 use Rattle.scene_keeping.proofs.KeepLemmas.{read-part, stored-live}
 use Rattle.scene_keeping.proofs.taking.datum_at.Goals as goal
@@ -18,8 +18,7 @@ returns g c =
     let w = seen_of c.args.world.now in
     let roll : Roll = roll_of kinds w in
     let stored : Option Stored = g.R.Rules.columns.stored c.args.kind.now c.in-Some.value.now c.args.index in
-    let there : column_of kinds w c.args.kind.now c.args.index ≡ stored = ap (option_and_then (λ v. g.R.Rules.columns.stored c.args.kind.now v c.args.index))
-    (lent-some c.args.world.now (g.R.Rules.columns.part_id c.args.kind.now) c.part_id.result c.part_id.ensures c.get_raw.result c.get_raw.ensures c.in-Some.value c.in-Some.is) in
+    let there : column_of kinds w c.args.kind.now c.args.index ≡ stored = ap (option_and_then (λ v. g.R.Rules.columns.stored c.args.kind.now v c.args.index)) (sym c.requires.column ∙ ap option_copied c.in-Some.is) in
     let named : c.deref.result.now ≡ named_in stored = c.deref.ensures.value ∙ c.in_ok-named_at.ensures ∙ ap (λ (l : List LifeAt). l ++ named_in stored) c.new-named.ensures.items in
     let marked : AreMarkedBy roll (named_in stored) c.in_ok-ids.ids.items = subst (λ list. AreMarkedBy roll list c.in_ok-ids.ids.items) named c.in_ok-ids.ensures in
     let read : option_map (part_read c.deref-2.result.now) stored ≡ part_at kinds w c.args.index c.args.kind.now =
