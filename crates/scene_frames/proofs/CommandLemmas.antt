@@ -1,5 +1,5 @@
 -- Commands of a frame that are carried out in a world, or refused there.
-use Rattle.std.proofs.Common.{◌≡◌, ◌+◌, ◌≤◌, ◌<◌, ◌||◌, ◌⊎◌, inl, inr, ℕ, Bool, true, false, cond, eqb, List, [], ◌∷◌, ◌++◌, length, Option, Some, None, Result, Ok, Err, OnOk, refl, ap, sym, ◌∙◌, subst, append_assoc, arith, All}
+use Rattle.std.proofs.Common.{◌≡◌, ◌+◌, ◌≤◌, ◌||◌, inl, inr, ℕ, Bool, true, false, cond, eqb, List, [], ◌∷◌, ◌++◌, length, Some, None, Result, Ok, Err, OnOk, refl, ap, sym, ◌∙◌, subst, append_assoc, All}
 use Rattle.std.specs.List.{flat_map}
 use Rattle.std.proofs.lemmas.Bool.{false≢true, eqb-true}
 use Rattle.std.proofs.lemmas.Option.{none-some}
@@ -10,12 +10,12 @@ use Rattle.scene_rules.specs.declared.refusals.FrameRefusal.{FrameRefusal}
 use Rattle.scene_rules.specs.declared.refusals.FrameRefusal.TheVariants.{System, GoneReference, IdsSpent, IndicesSpent, GenerationsSpent, TooManyCommands, Memory, Threads}
 use Rattle.scene_rules.specs.declared.refusals.Skip.{Skip}
 use Rattle.scene_rules.specs.Rulebook.{Book, Command, spawn, kill, put, take}
-use Rattle.scene_rules.specs.Parts.{Name, Part, is_among}
+use Rattle.scene_rules.specs.Parts.{Name, is_among}
 use Rattle.scene_rules.specs.Scenes.{PlainScene, PlainFrame, PartsStand, lives}
 use Rattle.scene_rules.specs.Lawful.{IsLawful}
 use Rattle.specs_entity.specs.Births.{Births, IndicesAreSpent, GenerationsAreSpent}
-use Rattle.scene_rules.specs.Commands.{Played, played, spent, play, skips_of, ComesToSpawn, CommandsAccepted}
-use Rattle.scene_rules.specs.Leads.{CommandsLead, RunsTo, behind_all}
+use Rattle.scene_rules.specs.Commands.{played, spent, play, skips_of, ComesToSpawn, CommandsAccepted}
+use Rattle.scene_rules.specs.Leads.{CommandsLead, RunsTo}
 use Rattle.scene_rules.specs.Frames.{Queues, SystemsRun, Refuses, all_commands}
 use Rattle.scene_rules.proofs.CallerLemmas.{behind_all-played, joined-to, finds_no_id, refused-join, IsBetween, apply-between, play-keeps}
 use Rattle.scene_world.specs.Rolls.{part_in}
@@ -25,7 +25,7 @@ use Rattle.scene_acts.specs.Acts.{seen_of}
 use Rattle.scene_acts.specs.Lists.{RefusesAct, RefusesActs}
 use Rattle.scene_frames.specs.Waiting.{NoneWaits, NoneWaitsAt, StaysApart}
 use Rattle.scene_frames.proofs.WorldLemmas.{waits-apart}
-use Rattle.scene_frames.specs.Refusals.{GoneIn, RefusesAll, SpawnFindsNone, CommandsRefusedIn, FrameFindsNone, RefusedIn}
+use Rattle.scene_frames.specs.Refusals.{GoneIn, RefusesAll, SpawnFindsNone, CommandsRefusedIn, RefusedIn}
 
 -- commands that lead to a scene, and none after them, play on to it
 pub lead-played : (place : ℕ) (commands : List Command) (scene after : PlainScene) (places : List ℕ) → CommandsLead place commands scene after places → play place commands scene ≡ played after places

@@ -6,8 +6,6 @@ use Rattle.std.proofs.lemmas.List.Elements.{All-nil, All-cons, All-head, All-tai
 use Rattle.std.proofs.lemmas.Grind.{flat_map-append}
 use Rattle.scene_rules.specs.declared.command.Queue.{Queue}
 use Rattle.scene_rules.specs.Parts.{Part}
-use Rattle.scene_rules.specs.Rulebook.{Book, Command}
-use Rattle.scene_rules.specs.Lawful.{IsLawful}
 use Rattle.scene_rules.specs.Queues.{plain_command, plain_commands, waiting}
 use Rattle.scene_frames.specs.Waiting.{waiting_in}
 

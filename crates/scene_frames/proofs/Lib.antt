@@ -2,4 +2,5 @@ pub mod QueueLemmas
 pub mod WorldLemmas
 pub mod CountLemmas
 pub mod CommandLemmas
+pub mod SpareLemmas
 pub mod CallerLemmas

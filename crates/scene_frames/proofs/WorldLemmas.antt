@@ -16,7 +16,6 @@ use Rattle.scene_rules.specs.Parts.{Name, is_among}
 use Rattle.scene_rules.specs.Rulebook.{Book}
 use Rattle.scene_rules.specs.Scenes.{lives, IsProper}
 use Rattle.scene_rules.proofs.CallerLemmas.{same_scene, all_front, all_back}
-use Rattle.scene_world.specs.Stored.{Stored}
 use Rattle.scene_world.specs.Rolls.{Roll, IsRoll, ids_in, part_in}
 use Rattle.scene_world.specs.Standing.{Kinds, roll_of, column_in, column_of, plain_of, commands_of, IsWithin, IsSceneWorld}
 use Rattle.scene_world.specs.Lent.{Place, entities, markers, allocator, parts, value, queue, id_of_place, is_known, same_place, StandApart}

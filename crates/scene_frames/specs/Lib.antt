@@ -4,3 +4,4 @@ pub use Rattle.scene_acts.specs.Acts
 pub use Rattle.scene_systems.specs.Orders
 pub mod Waiting
 pub mod Refusals
+pub mod Sparing

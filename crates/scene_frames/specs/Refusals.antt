@@ -1,5 +1,5 @@
 -- Why a frame that runs in a world is refused.
-use Rattle.std.specs.Prelude.{◌≡◌, ◌≤◌, ◌⊎◌, ℕ, List, [], ◌∷◌, ◌++◌, length, Some}
+use Rattle.std.specs.Prelude.{◌≡◌, ◌≤◌, ◌⊎◌, ℕ, List, ◌∷◌, ◌++◌, length, Some}
 use Rattle.shred_world.specs.Worlds.{Slots}
 use Rattle.specs_entity.specs.Births.{Births, IndicesAreSpent, GenerationsAreSpent}
 use Rattle.scene_rules.specs.declared.refusals.FrameRefusal.{FrameRefusal}

@@ -1,5 +1,5 @@
 -- Commands that wait in the queues of a world.
-use Rattle.std.specs.Prelude.{◌≡◌, ◌<◌, ℕ, true, false, List, [], map, All, AllPairs}
+use Rattle.std.specs.Prelude.{◌≡◌, ◌<◌, ℕ, true, false, List, [], All, AllPairs}
 use Rattle.std.specs.List.{flat_map}
 use Rattle.shred_world.specs.declared.resource_id.ResourceId.{ResourceId}
 use Rattle.shred_world.specs.ResourceIds.{same_id}

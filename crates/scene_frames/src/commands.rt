@@ -11,6 +11,7 @@ ghost use Rattle.scene_turns.specs.Places.{kinds_of};
 ghost use Rattle.scene_acts.specs.Acts.{seen_of, MayAct, StaysElsewhere};
 ghost use Rattle.scene_acts.specs.Lists.{RefusesActs};
 ghost use Rattle.scene_frames.specs.Waiting.{waiting_in, waiting_at, PlacesAscend, NoneWaitsAt, StaysApart};
+ghost use Rattle.scene_frames.specs.Sparing.{AsksNoDeath, NoneGone};
 ghost use Rattle.scene_frames.specs.Refusals.{CommandsRefusedIn, GoneIn, RefusesAll};
 
 use crate::queues::{put_queues, take_queues};
@@ -128,17 +129,62 @@ fn act_both<R: Rules>(
     act_queues(rules, world, frame, earlier, queues, skips, alloc)
 }
 
-/// Refuses a frame after which a reference is gone.
+/// Whether one of some commands is to kill somebody.
+fn has_kill<D: Drop>(commands: &[Command<D>]) -> bool
+    ensures { result ≡ false → All AsksNoDeath commands.now }
+{
+    for command in commands {
+        if let Command::Kill(_) = command {
+            return true;
+        }
+    }
+    false
+}
+
+/// Whether one of the commands that wait in queues is to kill somebody.
+fn have_kill<D: Drop>(queues: &[Queue<D>]) -> bool
+    ensures { result ≡ false → All (λ queue. All AsksNoDeath (waiting queue)) queues.now }
+{
+    for queue in queues {
+        if has_kill(queue.as_slice()) {
+            return true;
+        }
+    }
+    false
+}
+
+/// Whether one of some commands, or of those that wait in queues, is to kill somebody.
+fn ask_death<D: Drop>(given: &[Command<D>], queues: &[Queue<D>]) -> bool
+    ensures given { result ≡ false → All AsksNoDeath given.now }
+    ensures queues { result ≡ false → All (λ queue. All AsksNoDeath (waiting queue)) queues.now }
+{
+    if has_kill(given) {
+        return true;
+    }
+    have_kill(queues)
+}
+
+/// Refuses a frame after which a reference is gone. It looks only where somebody may have been killed.
 ///
 /// Errors: `GoneReference`, with the least id that holds one; `Memory`.
-fn look<R: Rules>(rules: &R, world: &World<R::Value>, alloc: Global) -> Result<(), FrameRefusal>
+fn look<R: Rules>(
+    rules: &R,
+    world: &World<R::Value>,
+    kills: bool,
+    alloc: Global,
+) -> Result<(), FrameRefusal>
     requires may { MayAct (kinds_of ⟦<R::Value as SceneValue<R::Data>>⟧.places R.part_of R.columns) world.now }
+    requires spared { kills ≡ false → NoneGone
+        (plain_of (kinds_of ⟦<R::Value as SceneValue<R::Data>>⟧.places R.part_of R.columns) (seen_of world.now)) }
     ensures ok { OnOk result (first_gone (R.book rules.now)
         (plain_of (kinds_of ⟦<R::Value as SceneValue<R::Data>>⟧.places R.part_of R.columns) (seen_of world.now)) ≡
         None) }
     ensures refused { IfErr result (GoneIn (R.book rules.now)
         (plain_of (kinds_of ⟦<R::Value as SceneValue<R::Data>>⟧.places R.part_of R.columns) (seen_of world.now))) }
 {
+    if !kills {
+        return Ok(());
+    }
     match find_gone(rules, world, alloc) {
         Ok(None) => Ok(()),
         Ok(Some(id)) => Err(FrameRefusal::GoneReference(id)),
@@ -163,6 +209,7 @@ fn act_out<R: Rules>(
 where
     R::Value: Drop,
     requires may { MayAct (kinds_of ⟦<R::Value as SceneValue<R::Data>>⟧.places R.part_of R.columns) world.old }
+    requires none { NoneGone (plain_of (kinds_of ⟦<R::Value as SceneValue<R::Data>>⟧.places R.part_of R.columns) (seen_of world.old)) }
     requires ascend { PlacesAscend places.now }
     requires given { All (IsLawful (R.book rules.now)) (plain_commands R.part_of given.now) }
     requires lawful { All (λ queue. All (IsLawful (R.book rules.now)) (plain_commands R.part_of (waiting queue)))
@@ -187,6 +234,7 @@ where
         (plain_commands R.part_of given.now ++ waiting_in R.part_of queues.items) world.old) }
     ensures kept { (more : List Skip) × (skips.new.items ≡ skips.old.items ++ more) }
 {
+    let kills = ask_death(given, queues.as_slice());
     match act_both(rules, world, frame, given, queues.as_slice(), skips, alloc) {
         Ok(()) => {}
         Err(refusal) => return Err(refusal),
@@ -195,7 +243,7 @@ where
         Ok(()) => {}
         Err(_) => return Err(FrameRefusal::Memory),
     }
-    look(rules, world, alloc)
+    look(rules, world, kills, alloc)
 }
 
 /// Runs the commands of a frame in a world: those that are given, and then those that wait in the queues at places, by
@@ -204,7 +252,7 @@ where
 /// Where they are accepted, the scene that stands in the world is the one to which they lead, the skipped ones are
 /// noted behind the skips by the frame and their place, and the queues at these places are empty.
 ///
-/// Asked for is that the places ascend, and that the commands are ones that the rules know.
+/// Asked for is that no reference is gone yet, that the places ascend, and that the commands are ones that the rules know.
 ///
 /// Errors: `TooManyCommands`, where there are more than `limit`; `IdsSpent`, `IndicesSpent` and `GenerationsSpent` of
 /// a spawn; `GoneReference`, with the least id that holds one; `Memory`, also where there is no queue at a place. The
@@ -222,6 +270,7 @@ pub fn run_commands<R: Rules>(
 where
     R::Value: Drop,
     requires may { MayAct (kinds_of ⟦<R::Value as SceneValue<R::Data>>⟧.places R.part_of R.columns) world.old }
+    requires none { NoneGone (plain_of (kinds_of ⟦<R::Value as SceneValue<R::Data>>⟧.places R.part_of R.columns) (seen_of world.old)) }
     requires ascend { PlacesAscend places.now }
     requires given { All (IsLawful (R.book rules.now)) (plain_commands R.part_of given.now) }
     requires lawful { All (λ place. All (IsLawful (R.book rules.now))

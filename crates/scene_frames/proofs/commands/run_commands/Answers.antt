@@ -1,4 +1,4 @@
-use Rattle.std.proofs.Common.{◌≡◌, ◌+◌, ◌≤◌, ◌++◌, length, map, ap, sym, ◌∙◌, subst, length-append, arith, All}
+use Rattle.std.proofs.Common.{◌≡◌, ◌+◌, ◌++◌, length, ap, sym, ◌∙◌, subst, length-append, arith, All}
 use Rattle.std.proofs.lemmas.List.{length-map}
 use Rattle.scene_rules.specs.Lawful.{IsLawful}
 use Rattle.scene_rules.specs.Commands.{CommandsAccepted}
@@ -7,6 +7,7 @@ use Rattle.scene_turns.specs.Places.{kinds_of}
 use Rattle.scene_world.specs.Standing.{plain_of, commands_of}
 use Rattle.scene_acts.specs.Acts.{seen_of}
 use Rattle.scene_frames.specs.Waiting.{waiting_in, waiting_at}
+use Rattle.scene_frames.specs.Sparing.{NoneGone}
 use Rattle.scene_frames.specs.Refusals.{CommandsRefusedIn}
 use Rattle.scene_frames.proofs.WorldLemmas.{scene-stays, may-stays, beside-apart}
 use Rattle.scene_frames.proofs.CountLemmas.{flat-same, all-same}
@@ -25,6 +26,9 @@ returns-then-not-are_within-clause-refused g c =
 
 pub act_out-requires-clause-may : goal.act_out-requires-clause-may
 act_out-requires-clause-may g c = may-stays (kinds_of g.R.Value.SceneValue.places g.R.DocumentRules.part_of g.R.Rules.columns) g.met.R.Rules.apart c.args.places.now c.args.world.now c.take_queues.new.world c.in-Ok.ensures.beside c.requires.may
+
+pub act_out-requires-clause-none : goal.act_out-requires-clause-none
+act_out-requires-clause-none g c = subst NoneGone (sym (scene-stays (kinds_of g.R.Value.SceneValue.places g.R.DocumentRules.part_of g.R.Rules.columns) g.met.R.Rules.apart c.args.places.now c.args.world.now c.take_queues.new.world c.in-Ok.ensures.beside)) c.requires.none
 
 pub act_out-requires-clause-lawful : goal.act_out-requires-clause-lawful
 act_out-requires-clause-lawful g c =

@@ -1,10 +1,8 @@
-use Rattle.std.proofs.Common.{get_or, ◌≡◌, ◌++◌, ℕ, Bool, true, false, List, [], ap, sym, ◌∙◌, subst, refl, All}
+use Rattle.std.proofs.Common.{get_or, ◌≡◌, ◌++◌, [], ap, sym, ◌∙◌, subst, All}
 use Rattle.std.specs.List.{flat_map}
 use Rattle.std.proofs.lemmas.Result.{IfErr-weaker, on_ok_weaker}
 use Rattle.std.proofs.lemmas.List.Elements.{All-nil, All-append}
 use Rattle.scene_rules.specs.Lawful.{IsLawful}
-use Rattle.scene_rules.specs.Rulebook.{Command}
-use Rattle.scene_rules.specs.Scenes.{lives}
 use Rattle.scene_rules.specs.Commands.{CommandsAccepted}
 use Rattle.scene_rules.specs.Queues.{plain_commands}
 use Rattle.scene_rules.specs.Frames.{by_place}
@@ -13,13 +11,13 @@ use Rattle.scene_turns.specs.Places.{kinds_of}
 use Rattle.scene_turns.specs.Turns.{placed_as}
 use Rattle.scene_turns.specs.Chains.{left_at}
 use Rattle.scene_systems.specs.Orders.{turn_order}
-use Rattle.scene_systems.specs.Frames.{HaveTakenTurns}
 use Rattle.scene_world.specs.Standing.{plain_of, commands_of}
 use Rattle.scene_acts.specs.Acts.{seen_of}
 use Rattle.scene_frames.specs.Waiting.{waiting_at}
 use Rattle.scene_frames.specs.Refusals.{CommandsRefusedIn}
 use Rattle.scene_frames.proofs.QueueLemmas.{by-place-left, left-none, left-lawful, run-stand, run-known}
 use Rattle.scene_frames.proofs.CommandLemmas.{then-refused, accepted-between, on_ok_two, all-flat, seen-stand, none-left}
+use Rattle.scene_frames.proofs.SpareLemmas.{proper-none}
 use Rattle.scene_frames.proofs.frame.run_frame.Goals as goal
 
 pub run_commands-requires-clause-lawful : goal.run_commands-requires-clause-lawful
@@ -28,6 +26,9 @@ run_commands-requires-clause-lawful g c = λ k d inside.
     let place = get_or c.args.places.now k d in
     subst (All (IsLawful (g.R.DocumentRules.book c.args.rules.now))) (sym (turns.queued place ∙ ap (left_at place turns.queues) (c.requires.none place)))
     (left-lawful (g.R.DocumentRules.book c.args.rules.now) place turns.queues [] (All-nil (IsLawful (g.R.DocumentRules.book c.args.rules.now))) (run-known (g.R.DocumentRules.book c.args.rules.now) (turn_order (placed_as (λ placed. placed.position) (λ placed. placed.system) g.R.DocumentRules.kind_of g.R.DocumentRules.config_of g.R.DocumentRules.declared g.R.Rules.sense g.R.Rules.does).plain c.args.dispatcher.now) (plain_of (kinds_of g.R.Value.SceneValue.places g.R.DocumentRules.part_of g.R.Rules.columns) (seen_of c.args.world.now)) (plain_of (kinds_of g.R.Value.SceneValue.places g.R.DocumentRules.part_of g.R.Rules.columns) (seen_of c.run_systems.new.world)) turns.queues turns.systems))
+
+pub run_commands-requires-clause-none : goal.run_commands-requires-clause-none
+run_commands-requires-clause-none g c = proper-none (g.R.DocumentRules.book c.args.rules.now) (plain_of (kinds_of g.R.Value.SceneValue.places g.R.DocumentRules.part_of g.R.Rules.columns) (seen_of c.run_systems.new.world)) (c.in-Ok.ensures.comes c.requires.ready).ready.world.proper
 
 pub returns-clause-accepted : goal.returns-clause-accepted
 returns-clause-accepted g c =

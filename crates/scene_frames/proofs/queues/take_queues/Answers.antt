@@ -1,4 +1,4 @@
-use Rattle.std.proofs.Common.{get_or, ◌≡◌, ◌∷◌, ◌++◌, [], map, take, refl, ap, sym, ◌∙◌, subst}
+use Rattle.std.proofs.Common.{get_or, ◌∷◌, ◌++◌, [], map, take, refl, ap, sym, ◌∙◌, subst}
 use Rattle.std.proofs.lemmas.List.{map-append, take_all, get_or_default}
 use Rattle.scene_rules.specs.Queues.{plain_commands, waiting}
 use Rattle.scene_rules.proofs.CallerLemmas.{front_at}
