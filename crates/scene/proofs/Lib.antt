@@ -1,4 +1,3 @@
 pub mod TurnLemmas
 pub mod OutcomeLemmas
 pub mod PlaceLemmas
-pub mod CallerLemmas

@@ -1,25 +1,15 @@
 -- Lemmas on what a whole run answers.
-use Rattle.std.proofs.Common.{◌≡◌, ℕ, true, List, Option, Some, None, Ok, option_map, is_some, sym, ◌∙◌, ap, subst, All}
-use Rattle.std.specs.Prelude.{option_and_then, slice_get}
-use Rattle.std.proofs.lemmas.Option.{none-some}
-use Rattle.std.proofs.lemmas.List.Elements.{All-map}
+use Rattle.std.proofs.Common.{◌≡◌, ℕ, List, Some, Ok, sym, ◌∙◌, ap, subst}
 use Rattle.scene_rules.specs.declared.refusals.Report.{Report}
-use Rattle.scene_document.specs.declared.loaded.LoadError.{LoadError}
-use Rattle.scene_document.specs.declared.loaded.LoadError.TheVariants.{Document, Memory}
 use Rattle.scene_rules.specs.Rulebook.{Book}
-use Rattle.scene_rules.specs.Scenes.{IsProper, PartsStand, IsDescribed}
-use Rattle.scene_rules.specs.Lawful.{IsLawful}
-use Rattle.scene_rules.proofs.CallerLemmas.{owned-held}
-use Rattle.scene_rules.specs.Parts.{Json, Name, Part, is_among, place_of}
-use Rattle.scene_draft.proofs.CallerLemmas.{is_some-place_of}
+use Rattle.scene_rules.specs.Scenes.{IsProper}
+use Rattle.scene_rules.specs.Parts.{Json}
 use Rattle.scene_draft.specs.Drafts.{Draft}
 use Rattle.scene_document.specs.Documents.{of_reading, document_from}
 use Rattle.scene_draft.specs.Texts.{json_of, scene_json, text_of, ReadsBack}
-use Rattle.scene_document.specs.Loading.{IsNotLoaded}
-use Rattle.scene_document.specs.Openings.{first_scene, frames_of}
 use Rattle.scene.specs.Runs.{CanBegin, Ran}
 use Rattle.scene.specs.Turns.{Shown, opening, RunsOut}
-use Rattle.scene.specs.Outcomes.{Bounds, IsRunOf, IsNoDocument}
+use Rattle.scene.specs.Outcomes.{Bounds, IsRunOf}
 
 -- a run to the end of a document that was opened is a run of its bytes
 pub run_of : (book : Book) (bounds : Bounds) (input : List ℕ) (json : Json) (draft : Draft) (start now : Shown) (report : Report) (text : List ℕ) → json_of input ≡ Some json → document_from book bounds.indices json ≡ Ok draft → start ≡ opening bounds.commands draft → CanBegin book draft → RunsOut book start now → IsProper book now.scene → report ≡ now.report → text ≡ text_of book now.scene → ReadsBack text (scene_json book now.scene) → IsRunOf book bounds input report text

@@ -1,5 +1,5 @@
 -- What a whole run may answer, in terms of the bytes that were read.
-use Rattle.std.specs.Prelude.{◌≡◌, ◌≤◌, ℕ, List, length, Option, IfSome, IfOk, IfErr, OnOk, Result, Ok, Err, ◌⊎◌, take}
+use Rattle.std.specs.Prelude.{◌≡◌, ◌≤◌, ℕ, List, length, Option, IfSome, IfOk, IfErr, Result, Ok, Err, ◌⊎◌, take}
 use Rattle.std.specs.Io.KnownBytes.{Appends, IsAtEnd}
 use Rattle.scene_devices.specs.Faults.{HasFailed}
 use Rattle.scene_devices.specs.Reading.{GivesAtLeast}

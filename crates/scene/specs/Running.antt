@@ -5,7 +5,6 @@ use Rattle.shred_world.specs.Worlds.{Slots}
 use Rattle.shred_world.specs.Bundles.{holding_of}
 use Rattle.shred.specs.Dispatching.{Dispatching}
 use Rattle.scene_rules.specs.declared.command.Command.{Command}
-use Rattle.scene_rules.specs.declared.refusals.Report.{Report}
 use Rattle.scene_rules.specs.Parts.{Json, Name, Part}
 use Rattle.scene_rules.specs.Rulebook.{Access, Book}
 use Rattle.scene_rules.specs.Scenes.{PlainScene, PlainSystem, PlainFrame, IsProper}

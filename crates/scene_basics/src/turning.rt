@@ -78,10 +78,10 @@ impl Rules for Basics {
         index: u32,
         named: &mut Vec<Entity>,
     ) -> Result<(), AllocError> {
-        if kind == OWNER {
-            return push_owner(value, index, named);
+        match value {
+            Value::OwnersValue(_) if kind == OWNER => push_owner(value, index, named),
+            _ => Ok(()),
         }
-        Ok(())
     }
 
     fn get(

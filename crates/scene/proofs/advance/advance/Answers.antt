@@ -1,4 +1,4 @@
-use Rattle.std.proofs.Common.{◌≡◌, sym, ◌∙◌, ap, subst, All, true}
+use Rattle.std.proofs.Common.{◌≡◌, sym, subst, All, true}
 use Rattle.scene_rules.specs.Frames.{Accepts, Refuses}
 use Rattle.scene_rules.specs.Scenes.{PlainFrame, lives}
 use Rattle.scene_rules.specs.Queues.{plain_commands}

@@ -1,5 +1,5 @@
-use Rattle.std.proofs.Common.{◌≡◌, sym, ◌∙◌, ap}
-use Rattle.scene_document.specs.Openings.{commands_for, frames_of}
+use Rattle.std.proofs.Common.{sym, ◌∙◌, ap}
+use Rattle.scene_document.specs.Openings.{commands_for}
 use Rattle.scene_turns.specs.Turns.{placed_as}
 use Rattle.scene_systems.specs.Orders.{turn_order}
 use Rattle.scene.proofs.PlaceLemmas.{frame-commands, frame-lawful}

@@ -3,7 +3,7 @@ use Rattle.scene_document.proofs.CallerLemmas.{unrefused}
 use Rattle.scene_turns.specs.Places.{kinds_of}
 use Rattle.std.proofs.lemmas.List.Elements.{All-weaker}
 use Rattle.shred_world.specs.Bundles.{readable, slot_of}
-use Rattle.scene_world.specs.Standing.{plain_of, commands_of}
+use Rattle.scene_world.specs.Standing.{commands_of}
 use Rattle.scene_staging.specs.Opened.{HasEmptyQueue}
 use Rattle.scene_frames.proofs.CallerLemmas.{none-left}
 use Rattle.scene_acts.specs.Acts.{seen_of}

@@ -3,10 +3,10 @@ use Rattle.scene_draft.specs.Texts.{scene_json, text_of, ReadsBack}
 use Rattle.scene_rules.specs.Scenes.{IsProper}
 use Rattle.scene.specs.Outcomes.{bounds_of}
 use Rattle.scene.specs.Turns.{RunsOut}
-use Rattle.scene.proofs.CallerLemmas.{run_of}
+use Rattle.scene.proofs.OutcomeLemmas.{run_of}
 use Rattle.scene_turns.specs.Places.{kinds_of}
 use Rattle.scene_turns.specs.Turns.{placed_as}
-use Rattle.scene.specs.Running.{shown_of, rules_of, IsReady}
+use Rattle.scene.specs.Running.{shown_of, rules_of}
 use Rattle.scene.proofs.runner.play.Goals as goal
 
 pub returns : goal.returns

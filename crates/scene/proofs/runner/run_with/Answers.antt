@@ -1,9 +1,5 @@
-use Rattle.std.proofs.Common.{◌≡◌, ℕ, List, Option, Some, None, Err, refl, ap, ◌∙◌}
+use Rattle.std.proofs.Common.{Option, Some, None, Err, refl, ap, ◌∙◌}
 use Rattle.std.specs.Prelude.{IfSome}
-use Rattle.scene_rules.specs.declared.refusals.DocRefusal.{DocRefusal}
-use Rattle.scene_document.specs.Documents.{document_of}
-use Rattle.scene.specs.declared.runner.RunError.TheVariants as run
-use Rattle.scene.specs.Outcomes.{TellsOnly, bounds_of}
 use Rattle.scene.proofs.runner.run_with.Goals as goal
 
 -- what holds of each holds of what there may be

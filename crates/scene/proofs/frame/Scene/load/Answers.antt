@@ -7,13 +7,11 @@ use Rattle.scene_document.specs.Openings.{first_scene, frames_of, all_systems}
 use Rattle.scene_document.proofs.CallerLemmas.{unrefused, few-entries}
 use Rattle.scene_turns.specs.Places.{kinds_of}
 use Rattle.scene_turns.specs.Turns.{placed_as}
-use Rattle.scene_world.specs.Standing.{plain_of}
-use Rattle.scene_acts.specs.Acts.{seen_of}
 use Rattle.scene_systems.specs.Orders.{turn_order}
 use Rattle.scene_rules.specs.Lawful.{IsLawful}
 use Rattle.scene_frames.specs.Waiting.{PlacesAscend}
 use Rattle.scene.specs.Running.{listed_scene, course_of}
-use Rattle.scene.proofs.CallerLemmas.{is_opening, is_nothing_yet}
+use Rattle.scene.proofs.TurnLemmas.{is_opening, is_nothing_yet}
 use Rattle.scene_frames.proofs.CallerLemmas.{seen-stand}
 use Rattle.scene.proofs.PlaceLemmas.{places-ascend, order-there, order-described}
 use Rattle.scene.proofs.frame.Scene.load.Goals as goal

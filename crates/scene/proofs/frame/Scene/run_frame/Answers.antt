@@ -1,4 +1,4 @@
-use Rattle.std.proofs.Common.{arith, ◌≡◌, ◌∙◌, ◌+◌, ◌++◌, ℕ, List, refl, ap, sym, subst, suc, Option, Some, None, All}
+use Rattle.std.proofs.Common.{arith, ◌≡◌, ◌∙◌, ◌+◌, ◌++◌, refl, ap, sym, subst, suc, Some, All}
 use Rattle.std.proofs.lemmas.Option.{none-some}
 use Rattle.scene_rules.specs.Commands.{skips_of}
 use Rattle.scene_rules.specs.Frames.{Accepts, Refuses}
@@ -9,7 +9,7 @@ use Rattle.scene_document.specs.Loading.{commands_at}
 use Rattle.scene_turns.specs.Places.{kinds_of}
 use Rattle.scene_turns.specs.Turns.{placed_as}
 use Rattle.scene_systems.specs.Orders.{turn_order}
-use Rattle.scene.proofs.CallerLemmas.{none_there, told_first}
+use Rattle.scene.proofs.TurnLemmas.{none_there, told_first}
 use Rattle.scene.specs.Running.{listed_scene, course_of, Stands}
 use Rattle.scene.proofs.frame.Scene.run_frame.Goals as goal
 
