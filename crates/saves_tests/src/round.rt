@@ -1,9 +1,7 @@
 //! A world that is saved, loaded into a new one, and saved again.
-ghost use Rattle.std.specs.Prelude.{◌≢◌, IfOk, IfSome, IsTrue};
+ghost use Rattle.std.specs.Prelude.{◌≡◌, ◌≢◌, ℕ, IfOk, IfSome, IsTrue};
 ghost use Rattle.specs_saving.specs.Bearing.{IsAmong};
 ghost use Rattle.specs_forms.specs.declared.entity_data.EntityData.{EntityData};
-ghost use Rattle.std.specs.Prelude.{ℕ};
-ghost use Rattle.specs_saving.specs.Images.{SameEntries};
 ghost use Rattle.specs_saving.specs.Loading.{AreApart};
 
 use specs_entity::{EntitiesRes, Error};
@@ -37,8 +35,8 @@ pub fn are_apart<T, D>(list: &[EntityData<SimpleMarker<T>, D>]) -> bool
     }
 }
 
-/// Saves a world, loads what was saved into new storages and a new world, and saves that: the two lists have the same
-/// entries. None where two living entities bear one marker.
+/// Saves a world, loads what was saved into new storages and a new world, and saves that: the two lists are equal.
+/// None where two living entities bear one marker.
 ///
 /// Errors: those of the three calls.
 pub fn saved_and_loaded_again<T, S: DeserializeComponents<SimpleMarker<T>>>(
@@ -48,7 +46,7 @@ pub fn saved_and_loaded_again<T, S: DeserializeComponents<SimpleMarker<T>>>(
     markers: &MaskedStorage<SimpleMarker<T>>,
     new_storages: &mut S,
 ) -> Result<Option<Both<SimpleMarker<T>, S::Data>>, Error>
-    ensures { IfOk result (λ found. IfSome found (λ both. SameEntries both.0.items both.1.items)) }
+    ensures { IfOk result (λ found. IfSome found (λ both. both.0.items ≡ both.1.items)) }
 {
     let list = storages.serialize(alloc, entities, markers)?;
     let copy = a_saved_list_names_its_own(storages, alloc, entities, markers)?;
