@@ -379,8 +379,8 @@ fn comes_back(alloc: Global, world: &World, row: &Row) -> Result<bool, Error> {
         &world.markers,
         &mut new,
     ) {
-        Ok(Some((_, again))) => {
-            let text = text_of(alloc, again.as_slice())?;
+        Ok(Some(loaded)) => {
+            let text = text_of(alloc, loaded.again.as_slice())?;
             Ok(row.all == Some(text.as_str()))
         }
         Ok(None) => Ok(false),

@@ -15,7 +15,7 @@ pub a_loaded_list_is_saved_again-requires-clause-unknown :
 a_loaded_list_is_saved_again-requires-clause-unknown g c id =
     ap (λ (a : Noting). map.get a.noted id) c.new-allocator.ensures ∙ map.get-empty nat_cmp id
 
-pub returns : goal.returns
-returns g c =
+pub returns-clause-equal : goal.returns-clause-equal
+returns-clause-equal g c =
     let none = ap (λ (b : Births). b.cache) c.new-new_entities.ensures in
     same-again _ _ _ _ _ c.in_ok-list.ensures.ok c.in_ok-copy.ensures.ok (c.in-Ok.ensures.back none) c.in_ok-again.ensures.ok
