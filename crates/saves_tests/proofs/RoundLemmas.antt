@@ -1,5 +1,5 @@
--- Lists whose markers differ, and a list that was loaded and is saved again.
-use Rattle.std.proofs.Common.{◌≡◌, ◌≢◌, ℕ, List, [], ◌∷◌, Option, Some, None, inl, inr, is_some, sym, ap, subst, ◌∙◌}
+-- Lists whose markers differ, a world in which nobody was born, and a list that was loaded and is saved again.
+use Rattle.std.proofs.Common.{◌≡◌, ◌≢◌, ℕ, List, ◌∷◌, Option, Some, None, inl, inr, is_some, sym, ap, subst, ◌∙◌}
 use Rattle.std.proofs.lemmas.Bool.{false≢true}
 use Rattle.std.specs.FinSet as set
 use Rattle.std.specs.Ordering.{nat_cmp}
@@ -7,7 +7,6 @@ use Rattle.specs_entity.specs.Births.{Births, IsAlive, living_of, none_born}
 use Rattle.specs_entity.specs.Life.{LifeAt}
 use Rattle.specs_forms.specs.declared.entity_data.EntityData.{EntityData}
 use Rattle.specs_saving.specs.Bearing.{IsAmong}
-use Rattle.specs_saving.specs.Images.{SameEntries, SavesBack}
 use Rattle.specs_saving.specs.Loading.{AreApart}
 use Rattle.specs_saving.specs.LoadingLemmas.{the-same}
 
@@ -29,6 +28,6 @@ nobody-lives births indices generations is entity alive =
     let born : IsAlive (none_born indices generations) entity = subst P is alive in
     false≢true (ap is_some (sym (ap (λ b. living_of b None) (set.contains-empty nat_cmp entity.id)) ∙ born))
 
-pub same-again : {M D P : Type 0} (plain : (LifeAt → Option M) → P → Option D) (parts_at : ℕ → P) (births : Births) (markers : ℕ → Option M) (whole : Option (List (EntityData M D))) (list copy again : List (EntityData M D)) → whole ≡ Some list → whole ≡ Some copy → (back : SavesBack plain copy parts_at births markers) → Some back.again ≡ Some again → SameEntries list again
-same-again plain parts_at births markers whole list copy again is is' back saved =
-    subst (λ l. SameEntries l again) (the-same copy list (sym is' ∙ is)) (subst (λ a. SameEntries copy a) (the-same back.again again saved) back.same)
+-- two that are saved of one world are one list, and so is one that is saved of a world of which the other is
+pub same-again : {E : Type 0} (whole back : Option (List E)) (list copy again : List E) → whole ≡ Some list → whole ≡ Some copy → back ≡ Some copy → back ≡ Some again → list ≡ again
+same-again whole back list copy again is is' same saved = the-same list copy (sym is ∙ is') ∙ the-same copy again (sym same ∙ saved)

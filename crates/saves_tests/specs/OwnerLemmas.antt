@@ -1,5 +1,5 @@
 -- Parts that name an entity, and parts that name none.
-use Rattle.std.proofs.Common.{◌≡◌, ◌↔◌, ℤ, List, [], Option, Some, None, IsSome, option_map, refl, sym, ap, ◌∙◌}
+use Rattle.std.proofs.Common.{◌≡◌, ◌↔◌, ℤ, [], Option, Some, None, IsSome, option_map, refl, sym, ap}
 use Rattle.specs_entity.specs.Life.{LifeAt}
 use Rattle.specs_saving.specs.Bearing.{IsAmong}
 use Rattle.specs_saving.specs.LoadingLemmas.{the-same}

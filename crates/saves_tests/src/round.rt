@@ -1,10 +1,10 @@
 //! A world that is saved, loaded into a new one, and saved again.
-ghost use Rattle.std.specs.Prelude.{◌≢◌, IfOk, IfSome, IsTrue};
+ghost use Rattle.std.specs.Prelude.{◌≡◌, ◌≢◌, ℕ, Some, IfOk, IfSome, IsTrue};
+ghost use Rattle.specs_layouts.specs.Dense.{dense_part};
 ghost use Rattle.specs_saving.specs.Bearing.{IsAmong};
 ghost use Rattle.specs_forms.specs.declared.entity_data.EntityData.{EntityData};
-ghost use Rattle.std.specs.Prelude.{ℕ};
-ghost use Rattle.specs_saving.specs.Images.{SameEntries};
 ghost use Rattle.specs_saving.specs.Loading.{AreApart};
+ghost use Rattle.specs_saving.specs.Saved.{saved};
 
 use specs_entity::{EntitiesRes, Error};
 use specs_forms::EntityData;
@@ -14,8 +14,18 @@ use specs_saving::laws::{a_loaded_list_is_saved_again, a_saved_list_names_its_ow
 use specs_saving::{DeserializeComponents, SerializeComponents};
 use std::alloc::Global;
 
-/// What is saved of a world that is loaded into a new one, and what is saved of the new one.
-pub type Both<M, D> = (Vec<EntityData<M, D>>, Vec<EntityData<M, D>>);
+/// What is saved of a world, the new world into which that is loaded, and what is saved of the new one.
+#[derive(Drop)]
+pub struct Loaded<T, D> {
+    /// What is saved of the world.
+    pub list: Vec<EntityData<SimpleMarker<T>, D>>,
+    /// The entities of the new world.
+    pub entities: EntitiesRes,
+    /// Their markers.
+    pub markers: MaskedStorage<SimpleMarker<T>>,
+    /// What is saved of the new world.
+    pub again: Vec<EntityData<SimpleMarker<T>, D>>,
+}
 
 /// Whether no entry has a marker with that id.
 fn lacks<T, D>(list: &[EntityData<SimpleMarker<T>, D>], id: u64) -> bool
@@ -37,8 +47,8 @@ pub fn are_apart<T, D>(list: &[EntityData<SimpleMarker<T>, D>]) -> bool
     }
 }
 
-/// Saves a world, loads what was saved into new storages and a new world, and saves that: the two lists have the same
-/// entries. None where two living entities bear one marker.
+/// Saves a world, loads what was saved into new storages and a new world, and saves that: the two lists are equal.
+/// None where two living entities bear one marker.
 ///
 /// Errors: those of the three calls.
 pub fn saved_and_loaded_again<T, S: DeserializeComponents<SimpleMarker<T>>>(
@@ -47,8 +57,12 @@ pub fn saved_and_loaded_again<T, S: DeserializeComponents<SimpleMarker<T>>>(
     entities: &EntitiesRes,
     markers: &MaskedStorage<SimpleMarker<T>>,
     new_storages: &mut S,
-) -> Result<Option<Both<SimpleMarker<T>, S::Data>>, Error>
-    ensures { IfOk result (λ found. IfSome found (λ both. SameEntries both.0.items both.1.items)) }
+) -> Result<Option<Loaded<T, S::Data>>, Error>
+    ensures equal { IfOk result (λ found. IfSome found (λ loaded. loaded.list.items ≡ loaded.again.items)) }
+    ensures first { IfOk result (λ found. IfSome found (λ loaded. saved S.plain (S.parts_at storages.now) entities.now
+        (dense_part markers.now.inner) ≡ Some loaded.list.items)) }
+    ensures second { IfOk result (λ found. IfSome found (λ loaded. saved S.plain (S.parts_at new_storages.new)
+        loaded.entities (dense_part loaded.markers.inner) ≡ Some loaded.again.items)) }
 {
     let list = storages.serialize(alloc, entities, markers)?;
     let copy = a_saved_list_names_its_own(storages, alloc, entities, markers)?;
@@ -70,5 +84,10 @@ pub fn saved_and_loaded_again<T, S: DeserializeComponents<SimpleMarker<T>>>(
         Err(refused) => return Err(refused.error),
     }
     let again = new_storages.serialize(alloc, &new_entities, &new_markers)?;
-    Ok(Some((list, again)))
+    Ok(Some(Loaded {
+        list,
+        entities: new_entities,
+        markers: new_markers,
+        again,
+    }))
 }

@@ -40,14 +40,13 @@ enum Step {
 
 use Step::{Create, Heal, Kill, Mark, Own};
 
-/// A world, what is saved of its owners, what is saved of all, and what is saved of that again, once it was loaded.
-/// None where that is `Unmarked`.
+/// A world, what is saved of its owners, and what is saved of all, which is saved again once it was loaded into a new
+/// world. None where that is `Unmarked`.
 struct Row {
     name: &'static str,
     steps: &'static [Step],
     owners: Option<&'static str>,
     all: Option<&'static str>,
-    again: Option<&'static str>,
 }
 
 const ROWS: [Row; 7] = [
@@ -58,30 +57,24 @@ const ROWS: [Row; 7] = [
         all: Some(
             "[{\"components\":[1,null],\"marker\":0},{\"components\":[0,null],\"marker\":1}]",
         ),
-        again: Some(
-            "[{\"components\":[1,null],\"marker\":0},{\"components\":[0,null],\"marker\":1}]",
-        ),
     },
     Row {
         name: "an unmarked owner",
         steps: &[Create, Create, Mark(0), Own(0, 1)],
         owners: None,
         all: None,
-        again: None,
     },
     Row {
         name: "a dead owner",
         steps: &[Create, Create, Mark(0), Mark(1), Own(0, 1), Kill(1)],
         owners: None,
         all: None,
-        again: None,
     },
     Row {
         name: "an owner whose index another has",
         steps: &[Create, Create, Mark(0), Own(0, 1), Kill(1), Create, Mark(2)],
         owners: None,
         all: None,
-        again: None,
     },
     Row {
         name: "by index, not by marker",
@@ -98,28 +91,21 @@ const ROWS: [Row; 7] = [
         all: Some(
             "[{\"components\":[null,7],\"marker\":1},{\"components\":[null,-5],\"marker\":0}]",
         ),
-        again: Some(
-            "[{\"components\":[null,7],\"marker\":1},{\"components\":[null,-5],\"marker\":0}]",
-        ),
     },
     Row {
         name: "the unmarked are not saved",
         steps: &[Create, Create, Mark(1), Heal(0, 1), Heal(1, 2), Own(0, 0)],
         owners: Some("[{\"components\":[null],\"marker\":0}]"),
         all: Some("[{\"components\":[null,2],\"marker\":0}]"),
-        again: Some("[{\"components\":[null,2],\"marker\":0}]"),
     },
     Row {
-        name: "who is named first has the lower index",
+        name: "an entry that names the last",
         steps: &[Create, Create, Create, Mark(0), Mark(1), Mark(2), Own(0, 2)],
         owners: Some(
             "[{\"components\":[2],\"marker\":0},{\"components\":[null],\"marker\":1},{\"components\":[null],\"marker\":2}]",
         ),
         all: Some(
             "[{\"components\":[2,null],\"marker\":0},{\"components\":[null,null],\"marker\":1},{\"components\":[null,null],\"marker\":2}]",
-        ),
-        again: Some(
-            "[{\"components\":[2,null],\"marker\":0},{\"components\":[null,null],\"marker\":2},{\"components\":[null,null],\"marker\":1}]",
         ),
     },
 ];
@@ -199,7 +185,7 @@ struct LoadRow {
     saved: &'static str,
 }
 
-const LOADS: [LoadRow; 4] = [
+const LOADS: [LoadRow; 8] = [
     LoadRow {
         name: "what is absent is taken out",
         indices: 8,
@@ -221,6 +207,31 @@ const LOADS: [LoadRow; 4] = [
         saved: "[{\"components\":[4,1],\"marker\":9},{\"components\":[9,2],\"marker\":4}]",
     },
     LoadRow {
+        name: "the first names the last, and all keep their order",
+        indices: 8,
+        lists: &[
+            "[{\"components\":[2,1],\"marker\":0},{\"components\":[null,2],\"marker\":1},{\"components\":[0,3],\"marker\":2}]",
+        ],
+        refused: None,
+        saved: "[{\"components\":[2,1],\"marker\":0},{\"components\":[null,2],\"marker\":1},{\"components\":[0,3],\"marker\":2}]",
+    },
+    LoadRow {
+        name: "one that the list lacks comes behind them",
+        indices: 8,
+        lists: &["[{\"components\":[7,1],\"marker\":0},{\"components\":[null,2],\"marker\":1}]"],
+        refused: None,
+        saved: "[{\"components\":[7,1],\"marker\":0},{\"components\":[null,2],\"marker\":1},{\"components\":[null,null],\"marker\":7}]",
+    },
+    LoadRow {
+        name: "those behind a refusal are there without parts",
+        indices: 3,
+        lists: &[
+            "[{\"components\":[2,1],\"marker\":0},{\"components\":[7,2],\"marker\":1},{\"components\":[0,3],\"marker\":2}]",
+        ],
+        refused: Some(1),
+        saved: "[{\"components\":[2,1],\"marker\":0},{\"components\":[null,null],\"marker\":1},{\"components\":[null,null],\"marker\":2}]",
+    },
+    LoadRow {
         name: "those before a refusal are loaded",
         indices: 2,
         lists: &[
@@ -228,6 +239,15 @@ const LOADS: [LoadRow; 4] = [
         ],
         refused: Some(2),
         saved: "[{\"components\":[null,1],\"marker\":0},{\"components\":[0,2],\"marker\":1}]",
+    },
+    LoadRow {
+        name: "of two refusals that of the former entry is told",
+        indices: 2,
+        lists: &[
+            "[{\"components\":[7,1],\"marker\":0},{\"components\":[null,2],\"marker\":1},{\"components\":[null,3],\"marker\":2}]",
+        ],
+        refused: Some(0),
+        saved: "[{\"components\":[null,null],\"marker\":0},{\"components\":[null,null],\"marker\":1}]",
     },
     LoadRow {
         name: "a refused reference leaves the entry's entity",
@@ -349,7 +369,7 @@ fn is_text<D: PartForms>(
     }
 }
 
-/// Whether what is saved again of a world is as the row says.
+/// Whether what is saved of a world is saved again, once it was loaded, as the row says.
 fn comes_back(alloc: Global, world: &World, row: &Row) -> Result<bool, Error> {
     let mut new = parts(alloc);
     match saved_and_loaded_again(
@@ -359,12 +379,12 @@ fn comes_back(alloc: Global, world: &World, row: &Row) -> Result<bool, Error> {
         &world.markers,
         &mut new,
     ) {
-        Ok(Some((_, again))) => {
-            let text = text_of(alloc, again.as_slice())?;
-            Ok(row.again == Some(text.as_str()))
+        Ok(Some(loaded)) => {
+            let text = text_of(alloc, loaded.again.as_slice())?;
+            Ok(row.all == Some(text.as_str()))
         }
         Ok(None) => Ok(false),
-        Err(Error::Unmarked) => Ok(row.again.is_none()),
+        Err(Error::Unmarked) => Ok(row.all.is_none()),
         Err(error) => Err(error),
     }
 }

@@ -11,7 +11,7 @@ use Rattle.specs_layouts.specs.MaskedChanges.{PutsIn}
 use Rattle.specs_layouts.specs.MaskedLends.{StorageMembers}
 use Rattle.specs_markers.specs.Marking.{FindsMarked, IsKnown, MakesMarked, RefusesGift, RefusesRetrieval, Retrieves}
 use Rattle.specs_saving.specs.Bearing.{Asks, GoesOn}
-use Rattle.specs_saving.specs.Known.{IsSound, Known, LivesIn, RefusesBearers, bearer_at}
+use Rattle.specs_saving.specs.Known.{AddsBirth, IsSound, Known, LivesIn, RefusesBearers, bearer_at}
 use Rattle.specs_saving.proofs.KnownLemmas.{bearer-known, known-bearer}
 
 -- ---- who was born
@@ -76,6 +76,11 @@ module _ {A S M I : Type 0} (noted : A → I → Option LifeAt) (allocates : A �
       ]
 
   module _ (id : I) (entity : LifeAt) where
+    -- who is asked for is there, or is the next birth
+    pub retrieved-birth : Retrieves noted allocates id_of s id births births' before after had has entity → AddsBirth births births' entity
+    retrieved-birth (inl found) = inl found.entities
+    retrieved-birth (inr made) = inr (made.born, made.entities)
+
     found-keeps : FindsMarked noted allocates id_of s id births births' before after had has entity → Keeps
     found-keeps found other one known =
         record {

@@ -1,5 +1,5 @@
 -- A list that is loaded into an empty world, and what is saved of that.
-use Rattle.std.proofs.Common.{◌≡◌, ◌⊎◌, ◌↔◌, ◌+◌, ◌<◌, ◌≤◌, ℕ, zero, suc, Bool, true, false, cond, List, [], ◌∷◌, filter, map, Option, Some, None, is_some, IsSome, IfSome, option_and_then, option_map, inl, inr, refl, sym, ap, subst, ◌∙◌, arith}
+use Rattle.std.proofs.Common.{◌≡◌, ◌⊎◌, ◌↔◌, ◌+◌, ◌<◌, ◌≤◌, ℕ, zero, suc, Bool, true, false, cond, List, [], ◌∷◌, filter, map, Option, Some, None, is_some, IsSome, IfSome, option_and_then, option_map, unwrap_or, inl, inr, refl, sym, ap, subst, ◌∙◌, arith}
 use Rattle.std.proofs.lemmas.Bool.{false≢true}
 use Rattle.std.specs.List.{range_with_len, cons_option}
 use Rattle.hibitset_sets.specs.Walk.{walk}
@@ -10,9 +10,9 @@ use Rattle.specs_join.specs.Joins.{both, join_list, values_at}
 use Rattle.specs_layouts.proofs.CallerLemmas.{walk-come}
 use Rattle.specs_layouts.specs.ToCome.{IsToCome}
 use Rattle.specs_saving.specs.Bearing.{IsAmong}
-use Rattle.specs_saving.specs.Images.{IsImage, IsImageOf, MarkersDiffer, NamesOwn, NamesUnmarked, SavesBack}
+use Rattle.specs_saving.specs.Images.{IsImage, IsImageOf, MarkersDiffer, NamesOwn, NamesUnmarked}
 use Rattle.specs_saving.specs.Known.{IsSound, Known, bearer_at}
-use Rattle.specs_saving.specs.Loading.{AreApart, Loads}
+use Rattle.specs_saving.specs.Loading.{AreApart, AreInOrder, Loads}
 use Rattle.specs_saving.specs.LoadingLemmas.{the-same}
 use Rattle.specs_saving.specs.Saved.{IsEntryOf, all_some, entry_of, marked_at, name_of, same_birth, saved}
 use Rattle.specs_saving.proofs.KnownLemmas.{bearer-alive, bearer-known, life-itself, same-life}
@@ -54,18 +54,23 @@ module _ {A S M I : Type 0} (noted : A → I → Option LifeAt) (part_at : S →
     owner-of entry marker among (inl is) = (entry, among, is)
     owner-of entry marker among (inr later) = own entry marker among later
 
+    -- each who lives bears the marker of an entry
+    borne : (entity : LifeAt) → IsAlive after.births entity → (entry : EntityData M D) × IsAmong entry list × (bearer_at noted part_at id_of after entry.marker ≡ Some entity)
+    borne entity alive =
+        elim (loads.only entity alive) [
+          | inl lived ↦ absurd (nobody entity lived)
+          | inr made ↦
+              let owner = owner-of made.0 made.1 made.2 made.3 in
+              (owner.0, owner.1, ap (bearer_at noted part_at id_of after) owner.2 ∙ made.4)
+        ]
+
     pub loaded-image : IsImage load list after.births (part_at after.markers.inner) (bearer_at noted part_at id_of after) had has
     loaded-image =
         record {
           each = λ entry among.
               let there = loads.loaded (nothing-known before unknown) apart entry among in
               (there.entity, image-of entry among there.entity there.bears);
-          no_other = λ entity alive. elim (loads.only entity alive) [
-            | inl lived ↦ absurd (nobody entity lived)
-            | inr made ↦
-                let owner = owner-of made.0 made.1 made.2 made.3 in
-                (owner.0, owner.1, image-of owner.0 owner.1 entity (ap (bearer_at noted part_at id_of after) owner.2 ∙ made.4))
-          ];
+          no_other = λ entity alive. let owner = borne entity alive in (owner.0, owner.1, image-of owner.0 owner.1 entity owner.2);
           stands = marks;
           others = λ index elsewhere. loads.others index (λ entry entity among is. elsewhere entity (marks entry.marker entity is).0);
         }
@@ -156,6 +161,13 @@ gather f (first ∷ rest) each =
 
 -- ---- saved again
 
+-- what is saved has the entries of a list, and no other
+record SavesEntries {M D P : Type 0} (plain : (LifeAt → Option M) → P → Option D) (list : List (EntityData M D)) (parts_at : ℕ → P) (births : Births) (markers : ℕ → Option M) : Type 0 where
+  pub again : List (EntityData M D)
+  pub is : saved plain parts_at births markers ≡ Some again
+  pub into : (entry : EntityData M D) → IsAmong entry list → IsAmong entry again
+  pub from : (entry : EntityData M D) → IsAmong entry again → IsAmong entry list
+
 module _ {M D P : Type 0} (load : (M → Option LifeAt) → D → Option P) (plain : (LifeAt → Option M) → P → Option D) (back : (bearers : M → Option LifeAt) (names : LifeAt → Option M) (given : D) (parts : P) → ((marker : M) (entity : LifeAt) → bearers marker ≡ Some entity → names entity ≡ Some marker) → load bearers given ≡ Some parts → plain names parts ≡ Some given)
     (list : List (EntityData M D)) (births : Births) (markers : ℕ → Option M) (bearers : M → Option LifeAt) (had has : ℕ → P) (image : IsImage load list births markers bearers had has) (low : (index : ℕ) → IsSome (living births index) → index < 16777216) where
   names-back : (marker : M) (entity : LifeAt) → bearers marker ≡ Some entity → name_of births markers entity ≡ Some marker
@@ -166,7 +178,7 @@ module _ {M D P : Type 0} (load : (M → Option LifeAt) → D → Option P) (pla
       ap (option_map (λ components. record { marker = marker; components = components })) (back bearers (name_of births markers) entry.components (has entity.id) names-back is.parts)
       ∙ ap (λ m. Some (record { marker = m; components = entry.components })) (the-same marker entry.marker (sym marked ∙ is.marked))
 
-  pub saved-back : SavesBack plain list has births markers
+  saved-back : SavesEntries plain list has births markers
   saved-back =
       let items = gather (entry_of (plain (name_of births markers)) has) (join_list (marked_at births markers))
       (λ item among.
@@ -176,16 +188,14 @@ module _ {M D P : Type 0} (load : (M → Option LifeAt) → D → Option P) (pla
       record {
         again = items.list;
         is = items.is;
-        same = λ entry. (
-          λ among.
-              let there = image.each entry among in
-              items.into (there.0, entry.marker) entry (is-listed births markers low there.0 entry.marker there.1.alive there.1.marked) (entry-back entry there.0 entry.marker there.1 there.1.marked),
-          λ among.
-              let from = items.from entry among in
-              let is = listed-is births markers from.0 from.1 in
-              let found = image.no_other from.0.0 is.0 in
-              subst (λ (e : EntityData M D). IsAmong e list) (the-same found.0 entry (sym (entry-back found.0 from.0.0 from.0.1 found.2 is.1) ∙ from.2)) found.1,
-        );
+        into = λ entry among.
+            let there = image.each entry among in
+            items.into (there.0, entry.marker) entry (is-listed births markers low there.0 entry.marker there.1.alive there.1.marked) (entry-back entry there.0 entry.marker there.1 there.1.marked);
+        from = λ entry among.
+            let from = items.from entry among in
+            let is = listed-is births markers from.0 from.1 in
+            let found = image.no_other from.0.0 is.0 in
+            subst (λ (e : EntityData M D). IsAmong e list) (the-same found.0 entry (sym (entry-back found.0 from.0.0 from.0.1 found.2 is.1) ∙ from.2)) found.1;
       }
 
 -- ---- what is saved of a world whose markers differ
@@ -302,6 +312,100 @@ module _ {M : Type 0} (births : Births) (markers : ℕ → Option M) where
   -- who is named is alive and bears the marker
   named-is : (entity : LifeAt) (marker : M) → name_of births markers entity ≡ Some marker → IsAlive births entity × (markers entity.id ≡ Some marker)
   named-is entity marker is = chosen (living births entity.id) entity marker (markers entity.id) is
+
+-- ---- a list that was loaded is saved in its order
+
+-- each item of a list has a lower number than those after it
+abbrev RisesBy : {X : Type 0} → (X → ℕ) → List X → Type 0
+RisesBy number [] = Unit {0}
+RisesBy {X} number (first ∷ rest) = ((other : X) → IsAmong other rest → number first < number other) × RisesBy number rest
+
+no-two : (a b : ℕ) → a < b → b < a → ⊥
+no-two a b less more = omega (arith, less, more)
+
+same-head : {X : Type 0} (number : X → ℕ) (x y : X) (xs ys : List X) → ((other : X) → IsAmong other xs → number x < number other) → ((other : X) → IsAmong other ys → number y < number other) → IsAmong x (y ∷ ys) → IsAmong y (x ∷ xs) → x ≡ y
+same-head number x y xs ys low low' (inl is) among = sym is
+same-head number x y xs ys low low' (inr later) (inl is) = is
+same-head number x y xs ys low low' (inr later) (inr later') = absurd (no-two (number x) (number y) (low y later') (low' x later))
+
+-- one among a list, and no lower than its first, is among the others
+behind-head : {X : Type 0} (number : X → ℕ) (x y z : X) (ys : List X) → x ≡ y → number x < number z → IsAmong z (y ∷ ys) → IsAmong z ys
+behind-head number x y z ys same less (inl is) = absurd (let even = ap number (same ∙ is) in omega (arith, even, less))
+behind-head number x y z ys same less (inr later) = later
+
+-- two lists that rise and have the same items are one
+same-list : {X : Type 0} (number : X → ℕ) (one other : List X) → RisesBy number one → RisesBy number other → ((x : X) → IsAmong x one → IsAmong x other) → ((x : X) → IsAmong x other → IsAmong x one) → one ≡ other
+same-list number [] [] rises rises' into from = refl
+same-list number [] (y ∷ ys) rises rises' into from = absurd (from y (inl refl))
+same-list number (x ∷ xs) [] rises rises' into from = absurd (into x (inl refl))
+same-list number (x ∷ xs) (y ∷ ys) rises rises' into from =
+    let heads = same-head number x y xs ys rises.0 rises'.0 (into x (inl refl)) (from y (inl refl)) in
+    let tails = same-list number xs ys rises.1 rises'.1
+    (λ z among. behind-head number x y z ys heads (rises.0 z among) (into z (inr among)))
+    (λ z among. behind-head number y x z xs (sym heads) (rises'.0 z among) (from z (inr among))) in
+    ap (λ first. first ∷ xs) heads ∙ ap (λ rest. y ∷ rest) tails
+
+-- the index of the entity that bears an entry's marker
+abbrev index_by : {M D : Type 0} → (M → Option LifeAt) → EntityData M D → ℕ
+index_by bearers entry = unwrap_or (option_map (λ (entity : LifeAt). entity.id) (bearers entry.marker)) 0
+
+index-is : {M D : Type 0} (bearers : M → Option LifeAt) (entry : EntityData M D) (entity : LifeAt) → bearers entry.marker ≡ Some entity → index_by bearers entry ≡ entity.id
+index-is bearers entry entity is = ap (λ (o : Option LifeAt). unwrap_or (option_map (λ (e : LifeAt). e.id) o) 0) is
+
+-- entries whose entities were all made in their order rise by them
+list-rises : {M D : Type 0} (bearers : M → Option LifeAt) (lived : LifeAt → Type 0) (nobody : (entity : LifeAt) → ¬ (lived entity)) (list : List (EntityData M D)) → ((entry : EntityData M D) → IsAmong entry list → (entity : LifeAt) × (bearers entry.marker ≡ Some entity)) → AreInOrder bearers lived list → RisesBy (index_by bearers) list
+list-rises bearers lived nobody [] found order = tt
+list-rises bearers lived nobody (first ∷ rest) found order = (
+  λ other among.
+      let one = found first (inl refl) in
+      let two = found other (inr among) in
+      lower (index_by bearers first) one.0.id (index_by bearers other) two.0.id (index-is bearers first one.0 one.1) (index-is bearers other two.0 two.1) (order.0 other among one.0 two.0 one.1 two.1 (nobody one.0) (nobody two.0)),
+  list-rises bearers lived nobody rest (λ entry among. found entry (inr among)) order.1,
+)
+
+-- what is saved of items that ascend rises by their indices
+saved-rises : {M D : Type 0} (number : EntityData M D → ℕ) (entry : LifeAt × M → Option (EntityData M D)) (items : List (LifeAt × M)) (list : List (EntityData M D)) → AreOf entry items list → Ascends items → ((item : LifeAt × M) (one : EntityData M D) → IsAmong item items → entry item ≡ Some one → number one ≡ item.0.id) → RisesBy number list
+saved-rises number entry [] [] are ascends numbered = tt
+saved-rises number entry [] (one ∷ rest) are ascends numbered = absurd are
+saved-rises number entry (item ∷ items) [] are ascends numbered = absurd are
+saved-rises number entry (item ∷ items) (one ∷ rest) are ascends numbered = (
+  λ other among.
+      let from = from-of entry items rest are.1 other among in
+      lower (number one) item.0.id (number other) from.0.0.id (numbered item one (inl refl) are.0) (numbered from.0 other (inr from.1) from.2) (ascends.0 from.0 from.1),
+  saved-rises number entry items rest are.1 ascends.1 (λ i o among. numbered i o (inr among)),
+)
+
+module _ {A S M I : Type 0} (noted : A → I → Option LifeAt) (part_at : S → ℕ → Option M) (id_of : M → I) (by_id : (one other : M) → id_of one ≡ id_of other → one ≡ other) {D P : Type 0} (markers_of : D → List M) (load : (M → Option LifeAt) → D → Option P) (list : List (EntityData M D)) (before after : Known A S) (had has : ℕ → P)
+    (loads : Loads noted part_at id_of markers_of load list before after had has) (nobody : (entity : LifeAt) → ¬ (IsAlive before.births entity)) (unknown : (id : I) → noted before.allocator id ≡ None) (apart : AreApart list) (own : NamesOwn markers_of list)
+    (plain : (LifeAt → Option M) → P → Option D) (back : (bearers : M → Option LifeAt) (names : LifeAt → Option M) (given : D) (parts : P) → ((marker : M) (entity : LifeAt) → bearers marker ≡ Some entity → names entity ≡ Some marker) → load bearers given ≡ Some parts → plain names parts ≡ Some given)
+    (low : (index : ℕ) → IsSome (living after.births index) → index < 16777216) where
+  image : IsImage load list after.births (part_at after.markers.inner) (bearer_at noted part_at id_of after) had has
+  image = loaded-image noted part_at id_of by_id markers_of load list before after had has loads nobody unknown apart own
+
+  abbrev Again : LifeAt × M → Option (EntityData M D)
+  Again = entry_of (plain (name_of after.births (part_at after.markers.inner))) has
+
+  -- what is saved of an entity is the entry whose marker it bears
+  numbered : (item : LifeAt × M) (one : EntityData M D) → IsAmong item (join_list (marked_at after.births (part_at after.markers.inner))) → Again item ≡ Some one → index_by (bearer_at noted part_at id_of after) one ≡ item.0.id
+  numbered item one among is =
+      let there = listed-is after.births (part_at after.markers.inner) item among in
+      let owner = borne noted part_at id_of by_id markers_of load list before after had has loads nobody unknown apart own item.0 there.0 in
+      let its = image-of noted part_at id_of by_id markers_of load list before after had has loads nobody unknown apart own owner.0 owner.1 item.0 owner.2 in
+      let entry = entry-back load plain back list after.births (part_at after.markers.inner) (bearer_at noted part_at id_of after) had has image low owner.0 item.0 item.1 its there.1 in
+      let same = the-same owner.0 one (sym entry ∙ is) in
+      index-is (bearer_at noted part_at id_of after) one item.0 (ap (λ (e : EntityData M D). bearer_at noted part_at id_of after e.marker) (sym same) ∙ owner.2)
+
+  -- where no index waited to be used again, what is saved is the list
+  pub saved-again : before.births.cache ≡ [] → saved plain has after.births (part_at after.markers.inner) ≡ Some list
+  saved-again none =
+      let items = saved-back load plain back list after.births (part_at after.markers.inner) (bearer_at noted part_at id_of after) had has image low in
+      let known = nothing-known noted part_at id_of by_id before unknown in
+      let rises = saved-rises (index_by (bearer_at noted part_at id_of after)) Again (join_list (marked_at after.births (part_at after.markers.inner))) items.again
+      (are-of Again (join_list (marked_at after.births (part_at after.markers.inner))) items.again items.is)
+      (list-ascends after.births (part_at after.markers.inner))
+      numbered in
+      let rises' = list-rises (bearer_at noted part_at id_of after) (IsAlive before.births) nobody list (λ entry among. let there = loads.loaded known apart entry among in (there.entity, there.bears)) (loads.in_order known apart none) in
+      items.is ∙ ap Some (same-list (index_by (bearer_at noted part_at id_of after)) items.again list rises rises' items.from items.into)
 
 entry-is : {M D P : Type 0} (save : P → Option D) (parts_at : ℕ → P) (item : LifeAt × M) (entry : EntityData M D) → entry_of save parts_at item ≡ Some entry → (entry.marker ≡ item.1) × (save (parts_at item.0.id) ≡ Some entry.components)
 entry-is {M} {D} save parts_at item entry is = of-data (save (parts_at item.0.id)) is

@@ -1,13 +1,15 @@
--- What is known of bearers after one was asked for and then others.
+-- What is known of bearers after one was asked for and then others, and entries that are loaded one after the other.
 use Rattle.std.proofs.Common.{◌≡◌, ◌≢◌, ◌+◌, ◌<◌, ℕ, suc, List, [], ◌∷◌, ◌++◌, length, take, slice_get, Option, Some, inl, inr, refl, sym, subst, ap, ◌∙◌, append-nil, append_assoc, length-append, arith}
 use Rattle.std.proofs.Math.Seq.{take-append_seam}
 use Rattle.specs_forms.specs.declared.entity_data.EntityData.{EntityData}
 use Rattle.specs_entity.specs.Births.{Births}
 use Rattle.specs_entity.specs.declared.errors.Error.{Error}
+use Rattle.specs_saving.specs.Finding.{AreFound, LoadsFound, LoadsFoundBefore}
 use Rattle.specs_saving.specs.Known.{IsSound, Known, LivesIn, RefusesBearers, bearer_at}
-use Rattle.specs_saving.specs.Loading.{AreApart, IsLoaded, Loads, LoadsBefore, RefusesEntry}
+use Rattle.specs_saving.specs.Loading.{AreApart, IsLoaded, RefusesEntry}
 use Rattle.specs_entity.specs.Life.{LifeAt}
 use Rattle.specs_saving.specs.Bearing.{Asks, GoesOn, IsAmong}
+use Rattle.specs_saving.specs.LoadingLemmas.{the-same}
 use Rattle.specs_saving.specs.NamingLemmas.{among-either, among-left, among-right}
 
 module _ {S M : Type 0} (bearer_of : S → M → Option LifeAt) (lives : S → LifeAt → Type 0) where
@@ -72,14 +74,22 @@ none-left (first ∷ rest) many count none = absurd (not-none (length rest) many
 -- ---- entries that are apart
 
 module _ {M D : Type 0} where
-  apart-front : (done left : List (EntityData M D)) → AreApart (done ++ left) → AreApart done
+  pub apart-front : (done left : List (EntityData M D)) → AreApart (done ++ left) → AreApart done
   apart-front [] left apart = tt
   apart-front (first ∷ rest) left apart = (λ other among. apart.0 other (among-left other rest left among), apart-front rest left apart.1)
 
-  apart-next : (done rest : List (EntityData M D)) (next : EntityData M D) → AreApart (done ++ next ∷ rest) → (entry : EntityData M D) → IsAmong entry done → entry.marker ≢ next.marker
+  pub apart-next : (done rest : List (EntityData M D)) (next : EntityData M D) → AreApart (done ++ next ∷ rest) → (entry : EntityData M D) → IsAmong entry done → entry.marker ≢ next.marker
   apart-next (first ∷ more) rest next apart entry (inl is) same = apart.0 next (among-right next more (next ∷ rest) (inl refl)) (ap (λ (e : EntityData M D). e.marker) is ∙ same)
   apart-next (first ∷ more) rest next apart entry (inr later) same = apart-next more rest next apart.1 entry later same
   apart-next [] rest next apart entry none same = none
+
+  -- those of a list whose entities were found are so too
+  pub found-front : (bearers : M → Option LifeAt) (done left : List (EntityData M D)) → AreFound bearers (done ++ left) → AreFound bearers done
+  found-front bearers done left found =
+      record {
+        found = λ entry among. found.found entry (among-left entry done left among);
+        spread = λ one other entity entity' among among'. found.spread one other entity entity' (among-left one done left among) (among-left other done left among');
+      }
 
   counted : (done rest : List (EntityData M D)) (next : EntityData M D) → length done < length (done ++ next ∷ rest)
   counted done rest next = let sum = length-append done (next ∷ rest) in omega (arith, sum)
@@ -90,6 +100,10 @@ module _ {M D : Type 0} where
   taken : (done left : List (EntityData M D)) (place : ℕ) → length done ≡ place → take place (done ++ left) ≡ done
   taken done left place is = ap (λ n. take n (done ++ left)) (sym is) ∙ take-append_seam done left
 
+  taken-next : (done rest : List (EntityData M D)) (next : EntityData M D) (place : ℕ) → length done ≡ place → take (place + 1) (done ++ next ∷ rest) ≡ done ++ next ∷ []
+  taken-next done rest next place is =
+      ap (take (place + 1)) (sym (append_assoc done (next ∷ []) rest)) ∙ taken (done ++ next ∷ []) rest (place + 1) (one-further done next place is)
+
 -- ---- one entry after the other
 
 module _ {A S M I D P : Type 0} (noted : A → I → Option LifeAt) (part_at : S → ℕ → Option M) (id_of : M → I) (markers_of : D → List M) (load : (M → Option LifeAt) → D → Option P) (before : Known A S) (had : ℕ → P) where
@@ -98,14 +112,14 @@ module _ {A S M I D P : Type 0} (noted : A → I → Option LifeAt) (part_at : S
     pub done : List (EntityData M D)
     pub count : length done ≡ place
     pub whole : list ≡ done ++ left
-    pub loads : Loads noted part_at id_of markers_of load done before after had has
+    pub loads : LoadsFound noted part_at id_of markers_of load done before after had has
 
-  none-loaded : Loads noted part_at id_of markers_of load [] before before had had
+  none-loaded : LoadsFound noted part_at id_of markers_of load [] before before had had
   none-loaded =
       record {
         keeps = goes-none (bearer_at noted part_at id_of) LivesIn before;
         sound = λ sound. sound;
-        loaded = λ sound apart entry none. absurd none;
+        loaded = λ found apart entry none. absurd none;
         only = λ entity alive. inl alive;
         others = λ index apart. refl;
       }
@@ -113,9 +127,9 @@ module _ {A S M I D P : Type 0} (noted : A → I → Option LifeAt) (part_at : S
   pub loading-begins : (list left : List (EntityData M D)) → left ≡ list → IsLoading list 0 left before had
   loading-begins list left is = record { done = []; count = refl; whole = sym is; loads = none-loaded }
 
-  pub loading-ends : (list left : List (EntityData M D)) (place : ℕ) (after : Known A S) (has : ℕ → P) → IsLoading list place left after has → left ≡ [] → Loads noted part_at id_of markers_of load list before after had has
+  pub loading-ends : (list left : List (EntityData M D)) (place : ℕ) (after : Known A S) (has : ℕ → P) → IsLoading list place left after has → left ≡ [] → LoadsFound noted part_at id_of markers_of load list before after had has
   loading-ends list left place after has loading is =
-      subst (λ done. Loads noted part_at id_of markers_of load done before after had has)
+      subst (λ done. LoadsFound noted part_at id_of markers_of load done before after had has)
       (sym (loading.whole ∙ (ap (λ l. loading.done ++ l) is ∙ append-nil loading.done)))
       loading.loads
 
@@ -124,30 +138,39 @@ module _ {A S M I D P : Type 0} (noted : A → I → Option LifeAt) (part_at : S
       subst (λ n. n < length list) loading.count (subst (λ l. length loading.done < length l) (sym (loading.whole ∙ ap (λ l. loading.done ++ l) is)) (counted loading.done rest next))
 
 module _ {A S M I D P : Type 0} (noted : A → I → Option LifeAt) (part_at : S → ℕ → Option M) (id_of : M → I) (markers_of : D → List M) (load : (M → Option LifeAt) → D → Option P) (before : Known A S) (had : ℕ → P) (kept : (one other : M → Option LifeAt) (saved : D) (parts : P) → ((marker : M) (entity : LifeAt) → one marker ≡ Some entity → other marker ≡ Some entity) → load one saved ≡ Some parts → load other saved ≡ Some parts) where
-  module _ (done : List (EntityData M D)) (next : EntityData M D) (mid after : Known A S) (between has : ℕ → P) (loads : Loads noted part_at id_of markers_of load done before mid had between)
-      (keeps : GoesOn (bearer_at noted part_at id_of) LivesIn mid after) (others : IsSound noted part_at id_of mid → (marker : M) (entity : LifeAt) → bearer_at noted part_at id_of mid marker ≡ Some entity → marker ≢ next.marker → has entity.id ≡ between entity.id) where
+  module _ (done : List (EntityData M D)) (next : EntityData M D) (mid after : Known A S) (between has : ℕ → P) (loads : LoadsFound noted part_at id_of markers_of load done before mid had between)
+      (keeps : GoesOn (bearer_at noted part_at id_of) LivesIn mid after) (elsewhere : (index : ℕ) → ((entity : LifeAt) → bearer_at noted part_at id_of after next.marker ≡ Some entity → index ≢ entity.id) → has index ≡ between index) where
     goes : GoesOn (bearer_at noted part_at id_of) LivesIn before after
     goes = goes-both (bearer_at noted part_at id_of) LivesIn before mid after loads.keeps keeps
 
-    -- what was loaded is loaded still
-    loaded-still : IsSound noted part_at id_of before → (entry : EntityData M D) → entry.marker ≢ next.marker → IsLoaded load (bearer_at noted part_at id_of mid) between entry → IsLoaded load (bearer_at noted part_at id_of after) has entry
-    loaded-still sound entry apart was =
-        record {
-          entity = was.entity;
-          bears = keeps.keeps entry.marker was.entity was.bears;
-          has = kept (bearer_at noted part_at id_of mid) (bearer_at noted part_at id_of after) entry.components (between was.entity.id) keeps.keeps was.has
-              ∙ ap Some (sym (others (loads.sound sound) entry.marker was.entity was.bears apart));
-        }
+    module _ (list : List (EntityData M D)) (found : AreFound (bearer_at noted part_at id_of before) list) (there : IsAmong next list) (entry : EntityData M D) (among : IsAmong entry list) (apart : entry.marker ≢ next.marker) where
+      -- the bearer of another entry's marker is at another index
+      other-index : (entity one : LifeAt) → bearer_at noted part_at id_of mid entry.marker ≡ Some entity → bearer_at noted part_at id_of after next.marker ≡ Some one → entity.id ≢ one.id
+      other-index entity one bears takes same =
+          let mine = found.found entry among in
+          let its = found.found next there in
+          let first = the-same mine.0 entity (sym (loads.keeps.keeps entry.marker mine.0 mine.1) ∙ bears) in
+          let second = the-same its.0 one (sym (goes.keeps next.marker its.0 its.1) ∙ takes) in
+          found.spread entry next mine.0 its.0 among there apart mine.1 its.1 (ap (λ (e : LifeAt). e.id) first ∙ (same ∙ sym (ap (λ (e : LifeAt). e.id) second)))
 
-    module _ (adds : Asks (bearer_at noted part_at id_of) LivesIn (IsSound noted part_at id_of) (next.marker ∷ markers_of next.components) mid after) (ok : IsLoaded load (bearer_at noted part_at id_of after) has next)
-        (elsewhere : (index : ℕ) → ((entity : LifeAt) → bearer_at noted part_at id_of after next.marker ≡ Some entity → index ≢ entity.id) → has index ≡ between index) where
-      next-loads : Loads noted part_at id_of markers_of load (done ++ next ∷ []) before after had has
+      -- what was loaded is loaded still
+      loaded-still : IsLoaded load (bearer_at noted part_at id_of mid) between entry → IsLoaded load (bearer_at noted part_at id_of after) has entry
+      loaded-still was =
+          record {
+            entity = was.entity;
+            bears = keeps.keeps entry.marker was.entity was.bears;
+            has = kept (bearer_at noted part_at id_of mid) (bearer_at noted part_at id_of after) entry.components (between was.entity.id) keeps.keeps was.has
+                ∙ ap Some (sym (elsewhere was.entity.id (λ one takes. other-index was.entity one was.bears takes)));
+          }
+
+    module _ (adds : Asks (bearer_at noted part_at id_of) LivesIn (IsSound noted part_at id_of) (next.marker ∷ markers_of next.components) mid after) (ok : IsLoaded load (bearer_at noted part_at id_of after) has next) where
+      next-loads : LoadsFound noted part_at id_of markers_of load (done ++ next ∷ []) before after had has
       next-loads =
           record {
             keeps = goes;
             sound = λ sound. adds.sound (loads.sound sound);
-            loaded = λ sound apart entry among. elim (among-either entry done (next ∷ []) among) [
-              | inl old ↦ loaded-still sound entry (apart-next done [] next apart entry old) (loads.loaded sound (apart-front done (next ∷ []) apart) entry old)
+            loaded = λ found apart entry among. elim (among-either entry done (next ∷ []) among) [
+              | inl old ↦ loaded-still (done ++ next ∷ []) found (among-right next done (next ∷ []) (inl refl)) entry among (apart-next done [] next apart entry old) (loads.loaded (found-front _ done (next ∷ []) found) (apart-front done (next ∷ []) apart) entry old)
               | inr new ↦ elim new [ inl is ↦ subst (IsLoaded load (bearer_at noted part_at id_of after) has) is ok | inr none ↦ absurd none ]
             ];
             only = λ entity alive. elim (adds.only entity alive) [
@@ -163,32 +186,39 @@ module _ {A S M I D P : Type 0} (noted : A → I → Option LifeAt) (part_at : S
           }
 
   module _ (list left rest : List (EntityData M D)) (next : EntityData M D) (place : ℕ) (mid after : Known A S) (between has : ℕ → P) (loading : IsLoading noted part_at id_of markers_of load before had list place left mid between) (is : left ≡ next ∷ rest)
-      (keeps : GoesOn (bearer_at noted part_at id_of) LivesIn mid after) (others : IsSound noted part_at id_of mid → (marker : M) (entity : LifeAt) → bearer_at noted part_at id_of mid marker ≡ Some entity → marker ≢ next.marker → has entity.id ≡ between entity.id) where
+      (keeps : GoesOn (bearer_at noted part_at id_of) LivesIn mid after) (elsewhere : (index : ℕ) → ((entity : LifeAt) → bearer_at noted part_at id_of after next.marker ≡ Some entity → index ≢ entity.id) → has index ≡ between index) where
     all : list ≡ loading.done ++ next ∷ rest
     all = loading.whole ∙ ap (λ l. loading.done ++ l) is
 
-    pub loading-goes-on : Asks (bearer_at noted part_at id_of) LivesIn (IsSound noted part_at id_of) (next.marker ∷ markers_of next.components) mid after → IsLoaded load (bearer_at noted part_at id_of after) has next
-        → ((index : ℕ) → ((entity : LifeAt) → bearer_at noted part_at id_of after next.marker ≡ Some entity → index ≢ entity.id) → has index ≡ between index) → IsLoading noted part_at id_of markers_of load before had list (place + 1) rest after has
-    loading-goes-on adds ok elsewhere =
+    pub loading-goes-on : Asks (bearer_at noted part_at id_of) LivesIn (IsSound noted part_at id_of) (next.marker ∷ markers_of next.components) mid after → IsLoaded load (bearer_at noted part_at id_of after) has next → IsLoading noted part_at id_of markers_of load before had list (place + 1) rest after has
+    loading-goes-on adds ok =
         record {
           done = loading.done ++ next ∷ [];
           count = one-further loading.done next place loading.count;
           whole = all ∙ sym (append_assoc loading.done (next ∷ []) rest);
-          loads = next-loads loading.done next mid after between has loading.loads keeps others adds ok elsewhere;
+          loads = next-loads loading.done next mid after between has loading.loads keeps elsewhere adds ok;
         }
 
     pub loading-refuses : {E : Type 0} (refuses : List M → E → Type 0) (error : E) → refuses (next.marker ∷ markers_of next.components) error → RefusesEntry markers_of list refuses place error
     loading-refuses refuses error why =
         record { entry = next; here = ap (λ (l : List (EntityData M D)). slice_get l place) all ∙ at-seam loading.done rest next place loading.count; why = why }
 
-    pub loading-stops : LoadsBefore noted part_at id_of markers_of load list before after had has place
+    -- the entries up to the next are those that were loaded, and that
+    up-to-next : take (place + 1) list ≡ loading.done ++ next ∷ []
+    up-to-next = ap (take (place + 1)) all ∙ taken-next loading.done rest next place loading.count
+
+    pub loading-stops : LoadsFoundBefore noted part_at id_of markers_of load list before after had has place
     loading-stops =
         record {
           inside = place-inside noted part_at id_of markers_of load before had list left rest next place mid between loading is;
-          keeps = goes loading.done next mid after between has loading.loads keeps others;
-          loaded = λ sound apart entry among.
+          keeps = goes loading.done next mid after between has loading.loads keeps elsewhere;
+          loaded = λ found apart entry among.
               let old = subst (λ l. IsAmong entry l) (ap (take place) all ∙ taken loading.done (next ∷ rest) place loading.count) among in
               let far = subst (λ l. AreApart l) all apart in
-              loaded-still loading.done next mid after between has loading.loads keeps others sound entry (apart-next loading.done rest next far entry old)
-              (loading.loads.loaded sound (apart-front loading.done (next ∷ rest) far) entry old);
+              let there = subst (λ l. AreFound (bearer_at noted part_at id_of before) l) all found in
+              loaded-still loading.done next mid after between has loading.loads keeps elsewhere (loading.done ++ next ∷ rest) there (among-right next loading.done (next ∷ rest) (inl refl)) entry (among-left entry loading.done (next ∷ rest) old) (apart-next loading.done rest next far entry old)
+              (loading.loads.loaded (found-front _ loading.done (next ∷ rest) there) (apart-front loading.done (next ∷ rest) far) entry old);
+          others = λ index apart.
+              elsewhere index (λ entity bears. apart next entity (subst (λ l. IsAmong next l) (sym up-to-next) (among-right next loading.done (next ∷ []) (inl refl))) bears)
+              ∙ loading.loads.others index (λ entry entity among bears. apart entry entity (subst (λ l. IsAmong entry l) (sym up-to-next) (among-left entry loading.done (next ∷ []) among)) (keeps.keeps entry.marker entity bears));
         }

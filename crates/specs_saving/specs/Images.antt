@@ -1,19 +1,15 @@
 -- What a world is after a list of data was loaded into an empty one.
-use Rattle.std.specs.Prelude.{◌≡◌, ◌≢◌, ◌↔◌, ℕ, List, Option, Some, None, IsSome}
+use Rattle.std.specs.Prelude.{◌≡◌, ◌≢◌, ℕ, List, Option, Some, None, IsSome}
 use Rattle.specs_entity.specs.Births.{Births, IsAlive}
 use Rattle.specs_entity.specs.Life.{LifeAt}
 use Rattle.specs_forms.specs.declared.entity_data.EntityData.{EntityData}
 use Rattle.specs_saving.specs.Bearing.{IsAmong}
-use Rattle.specs_saving.specs.Saved.{name_of, saved}
+use Rattle.specs_saving.specs.Saved.{name_of}
 
 -- each marker that stands in the data of an entry is that of an entry
 abbrev pub NamesOwn : {M D : Type 0} → (D → List M) → List (EntityData M D) → Type 0
 NamesOwn {M} {D} markers_of list =
     (entry : EntityData M D) (marker : M) → IsAmong entry list → IsAmong marker (markers_of entry.components) → (owner : EntityData M D) × IsAmong owner list × (owner.marker ≡ marker)
-
--- two lists have the same entries
-abbrev pub SameEntries : {M D : Type 0} → List (EntityData M D) → List (EntityData M D) → Type 0
-SameEntries {M} {D} one other = (entry : EntityData M D) → IsAmong entry one ↔ IsAmong entry other
 
 -- no two living entities bear one marker
 abbrev pub MarkersDiffer : {M : Type 0} → Births → (ℕ → Option M) → Type 0
@@ -42,9 +38,3 @@ module _ {M D P : Type 0} (load : (M → Option LifeAt) → D → Option P) (lis
     pub no_other : (entity : LifeAt) → IsAlive births entity → (entry : EntityData M D) × IsAmong entry list × IsImageOf entry entity
     pub stands : (marker : M) (entity : LifeAt) → bearers marker ≡ Some entity → IsAlive births entity × (markers entity.id ≡ Some marker)
     pub others : (index : ℕ) → ((entity : LifeAt) → IsAlive births entity → index ≢ entity.id) → has index ≡ had index
-
--- what is saved has the same entries as a list
-pub record SavesBack {M D P : Type 0} (plain : (LifeAt → Option M) → P → Option D) (list : List (EntityData M D)) (parts_at : ℕ → P) (births : Births) (markers : ℕ → Option M) : Type 0 where
-  pub again : List (EntityData M D)
-  pub is : saved plain parts_at births markers ≡ Some again
-  pub same : SameEntries list again

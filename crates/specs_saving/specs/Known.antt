@@ -1,6 +1,6 @@
 -- The entities that are known by their markers.
 use Rattle.std.specs.Prelude.{◌≡◌, ◌⊎◌, ◌&&◌, ℕ, List, Bool, false, Option, Some, None, is_some, option_and_then, option_map, unwrap_or, if◌then◌else◌}
-use Rattle.specs_entity.specs.Births.{Births, IsAlive, IsBorn, RefusesBirth, living}
+use Rattle.specs_entity.specs.Births.{Births, IsAlive, IsBorn, RefusesBirth, created, living, newborn}
 use Rattle.specs_entity.specs.declared.errors.Error.{Error}
 use Rattle.specs_entity.specs.declared.errors.Error.TheVariants as variant
 use Rattle.specs_entity.specs.Life.{LifeAt}
@@ -11,6 +11,10 @@ use Rattle.specs_saving.specs.Saved.{same_birth}
 -- whether an entity lives
 abbrev pub lives_there : Births → LifeAt → Bool
 lives_there births entity = unwrap_or (option_map (λ life. same_birth life entity.generation) (living births entity.id)) false
+
+-- none was born, or an entity was, as the next
+abbrev pub AddsBirth : Births → Births → LifeAt → Type 0
+AddsBirth births births' entity = (births' ≡ births) ⊎ ((entity ≡ newborn births) × (births' ≡ created births))
 
 -- the entities, what gives markers, and the markers that entities bear
 pub record Known (A S : Type 0) : Type 0 where

@@ -4,6 +4,7 @@ pub mod Known
 pub mod NamingLemmas
 pub mod LoadingLemmas
 pub mod Loading
+pub mod Finding
 pub mod Images
 pub mod Builders
 pub mod Reached

@@ -1,7 +1,7 @@
 //! The entities that markers stand for in what is loaded.
 ghost use Rattle.std.specs.Prelude.{◌≡◌, [], ◌∷◌, Some, IfOk, IfErr, OnOk};
 ghost use Rattle.specs_markers.specs.Marking.{RefusesRetrieval};
-ghost use Rattle.specs_saving.specs.Known.{AddsBearers, KeepsBearers, RefusesBearers, bearer_in};
+ghost use Rattle.specs_saving.specs.Known.{AddsBearers, AddsBirth, KeepsBearers, RefusesBearers, bearer_in};
 
 use crate::names::SavedMarker;
 use specs_entity::{EntitiesRes, Entity, Error};
@@ -19,6 +19,7 @@ pub fn bearer<M: SavedMarker, A: MarkerAllocator<M>>(
 ) -> Result<Entity, Error>
     ensures ok { IfOk result (λ entity. bearer_in A.noted M.Storage.part_at M.id_of
         entities.new allocator.new markers.new marker ≡ Some entity) }
+    ensures births { IfOk result (AddsBirth entities.old entities.new) }
     ensures adds { OnOk result (AddsBearers A.noted M.Storage.part_at M.id_of
         entities.old entities.new allocator.old allocator.new markers.old markers.new (marker ∷ [])) }
     ensures keeps { KeepsBearers A.noted M.Storage.part_at M.id_of

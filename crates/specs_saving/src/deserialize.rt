@@ -1,11 +1,12 @@
 //! Loading: entities and their parts made of a list of data.
-ghost use Rattle.std.specs.Prelude.{◌≡◌, ◌≢◌, ◌<◌, ◌∷◌, ◌++◌, ℕ, List, Option, Some, IfOk, IfErr, OnOk, OnErr};
+ghost use Rattle.std.specs.Prelude.{◌≡◌, ◌≢◌, ◌<◌, [], ◌∷◌, ◌++◌, ℕ, List, Option, Some, IfOk, IfErr, OnOk, OnErr};
 ghost use Rattle.specs_entity.specs.declared.ids.Entity.{Entity};
 ghost use Rattle.specs_layouts.specs.MaskedChanges.{KeepsParts, PutsIn};
 ghost use Rattle.specs_join.specs.Joins.{both};
 ghost use Rattle.specs_saving.specs.Bearing.{IsAmong};
-ghost use Rattle.specs_saving.specs.Known.{AddsBearers, IsSoundIn, KeepsBearers, RefusesBearers, bearer_in, known_of};
-ghost use Rattle.specs_saving.specs.Loading.{IsLoaded, Loads, LoadsBefore, RefusesEntry};
+ghost use Rattle.specs_saving.specs.Finding.{Finds, FindsBefore, LoadsFound, LoadsFoundBefore};
+ghost use Rattle.specs_saving.specs.Known.{AddsBearers, AddsBirth, KeepsBearers, RefusesBearers, bearer_in, known_of};
+ghost use Rattle.specs_saving.specs.Loading.{IsLoaded, Loads, LoadsBefore, RefusesEntry, RefusesLoad};
 ghost use Rattle.specs_saving.specs.Saved.{named_in, plain_in};
 ghost use Rattle.specs_entity.specs.Births.{IsAlive};
 
@@ -56,12 +57,15 @@ pub trait DeserializeComponents<M: SavedMarker>: SerializeComponents<M> {
         ensures dead { ¬ (IsAlive entities.new entity)
             → (index : ℕ) → Self.parts_at self.new index ≡ Self.parts_at self.old index };
 
-    /// Loads the entries of a list, one after the other: the entity that bears an entry's marker, which is made where
-    /// there is none, has then just the parts of its data. It is done in one pass, and costs one look-up a marker.
+    /// Loads the entries of a list. First the entity that bears an entry's marker is found, or made where there is
+    /// none, entry after entry; then each has, in the same order, just the parts of its entry's data. So those that
+    /// are made come in the list's order, also where the data of an entry names a later one.
+    ///
+    /// It costs two look-ups of an entry's marker, and one of each marker in its data.
     ///
     /// Errors: those of `EntitiesRes::create`, and of `allocate` at the id of a marker that stands in the entry, and
     /// `Memory`, with the place of the entry. Those before it are loaded, and what the refused one made and set until
-    /// then stays.
+    /// then stays. The entities of those behind it may be there, marked and without the parts of their data.
     final fn deserialize<G: MarkerAllocator<M>>(
         &mut self,
         alloc: Global,
@@ -79,8 +83,9 @@ pub trait DeserializeComponents<M: SavedMarker>: SerializeComponents<M> {
             list.items (known_of entities.old allocator.old markers.old)
             (known_of entities.new allocator.new markers.new) (Self.parts_at self.old) (Self.parts_at self.new)
             refused.place) }
-        ensures refused { IfErr result (λ refused. RefusesEntry markers_of list.items
-            (RefusesBearers G.refuses M.id_of entities.new allocator.new) refused.place refused.error) }
+        ensures refused { IfErr result (λ refused. RefusesLoad G.noted M.Storage.part_at M.id_of markers_of list.items
+            (RefusesBearers G.refuses M.id_of) (known_of entities.old allocator.old markers.old)
+            (known_of entities.new allocator.new markers.new) refused.place refused.error) }
     {
         load_all(self, alloc, list, entities, markers, allocator)
     }
@@ -427,6 +432,55 @@ pub struct LoadError {
     pub error: Error,
 }
 
+/// The entity that bears a marker which stays where it is, made where there is none.
+fn find_one<M: SavedMarker, A: MarkerAllocator<M>>(
+    marker: &M,
+    entities: &mut EntitiesRes,
+    markers: &mut MaskedStorage<M>,
+    allocator: &mut A,
+) -> Result<Entity, Error>
+    ensures ok { IfOk result (λ entity. bearer_in A.noted M.Storage.part_at M.id_of
+        entities.new allocator.new markers.new marker.now ≡ Some entity) }
+    ensures births { IfOk result (AddsBirth entities.old entities.new) }
+    ensures adds { OnOk result (AddsBearers A.noted M.Storage.part_at M.id_of
+        entities.old entities.new allocator.old allocator.new markers.old markers.new (marker.now ∷ [])) }
+    ensures keeps { KeepsBearers A.noted M.Storage.part_at M.id_of
+        entities.old entities.new allocator.old allocator.new markers.old markers.new }
+    ensures refused { IfErr result (RefusesBearers A.refuses M.id_of entities.new allocator.new (marker.now ∷ [])) }
+{
+    match marker.copy() {
+        Ok(same) => bearer(same, entities, markers, allocator),
+        Err(_) => Err(Error::Memory),
+    }
+}
+
+/// Finds the entities that bear the markers of a list's entries, or makes them, one after the other.
+fn find_all<M: SavedMarker, D, A: MarkerAllocator<M>>(
+    list: &[EntityData<M, D>],
+    entities: &mut EntitiesRes,
+    markers: &mut MaskedStorage<M>,
+    allocator: &mut A,
+) -> Result<(), LoadError>
+    ensures ok { OnOk result (Finds A.noted M.Storage.part_at M.id_of list.now
+        (known_of entities.old allocator.old markers.old) (known_of entities.new allocator.new markers.new)) }
+    ensures err { IfErr result (λ refused. FindsBefore A.noted M.Storage.part_at M.id_of list.now
+        (known_of entities.old allocator.old markers.old) (known_of entities.new allocator.new markers.new)
+        refused.place) }
+    ensures refused { IfErr result (λ refused. RefusesEntry (λ components. []) list.now
+        (RefusesBearers A.refuses M.id_of entities.new allocator.new) refused.place refused.error) }
+{
+    for (place, entry) in list.iter().enumerate() {
+        match find_one(&entry.marker, entities, markers, allocator) {
+            Ok(_) => {}
+            Err(refusal) => return Err(LoadError {
+                place,
+                error: refusal,
+            }),
+        }
+    }
+    Ok(())
+}
+
 /// Loads one entry: the parts of the entity that bears its marker, which is made where there is none.
 fn load_one<M: SavedMarker, S: DeserializeComponents<M>, A: MarkerAllocator<M>>(
     storages: &mut S,
@@ -444,10 +498,6 @@ fn load_one<M: SavedMarker, S: DeserializeComponents<M>, A: MarkerAllocator<M>>(
         (entry.marker ∷ S.markers_of entry.components)) }
     ensures keeps { KeepsBearers A.noted M.Storage.part_at M.id_of
         entities.old entities.new allocator.old allocator.new markers.old markers.new }
-    ensures others { IsSoundIn A.noted M.Storage.part_at M.id_of entities.old allocator.old markers.old
-        → (marker : M) (entity : Entity) → bearer_in A.noted M.Storage.part_at M.id_of
-        entities.old allocator.old markers.old marker ≡ Some entity → marker ≢ entry.marker
-        → S.parts_at storages.new entity.id ≡ S.parts_at storages.old entity.id }
     ensures elsewhere { (index : ℕ) → ((entity : Entity) → bearer_in A.noted M.Storage.part_at M.id_of
         entities.new allocator.new markers.new entry.marker ≡ Some entity → index ≢ entity.id)
         → S.parts_at storages.new index ≡ S.parts_at storages.old index }
@@ -461,8 +511,8 @@ fn load_one<M: SavedMarker, S: DeserializeComponents<M>, A: MarkerAllocator<M>>(
     }
 }
 
-/// Loads the entries of a list, one after the other.
-fn load_all<M: SavedMarker, S: DeserializeComponents<M>, A: MarkerAllocator<M>>(
+/// Loads the entries of a list, whose entities were found, one after the other.
+fn load_each<M: SavedMarker, S: DeserializeComponents<M>, A: MarkerAllocator<M>>(
     storages: &mut S,
     alloc: Global,
     list: Vec<EntityData<M, S::Data>>,
@@ -470,10 +520,10 @@ fn load_all<M: SavedMarker, S: DeserializeComponents<M>, A: MarkerAllocator<M>>(
     markers: &mut MaskedStorage<M>,
     allocator: &mut A,
 ) -> Result<(), LoadError>
-    ensures ok { OnOk result (Loads A.noted M.Storage.part_at M.id_of S.markers_of S.loaded list.items
+    ensures ok { OnOk result (LoadsFound A.noted M.Storage.part_at M.id_of S.markers_of S.loaded list.items
         (known_of entities.old allocator.old markers.old) (known_of entities.new allocator.new markers.new)
         (S.parts_at storages.old) (S.parts_at storages.new)) }
-    ensures err { IfErr result (λ refused. LoadsBefore A.noted M.Storage.part_at M.id_of S.markers_of S.loaded
+    ensures err { IfErr result (λ refused. LoadsFoundBefore A.noted M.Storage.part_at M.id_of S.markers_of S.loaded
         list.items (known_of entities.old allocator.old markers.old)
         (known_of entities.new allocator.new markers.new) (S.parts_at storages.old) (S.parts_at storages.new)
         refused.place) }
@@ -489,4 +539,37 @@ fn load_all<M: SavedMarker, S: DeserializeComponents<M>, A: MarkerAllocator<M>>(
         }
     }
     Ok(())
+}
+
+/// Finds or makes the entities of a list's entries, and loads the entries then. Where the entity of one isn't had,
+/// those before it are loaded.
+fn load_all<M: SavedMarker, S: DeserializeComponents<M>, A: MarkerAllocator<M>>(
+    storages: &mut S,
+    alloc: Global,
+    mut list: Vec<EntityData<M, S::Data>>,
+    entities: &mut EntitiesRes,
+    markers: &mut MaskedStorage<M>,
+    allocator: &mut A,
+) -> Result<(), LoadError>
+    ensures ok { OnOk result (Loads A.noted M.Storage.part_at M.id_of S.markers_of S.loaded list.items
+        (known_of entities.old allocator.old markers.old) (known_of entities.new allocator.new markers.new)
+        (S.parts_at storages.old) (S.parts_at storages.new)) }
+    ensures err { IfErr result (λ refused. LoadsBefore A.noted M.Storage.part_at M.id_of S.markers_of S.loaded
+        list.items (known_of entities.old allocator.old markers.old)
+        (known_of entities.new allocator.new markers.new) (S.parts_at storages.old) (S.parts_at storages.new)
+        refused.place) }
+    ensures refused { IfErr result (λ refused. RefusesLoad A.noted M.Storage.part_at M.id_of S.markers_of list.items
+        (RefusesBearers A.refuses M.id_of) (known_of entities.old allocator.old markers.old)
+        (known_of entities.new allocator.new markers.new) refused.place refused.error) }
+{
+    match find_all(list.as_slice(), entities, markers, allocator) {
+        Ok(()) => load_each(storages, alloc, list, entities, markers, allocator),
+        Err(refused) => {
+            list.truncate(refused.place);
+            match load_each(storages, alloc, list, entities, markers, allocator) {
+                Ok(()) => Err(refused),
+                Err(earlier) => Err(earlier),
+            }
+        }
+    }
 }

@@ -1,8 +1,8 @@
 //! Laws on which callers rely. Each contract is the law.
-ghost use Rattle.std.specs.Prelude.{◌≡◌, List, Some, None, IfOk, IfSome, OnOk, IsErrOf};
+ghost use Rattle.std.specs.Prelude.{◌≡◌, [], List, Some, None, IfOk, IfSome, OnOk, IsErrOf};
 ghost use Rattle.specs_entity.specs.Births.{IsAlive};
 ghost use Rattle.specs_entity.specs.declared.ids.Entity.{Entity};
-ghost use Rattle.specs_saving.specs.Images.{IsImage, MarkersDiffer, NamesOwn, NamesUnmarked, SavesBack};
+ghost use Rattle.specs_saving.specs.Images.{IsImage, MarkersDiffer, NamesOwn, NamesUnmarked};
 ghost use Rattle.specs_saving.specs.Bearing.{IsAmong};
 ghost use Rattle.specs_saving.specs.Saved.{saved};
 ghost use Rattle.specs_entity.specs.declared.errors.Error.TheVariants as refusal;
@@ -22,7 +22,8 @@ use std::alloc::Global;
 
 /// A list whose markers differ, and whose data names its own markers alone, is loaded where nobody lives and nothing
 /// is noted: then there is one entity for each entry and no other. Each bears its entry's marker and has just the
-/// parts of its data, in which each marker stands for the entity that bears it. Saved again, it has the same entries.
+/// parts of its data, in which each marker stands for the entity that bears it. Where no index waits to be used again,
+/// as in a new world, it is the same list when it is saved again.
 pub fn a_loaded_list_is_saved_again<
     M: SavedMarker,
     S: DeserializeComponents<M>,
@@ -42,8 +43,8 @@ pub fn a_loaded_list_is_saved_again<
     ensures image { OnOk result (IsImage S.loaded list.items entities.new (M.Storage.part_at markers.new.inner)
         (bearer_in A.noted M.Storage.part_at M.id_of entities.new allocator.new markers.new)
         (S.parts_at storages.old) (S.parts_at storages.new)) }
-    ensures back { OnOk result (SavesBack S.plain list.items (S.parts_at storages.new) entities.new
-        (M.Storage.part_at markers.new.inner)) }
+    ensures back { OnOk result (entities.old.cache ≡ [] → saved S.plain (S.parts_at storages.new) entities.new
+        (M.Storage.part_at markers.new.inner) ≡ Some list.items) }
 {
     let result = storages.deserialize(alloc, list, entities, markers, allocator);
     the_living_are_below_the_limit(entities);

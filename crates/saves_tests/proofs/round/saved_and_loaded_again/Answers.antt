@@ -1,6 +1,7 @@
-use Rattle.std.proofs.Common.{sym, ap, ◌∙◌}
+use Rattle.std.proofs.Common.{ap, ◌∙◌}
 use Rattle.std.specs.FinMap as map
 use Rattle.std.specs.Ordering.{nat_cmp}
+use Rattle.specs_entity.specs.Births.{Births}
 use Rattle.specs_markers.specs.Simple.{Noting}
 use Rattle.saves_tests.proofs.RoundLemmas.{nobody-lives, same-again}
 use Rattle.saves_tests.proofs.round.saved_and_loaded_again.Goals as goal
@@ -14,7 +15,7 @@ pub a_loaded_list_is_saved_again-requires-clause-unknown :
 a_loaded_list_is_saved_again-requires-clause-unknown g c id =
     ap (λ (a : Noting). map.get a.noted id) c.new-allocator.ensures ∙ map.get-empty nat_cmp id
 
-pub returns : goal.returns
-returns g c =
-    let back = c.in-Ok.ensures.back in
-    same-again _ _ _ _ _ _ _ _ c.in_ok-list.ensures.ok c.in_ok-copy.ensures.ok back (sym back.is ∙ c.in_ok-again.ensures.ok)
+pub returns-clause-equal : goal.returns-clause-equal
+returns-clause-equal g c =
+    let none = ap (λ (b : Births). b.cache) c.new-new_entities.ensures in
+    same-again _ _ _ _ _ c.in_ok-list.ensures.ok c.in_ok-copy.ensures.ok (c.in-Ok.ensures.back none) c.in_ok-again.ensures.ok

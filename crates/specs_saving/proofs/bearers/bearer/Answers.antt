@@ -1,5 +1,8 @@
-use Rattle.specs_saving.proofs.BearerLemmas.{retrieved-goes, retrieved-asks, refused-goes, unhad}
+use Rattle.specs_saving.proofs.BearerLemmas.{retrieved-birth, retrieved-goes, retrieved-asks, refused-goes, unhad}
 use Rattle.specs_saving.proofs.bearers.bearer.Goals as goal
+
+pub returns-in-Ok-clause-births : goal.returns-in-Ok-clause-births
+returns-in-Ok-clause-births g c = retrieved-birth _ _ _ _ _ _ _ _ _ _ _ _ c.in-Ok.ensures.ok
 
 pub returns-in-Ok-clause-adds : goal.returns-in-Ok-clause-adds
 returns-in-Ok-clause-adds g c = retrieved-asks _ _ _ _ _ _ _ _ _ _ g.M.SavedMarker.same_id g.met.M.SavedMarker.ids _ _ c.in-Ok.ensures.ok

@@ -1,39 +1,38 @@
-use Rattle.std.proofs.Common.{◌≡◌, length, sym, ap, ◌∙◌, arith}
-use Rattle.std.specs.Vec.Iter.{into_iter_len}
-use Rattle.specs_saving.proofs.LoadLemmas.{loading-begins, loading-ends, loading-goes-on, loading-refuses, loading-stops, none-left, one-less, place-inside}
+use Rattle.std.proofs.Common.{[], ◌∷◌}
+use Rattle.std.proofs.lemmas.Result.{IfErr-weaker, on_ok_weaker}
+use Rattle.specs_saving.specs.Known.{RefusesBearers}
+use Rattle.specs_saving.proofs.LoadLemmas.{refused-left}
+use Rattle.specs_saving.proofs.FindLemmas.{both-load, first-refuses, first-stops, front-refuses, front-stops, if-err-by, second-refuses, second-stops}
 use Rattle.specs_saving.proofs.deserialize.load_all.Goals as goal
 
-pub loop-entry-init : goal.loop-entry-init
-loop-entry-init g c =
-    let into = c.into_iter-entry-iterator.ensures.into_iter_gives in
-    record {
-      len = into.1 ∙ (sym c.as_slice-count.ensures.len ∙ (ap length c.as_slice-count.ensures.value ∙ ap length (sym into.0)));
-      loading = loading-begins _ _ _ _ _ _ _ _ _ into.0;
-    }
+pub returns-in-Ok-clause-ok : goal.returns-in-Ok-clause-ok
+returns-in-Ok-clause-ok g c =
+    on_ok_weaker c.load_each.result (both-load _ _ _ g.met.M.SavedMarker.by_id _ _ _ _ c.as_slice.ensures.value _ _ _ _ _ c.in-Ok.ensures.ok) c.load_each.ensures.ok
 
-pub overflow_add-place : goal.overflow_add-place
-overflow_add-place g c =
-    let inside = place-inside _ _ _ _ _ _ _ _ _ _ _ _ _ _ c.loop-entry.invariant.loading c.in-Some.ensures.steps.0 in
-    let into = c.into_iter-entry-iterator.ensures.into_iter_gives in
-    let items : length c.args.list.items ≡ into_iter_len c.into_iter-entry-iterator.result = ap length (sym c.as_slice-count.ensures.value) ∙ (c.as_slice-count.ensures.len ∙ sym into.1) in
-    let short = into.2 in
-    omega (arith, inside, items, short)
+pub returns-in-Ok-clause-err : goal.returns-in-Ok-clause-err
+returns-in-Ok-clause-err g c =
+    IfErr-weaker c.load_each.result _ _ (λ refused stops. second-stops _ _ _ g.met.M.SavedMarker.by_id _ _ _ _ c.as_slice.ensures.value _ _ _ _ _ c.in-Ok.ensures.ok _ stops) c.load_each.ensures.err
 
-pub loop-entry-preserved : goal.loop-entry-preserved
-loop-entry-preserved g c =
-    record {
-      len = one-less _ _ c.in-Some.entry _ _ c.loop-entry.invariant.len c.in-Some.ensures.steps.0 c.in-Some.ensures.steps.1;
-      loading = loading-goes-on _ _ _ _ _ _ _ g.met.S.DeserializeComponents.kept _ _ _ c.in-Some.entry _ _ _ _ _ c.loop-entry.invariant.loading c.in-Some.ensures.steps.0 c.load_one.ensures.keeps c.load_one.ensures.others c.in-Ok.ensures.adds c.in-Ok.ensures.ok c.load_one.ensures.elsewhere;
-    }
+pub returns-in-Ok-clause-refused : goal.returns-in-Ok-clause-refused
+returns-in-Ok-clause-refused g c =
+    if-err-by c.load_each.result _ _ _ (λ refused stops why. second-refuses _ _ _ g.met.M.SavedMarker.by_id _ g.S.DeserializeComponents.loaded _ _ c.as_slice.ensures.value _ _ _ _ _ c.in-Ok.ensures.ok _ stops (RefusesBearers g.A.MarkerAllocator.refuses g.M.Marker.id_of) _ why)
+    c.load_each.ensures.err
+    c.load_each.ensures.refused
 
-pub returns-in-Err-clause-err : goal.returns-in-Err-clause-err
-returns-in-Err-clause-err g c =
-    loading-stops _ _ _ _ _ _ _ g.met.S.DeserializeComponents.kept _ _ _ c.in-Some.entry _ _ _ _ _ c.loop-entry.invariant.loading c.in-Some.ensures.steps.0 c.load_one.ensures.keeps c.load_one.ensures.others
+pub returns-in-Ok-load_each-clause-err : goal.returns-in-Ok-load_each-clause-err
+returns-in-Ok-load_each-clause-err g c =
+    first-stops _ _ _ g.met.M.SavedMarker.by_id _ _ _ _ c.as_slice.ensures.value _ _ _ _ _ _ _ c.truncate.ensures.items c.in-Err.ensures.err c.in-Ok-load_each.ensures.ok
 
-pub returns-clause-ok : goal.returns-clause-ok
-returns-clause-ok g c =
-    loading-ends _ _ _ _ _ _ _ _ _ _ _ _ c.loop-entry.invariant.loading (none-left _ _ c.loop-entry.invariant.len c.in-None.ensures.steps.0)
+pub returns-in-Ok-load_each-clause-refused : goal.returns-in-Ok-load_each-clause-refused
+returns-in-Ok-load_each-clause-refused g c =
+    first-refuses _ _ _ g.met.M.SavedMarker.by_id _ _ _ _ c.as_slice.ensures.value _ _ _ _ _ _ _ c.truncate.ensures.items c.in-Err.ensures.err c.in-Ok-load_each.ensures.ok (RefusesBearers g.A.MarkerAllocator.refuses g.M.Marker.id_of) _
+    (λ marker others. refused-left g.A.MarkerAllocator.refuses g.M.Marker.id_of c.find_all.new.entities c.find_all.new.allocator (marker ∷ []) others c.in-Err.refused.error)
+    c.in-Err.ensures.refused
 
-pub returns-in-Err-clause-refused : goal.returns-in-Err-clause-refused
-returns-in-Err-clause-refused g c =
-    loading-refuses _ _ _ _ _ _ _ g.met.S.DeserializeComponents.kept _ _ _ c.in-Some.entry _ _ _ _ _ c.loop-entry.invariant.loading c.in-Some.ensures.steps.0 c.load_one.ensures.keeps c.load_one.ensures.others _ _ c.in-Err.ensures.refused
+pub returns-in-Err-load_each-clause-err : goal.returns-in-Err-load_each-clause-err
+returns-in-Err-load_each-clause-err g c =
+    front-stops _ _ _ g.met.M.SavedMarker.by_id _ _ _ _ c.as_slice.ensures.value _ _ _ _ _ _ _ c.truncate.ensures.items c.in-Err.ensures.err _ c.in-Err-load_each.ensures.err
+
+pub returns-in-Err-load_each-clause-refused : goal.returns-in-Err-load_each-clause-refused
+returns-in-Err-load_each-clause-refused g c =
+    front-refuses _ _ _ g.met.M.SavedMarker.by_id _ _ _ _ c.as_slice.ensures.value _ _ _ _ _ _ _ c.truncate.ensures.items c.in-Err.ensures.err _ c.in-Err-load_each.ensures.err (RefusesBearers g.A.MarkerAllocator.refuses g.M.Marker.id_of) _ c.in-Err-load_each.ensures.refused

@@ -1,6 +1,6 @@
 use Rattle.std.proofs.Common.{[], ◌∷◌}
 use Rattle.std.proofs.lemmas.Result.{IfErr-weaker, on_ok_weaker}
-use Rattle.specs_saving.proofs.KnownLemmas.{bearer-alive, bearers-apart}
+use Rattle.specs_saving.proofs.KnownLemmas.{bearer-alive}
 use Rattle.specs_saving.proofs.LoadLemmas.{asks-both, goes-both, refused-left, refused-right}
 use Rattle.specs_saving.proofs.deserialize.load_one.Goals as goal
 
@@ -20,14 +20,6 @@ returns-in-Ok-clause-adds g c =
 
 pub returns-in-Ok-clause-keeps : goal.returns-in-Ok-clause-keeps
 returns-in-Ok-clause-keeps g c = goes-both _ _ _ _ _ c.bearer.ensures.keeps c.deserialize_entity.ensures.keeps
-
-pub returns-in-Ok-clause-others : goal.returns-in-Ok-clause-others
-returns-in-Ok-clause-others g c sound marker entity bears apart =
-    c.deserialize_entity.ensures.others entity.id
-    (λ same. apart (bearers-apart g.A.MarkerAllocator.noted g.M.Storage.UnprotectedStorage.part_at g.M.Marker.id_of g.met.M.SavedMarker.by_id (record { births = c.bearer.new.entities; allocator = c.bearer.new.allocator; markers = c.bearer.new.markers }) (c.in-Ok.ensures.adds.sound sound) marker c.args.entry.marker entity c.in-Ok.entity
-    (c.bearer.ensures.keeps.keeps marker entity bears)
-    c.in-Ok.ensures.ok
-    same))
 
 pub returns-in-Ok-clause-elsewhere : goal.returns-in-Ok-clause-elsewhere
 returns-in-Ok-clause-elsewhere g c index apart =

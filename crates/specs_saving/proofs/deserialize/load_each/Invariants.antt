@@ -1,7 +1,7 @@
 use Rattle.std.proofs.Common.{◌≡◌, length}
 use Rattle.std.specs.Vec.Iter.{into_iter_items, into_iter_len}
 use Rattle.specs_saving.proofs.LoadLemmas.{IsLoading}
-use Rattle.specs_saving.proofs.deserialize.load_all.Given as goal
+use Rattle.specs_saving.proofs.deserialize.load_each.Given as goal
 
 -- the entries before the place are loaded, and those from it on are left
 abbrev pub invariant-loop-entry : goal.invariant-loop-entry
