@@ -1,6 +1,9 @@
 //! A run that is printed, put back and run on.
 ghost use Rattle.std.specs.Prelude.{◌≡◌, ◌↔◌, Some, IfOk, IsTrue};
 ghost use Rattle.scene_rules.specs.declared.refusals.Report.{Report};
+ghost use Rattle.scene_rules.specs.Parts.{Json, Name};
+ghost use Rattle.scene_rules.specs.Rulebook.{Facts, known};
+ghost use Rattle.scene_rules.specs.Laws.{Ascend, DeclaresKnown};
 ghost use Rattle.serde_json.specs.View.{view};
 ghost use Rattle.scene_draft.specs.Texts.{json_of};
 ghost use Rattle.scene.specs.Limits.{AreLimits};
@@ -141,6 +144,15 @@ fn read_back(alloc: Global, text: &[u8]) -> Result<Value, ResumeError>
     }
 }
 
+/// What rules are held to: each system that they know declares what they know, and their kinds of part and their
+/// globals stand in rising order.
+fn rules_are_lawful<R: Rules>(rules: &R)
+    ensures declares { (kind : Name) (config : Json) (facts : Facts) → (R.book rules.now).system kind config ≡ known facts
+        → DeclaresKnown (R.book rules.now) facts.access }
+    ensures kinds { Ascend (R.book rules.now).part_names }
+    ensures globals { Ascend (R.book rules.now).global_names }
+{}
+
 /// Runs a document at once, and then its frames in two parts: those of the first document, of which the scene is printed, read,
 /// put back with the rest of the systems, frames and commands, and run on. Answers both texts.
 ///
@@ -170,6 +182,7 @@ where
         → GoesOn (R.book rules) limits.indices (view whole.now) (view first.now) (view rest.systems) (view rest.frames) (view rest.commands)
         → texts.0.items ≡ texts.1.items) }
 {
+    rules_are_lawful(&rules);
     let Finished {
         rules,
         report: _,

@@ -18,7 +18,7 @@ returns-clause-same g c = λ lone goes.
     let limits = c.args.limits in
     let first_rules = c.in_ok-rules.ensures.rules in
     let second_rules = c.in_ok-rules-2.ensures.rules ∙ first_rules in
-    parts-text (book rules) (g.met.R.DocumentRules.declares_known rules) (g.met.R.DocumentRules.kinds_ascend rules) (g.met.R.DocumentRules.globals_ascend rules) limits
+    parts-text (book rules) c.rules_are_lawful.ensures.declares c.rules_are_lawful.ensures.kinds c.rules_are_lawful.ensures.globals limits
     (view c.args.whole.now) (view c.args.first.now) (view c.args.rest.systems) (view c.args.rest.frames) (view c.args.rest.commands) (view c.in_ok-scene.scene) (view c.in_ok-document.document)
     c.in_ok-rules.field-0.report c.in_ok-rules-2.field-0.report c.in_ok-in_parts.field-0.report
     c.in_ok-rules.field-0.text.items c.in_ok-rules-2.field-0.text.items c.in_ok-in_parts.field-0.text.items
