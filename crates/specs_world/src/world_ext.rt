@@ -16,7 +16,7 @@ use crate::builder::EntityBuilder;
 use crate::bundles::WriteStorage;
 use crate::deleting::{drop_registered, kill_living, kill_registered, merge_registered};
 use crate::held::Held;
-use crate::inserting::{put_part, test_alive};
+use crate::inserting::{lives, put_part, refusal_of};
 use crate::registering::{enter_there, put_and_enter, register_default};
 use crate::taking::{put_in, take_out};
 use shred_world::{MetaTable, Resource, SystemData, World};
@@ -391,15 +391,10 @@ where
     where
         MaskedStorage<T>: Resource<V>,
     {
-        match test_alive(self, entity) {
-            Ok(()) => put_part::<V, T>(self, entity.id(), part),
-            Err(error) => {
-                if self.try_fetch::<MaskedStorage<T>>().is_some() {
-                    Err((error, part))
-                } else {
-                    Err((Error::NotRegistered, part))
-                }
-            }
+        if lives(self, entity) {
+            put_part::<V, T>(self, entity.id(), part)
+        } else {
+            Err((refusal_of::<V, T>(self, entity), part))
         }
     }
 
