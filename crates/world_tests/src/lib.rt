@@ -1,6 +1,7 @@
 //! Worlds of entities, as callers use them.
 #![tactic(auto)]
 
+pub mod lending;
 pub mod reaping;
 pub mod stories;
 pub mod tiring;
