@@ -1,4 +1,5 @@
 //! What callers of a world of entities come to: each story makes its calls, and answers whether all was as it should be.
+use crate::building::build_bare;
 use crate::lending::create_fresh;
 use crate::values::{Health, Speed, Value};
 use shred_world::{SystemData, World};
@@ -36,10 +37,12 @@ pub enum Story {
     /// Through the entities that are lent for writing one comes to life, which is persistent after a merge; a resource
     /// that is wanting is refused.
     LentForWriting,
+    /// An entity that is built without parts lives, and has none.
+    BuiltBare,
 }
 
 /// Every story.
-pub const STORIES: [Story; 12] = [
+pub const STORIES: [Story; 13] = [
     Story::BuiltWithParts,
     Story::RegisteredLate,
     Story::StaleEntity,
@@ -52,6 +55,7 @@ pub const STORIES: [Story; 12] = [
     Story::MadeInARow,
     Story::TakenOut,
     Story::LentForWriting,
+    Story::BuiltBare,
 ];
 
 /// Whether a story is as it should be.
@@ -69,6 +73,7 @@ pub fn holds(alloc: Global, story: Story) -> Result<bool, Error> {
         Story::MadeInARow => made_in_a_row(alloc),
         Story::TakenOut => taken_out(alloc),
         Story::LentForWriting => lent_for_writing(alloc),
+        Story::BuiltBare => built_bare(alloc),
     }
 }
 
@@ -267,4 +272,10 @@ fn lent_for_writing(alloc: Global) -> Result<bool, Error> {
         Err(Error::NotRegistered)
     );
     Ok(!persistent && world.is_alive(entity) && wanting)
+}
+
+fn built_bare(alloc: Global) -> Result<bool, Error> {
+    let mut world = world_with_healths(alloc)?;
+    let entity = build_bare(&mut world)?;
+    Ok(world.is_alive(entity) && health_at(&world, entity).is_none())
 }
