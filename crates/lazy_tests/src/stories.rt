@@ -6,7 +6,7 @@ use shred_world::{ResourceId, World};
 use specs_entity::{EntitiesRes, Entity, Error};
 use specs_join::Join;
 use specs_layouts::MaskedStorage;
-use specs_lazy::{LazyUpdate, LazyWorld, Maintained, SharedLazy};
+use specs_lazy::{Insert, LazyUpdate, LazyWorld, Maintained, SharedLazy};
 use specs_world::WorldExt;
 use std::alloc::AllocGlobal;
 use std::sync::Wait;
@@ -24,6 +24,8 @@ pub enum Story {
     LazyInsertion,
     /// A part whose removal was queued is gone, and one of an entity that isn't alive is none.
     LazyRemoval,
+    /// A job that is queued as it is puts a part at an entity whose birth is fresh.
+    LazyExecution,
     /// A job that a job queued runs in the same call.
     SuperLazyExecution,
     /// Jobs of one queue run in the order in which they were queued.
@@ -45,12 +47,13 @@ pub enum Story {
 }
 
 /// Every story.
-pub const STORIES: [Story; 14] = [
+pub const STORIES: [Story; 15] = [
     Story::InOrder,
     Story::Limited,
     Story::WithinLimit,
     Story::LazyInsertion,
     Story::LazyRemoval,
+    Story::LazyExecution,
     Story::SuperLazyExecution,
     Story::LazyExecutionOrder,
     Story::DeleteAndLazy,
@@ -70,6 +73,7 @@ pub fn holds<R: AllocGlobal + Wait>(rt: &R, story: Story) -> Result<bool, Error>
         Story::WithinLimit => within_limit(rt),
         Story::LazyInsertion => lazy_insertion(rt),
         Story::LazyRemoval => lazy_removal(rt),
+        Story::LazyExecution => lazy_execution(rt),
         Story::SuperLazyExecution => super_lazy_execution(rt),
         Story::LazyExecutionOrder => lazy_execution_order(rt),
         Story::DeleteAndLazy => delete_and_lazy(rt),
@@ -233,6 +237,20 @@ fn lazy_removal<R: AllocGlobal + Wait>(rt: &R) -> Result<bool, Error> {
         before == Some(Health(1))
             && is_maintained(&outcome, 2, 0)
             && health_at(&world, entity).is_none(),
+    )
+}
+
+fn lazy_execution<R: AllocGlobal + Wait>(rt: &R) -> Result<bool, Error> {
+    let mut world = make_world(rt)?;
+    let entity = world.write_resource::<EntitiesRes>()?.create()?;
+    let part = Health(7);
+    queue(&mut world, 0, Task::PutHealth(Insert { entity, part }))?;
+    let before = health_at(&world, entity);
+    let outcome = world.maintain(rt, 10);
+    Ok(
+        is_maintained(&outcome, 1, 0)
+            && before.is_none()
+            && health_at(&world, entity) == Some(Health(7)),
     )
 }
 

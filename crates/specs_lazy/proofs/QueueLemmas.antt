@@ -1,5 +1,5 @@
 -- Jobs that wait in the queues of a world.
-use Rattle.std.proofs.Common.{◌≡◌, ◌≢◌, ◌<◌, ◌≤◌, ◌+◌, ℕ, Bool, true, false, IsSome, Option, Some, None, List, [], ◌∷◌, ◌⊎◌, inl, inr, MutBor, OnSome, IfSome, MatchOption, refl, sym, ap, subst, ◌∙◌, arith}
+use Rattle.std.proofs.Common.{◌≡◌, ◌≢◌, ◌<◌, ◌≤◌, ◌+◌, ℕ, Bool, true, false, IsSome, Option, Some, None, List, [], ◌∷◌, ◌⊎◌, inl, inr, MutBor, OnSome, IfNone, IfSome, MatchOption, refl, sym, ap, subst, ◌∙◌, arith}
 use Rattle.std.proofs.lemmas.Bool.{false≢true, cases_lt}
 use Rattle.std.specs.Prelude.{unwrap_or}
 use Rattle.std.specs.Option.{option_copied_mut, option_and_then}
@@ -9,6 +9,7 @@ use Rattle.shred_world.specs.ResourceIds.{id_of}
 use Rattle.shred_world.specs.Worlds.{Slots, value_at, resource_at, IsLeastFrom}
 use Rattle.shred_world.proofs.WorldLemmas.{on_some}
 use Rattle.specs_world.specs.Resources.{Place}
+use Rattle.specs_world.proofs.ResourceLemmas.{lent-same}
 use Rattle.specs_lazy.specs.Queues.{waiting, NoneWaits, NoneBelow, TakesUnder}
 
 module _ {V J : Type 0} (at : Place V (List J)) (w : Slots V) where
@@ -27,6 +28,19 @@ module _ {V J : Type 0} (at : Place V (List J)) (w : Slots V) where
         queued = ap (resource_at at.part w) (sym same) ∙ sym stood ∙ ap option_copied_mut is ∙ ap Some first;
         taken = on_some lent queue _ is leaves ∙ ap (λ id. map.insert w id (Some (at.wrapped left))) same;
       }
+
+  -- a queue that was lent and gave no job left the world
+  pub lent-keeps : (w' : Slots V) (id : ResourceId) (lent : Option (MutBor (List J))) (queue : MutBor (List J)) (left : List J) (result : Option J)
+      → ((value : V) (jobs : List J) → at.part value ≡ Some jobs → value ≡ at.wrapped jobs) → lent ≡ Some queue
+      → option_copied_mut lent ≡ resource_at at.part w id → OnSome lent (w' ≡ map.insert w id (Some (at.wrapped left)))
+      → MatchOption result ((queue.now ≡ []) × (left ≡ [])) (λ job. queue.now ≡ job ∷ left) → IfNone result (w' ≡ w)
+  lent-keeps w' id lent queue left (Some job) only is stood leaves first = tt
+  lent-keeps w' id lent queue left None only is stood leaves first =
+      lent-same at.part at.wrapped w w' id lent queue left is stood leaves only (first.1 ∙ sym first.0)
+
+  -- below 1 is the number 0 alone
+  pub none-below-one : waiting at w 0 ≡ [] → NoneBelow at w 1
+  none-below-one none other lesser = let e : other ≡ 0 = omega arith in ap (waiting at w) e ∙ none
 
   -- a queue of which it isn't so that a job waits in it is empty
   pub none-waiting : {X : Type 0} (xs : List X) (found : Bool) → (xs ≢ [] → found ≡ true) → found ≡ false → xs ≡ []

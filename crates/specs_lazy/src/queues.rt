@@ -25,24 +25,25 @@ where
     }
 }
 
-/// The least dynamic number under which a job waits.
-pub(crate) fn first_number<V, J>(world: &World<V>) -> Option<u64>
+/// The least dynamic number under which a job waits, where none waits under one below `from`.
+pub(crate) fn first_number<V, J>(world: &World<V>, from: u64) -> Option<u64>
 where
     LazyUpdate<J>: Resource<V>,
+    requires none_below { NoneBelow ⟦<LazyUpdate<J> as Held<V>>⟧.stands_at world.now from }
     ensures waits { IfSome result (λ number. waiting ⟦<LazyUpdate<J> as Held<V>>⟧.stands_at world.now number ≢ []) }
     ensures least { IfSome result (NoneBelow ⟦<LazyUpdate<J> as Held<V>>⟧.stands_at world.now) }
     ensures none { IfNone result (NoneWaits ⟦<LazyUpdate<J> as Held<V>>⟧.stands_at world.now) }
 {
     let kind = <LazyUpdate<J> as Resource<V>>::kind();
-    let mut from = 0;
-    while let Some(number) = world.least_id(kind, from) {
+    let mut next = from;
+    while let Some(number) = world.least_id(kind, next) {
         if has_job::<V, J>(world, number) {
             return Some(number);
         }
         if number == u64::MAX {
             return None;
         }
-        from = number + 1;
+        next = number + 1;
     }
     None
 }
@@ -54,6 +55,7 @@ where
     ensures taken { IfSome result (λ job. TakesUnder ⟦<LazyUpdate<J> as Held<V>>⟧.stands_at
         number job world.old world.new) }
     ensures none { IfNone result (waiting ⟦<LazyUpdate<J> as Held<V>>⟧.stands_at world.old number ≡ []) }
+    ensures same { IfNone result (world.new ≡ world.old) }
 {
     let id = ResourceId::new_with_dynamic_id::<V, LazyUpdate<J>>(number);
     match world.try_fetch_mut_by_id::<LazyUpdate<J>>(id) {
@@ -62,7 +64,7 @@ where
     }
 }
 
-/// Takes the oldest job out of the queue with the least dynamic number that has one.
+/// Takes the oldest job out of the queue with the least dynamic number that has one. The number 0 is looked at first.
 pub(crate) fn take_first<V, J>(world: &mut World<V>) -> Option<J>
 where
     LazyUpdate<J>: Resource<V>,
@@ -70,7 +72,10 @@ where
     ensures waits { IfNone result (NoneWaits ⟦<LazyUpdate<J> as Held<V>>⟧.stands_at world.old) }
     ensures none { IfNone result (world.new ≡ world.old) }
 {
-    let number = first_number::<V, J>(world)?;
+    if let Some(job) = take_under::<V, J>(world, 0) {
+        return Some(job);
+    }
+    let number = first_number::<V, J>(world, 1)?;
     match take_under::<V, J>(world, number) {
         Some(job) => Some(job),
         None => unreachable!(),
@@ -119,7 +124,7 @@ where
         ⟦<SharedLazy<J> as Held<V>>⟧.stands_at world.now }
     ensures waits { result ≡ false → NoneWaits ⟦<LazyUpdate<J> as Held<V>>⟧.stands_at world.now }
 {
-    if first_number::<V, J>(world).is_some() {
+    if first_number::<V, J>(world, 0).is_some() {
         return true;
     }
     match world.try_fetch::<SharedLazy<J>>() {

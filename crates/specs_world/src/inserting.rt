@@ -1,14 +1,10 @@
 //! Parts that are put at the entities of a world.
-ghost use Rattle.std.specs.Prelude.{◌≡◌, ◌<◌, ◌⊎◌, Some, None, OnOk, OnErr, IfOk, IfErr, IsOk, IsSome, false};
+ghost use Rattle.std.specs.Prelude.{◌≡◌, ◌<◌, ◌↔◌, Some, None, OnErr, IfOk, IfErr, IsOk, IsSome, IsTrue, false};
 ghost use Rattle.std.specs.Option.{MatchOption};
-ghost use Rattle.shred_world.specs.ResourceIds.{id_of};
-ghost use Rattle.shred_world.specs.Worlds.{resource_at};
 ghost use Rattle.specs_entity.specs.Births.{IsAlive};
-ghost use Rattle.specs_entity.specs.declared.errors.WrongGeneration.{WrongGeneration as Refusal};
 ghost use Rattle.specs_entity.specs.declared.errors.Error.TheVariants as refusal;
-ghost use Rattle.specs_storage.specs.Found.{IsRefusal};
 ghost use Rattle.specs_world.specs.Resources.{held, place, Becomes};
-ghost use Rattle.specs_world.specs.Inserting.{IsPut, KeepsStorage};
+ghost use Rattle.specs_world.specs.Inserting.{IsPut, KeepsStorage, RefusesPart};
 
 use crate::held::Held;
 use hibitset::Index;
@@ -16,39 +12,48 @@ use shred_world::{Resource, World};
 use specs_entity::{EntitiesRes, Entity, Error, WrongGeneration};
 use specs_layouts::{Component, MaskedStorage, UnprotectedStorage};
 
-/// Tests whether an entity of a world is alive.
-pub(crate) fn test_alive<V>(world: &World<V>, entity: Entity) -> Result<(), Error>
+/// Whether an entity of a world is alive; false where the world has no entities.
+pub(crate) fn lives<V>(world: &World<V>, entity: Entity) -> bool
 where
     EntitiesRes: Resource<V>,
-    ensures alive { OnOk result (MatchOption (held ⟦<EntitiesRes as Held<V>>⟧.stands_at world.now)
-        ⊥ (λ births. IsAlive births entity)) }
-    ensures range { OnOk result (entity.id < 16777216) }
-    ensures succeeds { MatchOption (held ⟦<EntitiesRes as Held<V>>⟧.stands_at world.now)
-        ⊥ (λ births. IsAlive births entity) → IsOk result }
-    ensures refused { IfErr result (λ error. MatchOption (held ⟦<EntitiesRes as Held<V>>⟧.stands_at world.now)
-        (error ≡ refusal.NotRegistered)
-        (λ births. (wrong : Refusal) × IsRefusal births entity wrong × (error ≡ refusal.WrongGeneration wrong))) }
+    ensures value { IsTrue result ↔ MatchOption (held ⟦<EntitiesRes as Held<V>>⟧.stands_at world.now)
+        ⊥ (λ births. IsAlive births entity) }
+    ensures range { IsTrue result → entity.id < 16777216 }
 {
     match world.try_fetch::<EntitiesRes>() {
-        None => Err(Error::NotRegistered),
-        Some(entities) => {
-            if entities.is_alive(entity) {
-                Ok(())
-            } else {
-                Err(Error::WrongGeneration(WrongGeneration {
-                    action: "insert a part",
-                    actual_gen: entities.entity(entity.id()).generation(),
-                    entity,
-                }))
-            }
-        }
+        Some(entities) => entities.is_alive(entity),
+        None => false,
+    }
+}
+
+/// What the putting of a part at an entity that isn't alive is refused for.
+#[cold]
+pub(crate) fn refusal_of<V, T: Component>(world: &World<V>, entity: Entity) -> Error
+where
+    EntitiesRes: Resource<V>,
+    MaskedStorage<T>: Resource<V>,
+    requires dead { MatchOption (held ⟦<EntitiesRes as Held<V>>⟧.stands_at world.now)
+        ⊥ (λ births. IsAlive births entity) → ⊥ }
+    ensures { RefusesPart (held ⟦<EntitiesRes as Held<V>>⟧.stands_at world.now)
+        (held ⟦<MaskedStorage<T> as Held<V>>⟧.stands_at world.now) entity result }
+{
+    if world.try_fetch::<MaskedStorage<T>>().is_none() {
+        return Error::NotRegistered;
+    }
+    match world.try_fetch::<EntitiesRes>() {
+        Some(entities) => Error::WrongGeneration(WrongGeneration {
+            action: "insert a part",
+            actual_gen: entities.entity(entity.id()).generation(),
+            entity,
+        }),
+        None => Error::NotRegistered,
     }
 }
 
 /// Puts a part at an index of the storage of its kind.
 ///
-/// Errors: `NotRegistered`, exactly where the world has no such storage; `Memory`. Both hand `part` back, and each index has the
-/// part that it had.
+/// Errors: `NotRegistered`, exactly where the world has no such storage; `Memory`. Both hand `part` back, and each
+/// index has the part that it had.
 pub(crate) fn put_part<V, T: Component>(
     world: &mut World<V>,
     id: Index,

@@ -10,13 +10,14 @@ ghost use Rattle.specs_layouts.specs.Parts.{HasNone};
 ghost use Rattle.specs_world.specs.Resources.{Allocates, AllocatesAll, Place, place, held, Becomes, IsNew, Registers, IsPersistent};
 ghost use Rattle.specs_world.specs.Resources.{RefusesBirthIn, RefusesBirthsIn, DeletesLater, IsTakenOut};
 ghost use Rattle.specs_world.specs.Dropping.{Rests, DeletesIn, DeletesAll, MergesIn, DropsComponents, RefusesDeletion, RefusesMerge};
+ghost use Rattle.specs_world.specs.Lending.{LendsIn};
 ghost use Rattle.specs_world.specs.Inserting.{PutsPart, KeepsStorage, RefusesPart, AcceptsPart};
 
 use crate::builder::EntityBuilder;
 use crate::bundles::WriteStorage;
 use crate::deleting::{drop_registered, kill_living, kill_registered, merge_registered};
 use crate::held::Held;
-use crate::inserting::{put_part, test_alive};
+use crate::inserting::{lives, put_part, refusal_of};
 use crate::registering::{enter_there, put_and_enter, register_default};
 use crate::taking::{put_in, take_out};
 use shred_world::{MetaTable, Resource, SystemData, World};
@@ -277,6 +278,16 @@ where
         ensures named { IfErr result (λ error. error ≡ refusal.NotRegistered) }
         ensures not_registered { OnErr result (held ⟦<R as Held<V>>⟧.stands_at (slots self.now) ≡ None) };
 
+    /// The resource under its type's id, for writing.
+    ///
+    /// Errors: `NotRegistered`, exactly where the world has none.
+    fn write_resource<R: Resource<V>>(&mut self) -> Result<&mut R, Error>
+        ensures* writes_back { sem 𝓛 (LendsIn Self.row R.row slots ⟦<R as Held<V>>⟧.stands_at.wrapped self.entry
+            ⟦<R as Held<V>>⟧.stands_at.id result) }
+        ensures ok { IfOk result (λ resource. held ⟦<R as Held<V>>⟧.stands_at (slots self.old) ≡ Some resource.now) }
+        ensures named { IfErr result (λ error. error ≡ refusal.NotRegistered) }
+        ensures not_registered { OnErr result (held ⟦<R as Held<V>>⟧.stands_at (slots self.old) ≡ None) };
+
     /// Drops the parts at the indices of entities from each registered storage, whether they are alive or not.
     ///
     /// Errors: `NotRegistered`, where the world has no table of kinds; `Memory`. Both leave all parts as they were; storages may have more room.
@@ -391,15 +402,10 @@ where
     where
         MaskedStorage<T>: Resource<V>,
     {
-        match test_alive(self, entity) {
-            Ok(()) => put_part::<V, T>(self, entity.id(), part),
-            Err(error) => {
-                if self.try_fetch::<MaskedStorage<T>>().is_some() {
-                    Err((error, part))
-                } else {
-                    Err((Error::NotRegistered, part))
-                }
-            }
+        if lives(self, entity) {
+            put_part::<V, T>(self, entity.id(), part)
+        } else {
+            Err((refusal_of::<V, T>(self, entity), part))
         }
     }
 
@@ -467,6 +473,13 @@ where
 
     fn read_resource<R: Resource<V>>(&self) -> Result<&R, Error> {
         match self.try_fetch::<R>() {
+            Some(resource) => Ok(resource),
+            None => Err(Error::NotRegistered),
+        }
+    }
+
+    fn write_resource<R: Resource<V>>(&mut self) -> Result<&mut R, Error> {
+        match self.get_mut::<R>() {
             Some(resource) => Ok(resource),
             None => Err(Error::NotRegistered),
         }

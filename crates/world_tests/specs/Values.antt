@@ -1,5 +1,5 @@
 -- What the values of the tests hold and drop, by the storages in them.
-use Rattle.std.proofs.Common.{◌≡◌, ℕ, Bool, true, false, not, ◌&&◌, eqb, List, [], ◌++◌, refl}
+use Rattle.std.proofs.Common.{◌≡◌, ℕ, Bool, false, not, ◌&&◌, eqb, List, [], ◌++◌, refl}
 use Rattle.std.specs.List.{list_any}
 use Rattle.specs_layouts.specs.Masked.{Masked}
 use Rattle.specs_layouts.specs.declared.storages.vec.VecStorage.{VecStorage}

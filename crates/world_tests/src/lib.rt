@@ -1,6 +1,8 @@
 //! Worlds of entities, as callers use them.
 #![tactic(auto)]
 
+pub mod building;
+pub mod lending;
 pub mod reaping;
 pub mod stories;
 pub mod tiring;

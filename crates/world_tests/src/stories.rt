@@ -1,4 +1,6 @@
 //! What callers of a world of entities come to: each story makes its calls, and answers whether all was as it should be.
+use crate::building::build_bare;
+use crate::lending::create_fresh;
 use crate::values::{Health, Speed, Value};
 use shred_world::{SystemData, World};
 use specs_entity::{EntitiesRes, Entity, Error};
@@ -32,10 +34,15 @@ pub enum Story {
     MadeInARow,
     /// A storage that is taken out for writing is wanting until it is given back, and then has what was written.
     TakenOut,
+    /// Through the entities that are lent for writing one comes to life, which is persistent after a merge; a resource
+    /// that is wanting is refused.
+    LentForWriting,
+    /// An entity that is built without parts lives, and has none.
+    BuiltBare,
 }
 
 /// Every story.
-pub const STORIES: [Story; 11] = [
+pub const STORIES: [Story; 13] = [
     Story::BuiltWithParts,
     Story::RegisteredLate,
     Story::StaleEntity,
@@ -47,6 +54,8 @@ pub const STORIES: [Story; 11] = [
     Story::RegisteredTwice,
     Story::MadeInARow,
     Story::TakenOut,
+    Story::LentForWriting,
+    Story::BuiltBare,
 ];
 
 /// Whether a story is as it should be.
@@ -63,6 +72,8 @@ pub fn holds(alloc: Global, story: Story) -> Result<bool, Error> {
         Story::RegisteredTwice => registered_twice(alloc),
         Story::MadeInARow => made_in_a_row(alloc),
         Story::TakenOut => taken_out(alloc),
+        Story::LentForWriting => lent_for_writing(alloc),
+        Story::BuiltBare => built_bare(alloc),
     }
 }
 
@@ -249,4 +260,22 @@ fn taken_out(alloc: Global) -> Result<bool, Error> {
     let again = world.write_component::<Health>()?;
     SystemData::give_back(again, &mut world);
     Ok(wanting && health_at(&world, entity) == Some(Health(9)))
+}
+
+fn lent_for_writing(alloc: Global) -> Result<bool, Error> {
+    let mut world = world_with_healths(alloc)?;
+    let entity = create_fresh(&mut world)?;
+    let persistent = world.is_alive(entity);
+    world.merge()?;
+    let wanting = matches!(
+        world.write_resource::<MaskedStorage<Speed>>(),
+        Err(Error::NotRegistered)
+    );
+    Ok(!persistent && world.is_alive(entity) && wanting)
+}
+
+fn built_bare(alloc: Global) -> Result<bool, Error> {
+    let mut world = world_with_healths(alloc)?;
+    let entity = build_bare(&mut world)?;
+    Ok(world.is_alive(entity) && health_at(&world, entity).is_none())
 }

@@ -4,7 +4,7 @@ use Rattle.specs_lazy.specs.Queues.{NoneBelow}
 use Rattle.specs_lazy.proofs.queues.first_number.Given as goal
 
 abbrev pub invariant-loop-number : goal.invariant-loop-number
-invariant-loop-number g l = NoneBelow (place g.bound-1.part g.bound-1.wrapped g.bound-1.kind_number) l.world l.from
+invariant-loop-number g l = NoneBelow (place g.bound-1.part g.bound-1.wrapped g.bound-1.kind_number) l.world l.next
 
 abbrev pub decreases-loop-number : goal.decreases-loop-number
-decreases-loop-number g l = 2 ^ 64 - l.from
+decreases-loop-number g l = 2 ^ 64 - l.next

@@ -1,4 +1,4 @@
-use Rattle.std.proofs.Common.{◌≡◌, refl, ap, ◌∙◌}
+use Rattle.std.proofs.Common.{ap, ◌∙◌}
 use Rattle.shred_world.specs.Bundles.{with_slot, owned, out}
 use Rattle.shred_world.proofs.BundleLemmas.{with_slot-with_slot}
 use Rattle.world_tests.specs.Tiring.{health_id}

@@ -4,12 +4,12 @@ use Rattle.specs_world.specs.Resources.{place, Becomes}
 use Rattle.specs_world.specs.Inserting.{IsPut}
 use Rattle.specs_world.proofs.world_ext.WorldWorldExt.insert_part.Goals as goal
 
-pub returns-in-Ok-clause-ok : goal.returns-in-Ok-clause-ok
-returns-in-Ok-clause-ok g c =
+pub returns-then-lives-clause-ok : goal.returns-then-lives-clause-ok
+returns-then-lives-clause-ok g c =
     let storage = g.T.Storage.UnprotectedStorage in
     IfOk-weaker c.put_part.result _ _
     (λ had put. record {
-      alive = c.in-Ok.ensures.alive;
+      alive = c.lives.ensures.value.0 c.if-lives.true;
       puts =
           subst
           (λ index. Becomes (place g.bound-8.part g.bound-8.wrapped g.bound-8.kind_number)
