@@ -1,0 +1,2 @@
+pub mod LeaverLemmas
+pub mod LeavingLemmas
