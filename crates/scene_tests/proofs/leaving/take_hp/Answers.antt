@@ -5,21 +5,19 @@ use Rattle.shred_stages.proofs.CallerLemmas.{leaves-one}
 use Rattle.scene_basics.specs.declared.values.Value.TheVariants.{NumbersValue}
 use Rattle.scene_basics.specs.Names.{hp_kind}
 use Rattle.scene_basics.specs.Columns.{part_id}
-use Rattle.scene_basics.proofs.AddLemmas.{put-back}
+use Rattle.scene_tests.proofs.HeldLemmas.{changed-there}
 use Rattle.scene_tests.proofs.leaving.take_hp.Goals as goal
 
 pub returns-clause-ok : goal.returns-clause-ok
 returns-clause-ok g c =
-    let seen = g.W.Holder.slots c.args.view.now in
-    let after = c.take_all-outcome.new.numbers in
     on_ok_weaker c.take_all-outcome.result
     (λ none. record {
       before = c.in-Some.numbers;
-      after = after;
+      after = c.take_all-outcome.new.numbers;
       writes = record {
         written = c.in-Some.ensures.there;
-        others = c.put.ensures ∙ ap (λ at. with_slot (g.W.Holder.slots c.lift_hp.new.view) at (owned (NumbersValue after))) c.part_id.ensures
-            ∙ ap (λ w. with_slot w (part_id hp_kind) (owned (NumbersValue after))) c.in-Some.ensures.taken ∙ put-back seen (part_id hp_kind) (NumbersValue after);
+        others = changed-there (g.W.Holder.slots c.args.view.now) (g.W.Holder.slots c.lift_hp.new.view) (g.W.Holder.slots c.put.new.self) (part_id hp_kind) c.part_id.result (NumbersValue c.take_all-outcome.new.numbers)
+            c.in-Some.ensures.taken c.part_id.ensures c.put.ensures;
       };
       none = none;
       shown = c.take_all-outcome.ensures.shown;
