@@ -6,7 +6,7 @@ use std::alloc::{AllocError, Global};
 pub enum Work {
     /// Each has a pos and a vel, and drifts.
     Drift,
-    /// Each has a hp, a pos and a vel, and all five systems run; nobody is reaped, and nobody buds.
+    /// Each has a hp, a pos and a vel; all systems but bud run, and nobody is reaped.
     Five,
     /// Each has a hp, one in a hundred a pos and a vel, and these drift.
     Sparse,

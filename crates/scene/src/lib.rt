@@ -17,8 +17,8 @@ pub use runner::{RunError, run, run_to_end, run_with};
 pub use scene_devices::{Counted, CountedRead, CountedWrite, Faults};
 pub use scene_document::{Limits, LoadError};
 pub use scene_rules::{
-    Accessor, Command, DocRefusal, DocumentRules, FrameRefusal, NotQueued, Queue, ReadError, Report,
-    RunningTime, Skip, Skips, Text,
+    Accessor, Command, DocRefusal, DocumentRules, FrameRefusal, NotQueued, Queue, ReadError,
+    Report, RunningTime, Skip, Skips, Text,
 };
 pub use scene_stores::Store;
 pub use scene_turns::{Rules, SceneValue};

@@ -1,5 +1,5 @@
 -- Lemmas on what a gain leaves.
-use Rattle.std.proofs.Common.{◌≡◌, ◌<◌, ◌≤◌, ℕ, ℤ, pos, negsuc, int_le, cond, is_some, length, ◌∷◌, below_none, arith, Result, Ok, Err, MatchResult, OnOk, Bool, true, false, List, [], Option, Some, None, refl, sym, ◌∙◌, ap, subst, FitsSigned, All}
+use Rattle.std.proofs.Common.{◌≡◌, ◌<◌, ◌≤◌, ℕ, ℤ, pos, negsuc, int_le, cond, is_some, length, ◌∷◌, below_none, arith, Bool, true, false, List, [], Option, Some, None, refl, sym, ◌∙◌, ap, subst, FitsSigned, All}
 use Rattle.std.specs.Int.{w64}
 use Rattle.std.specs.Str.{bytes_eq}
 use Rattle.std.proofs.lemmas.Option.{same_Some, none-some}

@@ -1,4 +1,4 @@
-//! Rows of documents and of devices, which no contract says.
+//! Rows of documents, of devices and of rules, which no contract says.
 #![tactic(auto)]
 
 #[cfg(test)]
@@ -16,6 +16,10 @@ mod frames;
 #[cfg(test)]
 mod laws;
 #[cfg(test)]
+mod leaver_rows;
+mod leavers;
+mod leaving;
+#[cfg(test)]
 mod limits;
 #[cfg(test)]
 mod memory;
@@ -27,3 +31,5 @@ mod refusals;
 mod resumed;
 #[cfg(test)]
 mod runs;
+
+pub use leavers::{Leave, Leavers};

@@ -82,10 +82,10 @@ fn line_of(refusal: DocRefusal) -> &'static str {
 }
 
 /// The numbers of workers with which each document runs.
-const WORKERS: [u32; 4] = [0, 1, 2, 8];
+pub const WORKERS: [u32; 4] = [0, 1, 2, 8];
 
 /// The stores in which it runs.
-const STORES: [&str; 4] = ["vec", "dense", "hash", "btree"];
+pub const STORES: [&str; 4] = ["vec", "dense", "hash", "btree"];
 
 /// Whether the program tells the same of a document with each number of workers and in each store. Said twice, the later one counts.
 ///
