@@ -8,7 +8,7 @@
 mod documents;
 
 use documents::{Work, document};
-use scene::{Limits, Scene};
+use scene::{Limits, Rules, Scene, run_to_end};
 use scene_basics::Basics;
 use std::alloc::{AllocError, Global};
 use std::sync::Wait;
@@ -27,32 +27,36 @@ const WORKS: [(&str, Work); 4] = [
 /// How many frames are timed.
 const FRAMES: u32 = 10;
 
-/// The scene of a document, before its frames.
-fn opened(alloc: Global, text: &str) -> Result<Scene<Basics>, AllocError> {
-    Scene::open(alloc, Basics, Limits::FULL, text.as_bytes()).map_err(|_| AllocError)
-}
-
-/// Runs the frames of a scene that are left, up to the first that is refused.
-fn run_frames<R: AllocGlobal + Threads + Wait + Sync>(rt: &R, scene: &mut Scene<Basics>) {
-    while scene.left() > 0 {
-        if scene.run_frame(rt).is_err() {
-            return;
-        }
-    }
-}
-
 /// How many bytes the text of a scene has after its frames, and how many of these were accepted.
-fn outcome<R: AllocGlobal + Threads + Wait + Sync>(
-    rt: &R,
+fn outcome<R: Rules + Drop + Send + Sync, H: AllocGlobal + Threads + Wait + Sync>(
+    rt: &H,
+    rules: R,
+    text: &str,
+) -> Result<(usize, u32), AllocError>
+where
+    R::Value: Drop + Send + Sync,
+    R::Data: Send + Sync,
+    R::Global: Send + Sync,
+    R::System: Send + Sync,
+{
+    let Ok(mut scene) = Scene::open(rt.alloc(), rules, Limits::FULL, text.as_bytes()) else {
+        return Err(AllocError);
+    };
+    run_to_end(rt, &mut scene);
+    let written = scene.snapshot(rt.alloc())?;
+    let (_, report) = scene.into_parts();
+    Ok((written.len(), report.frames))
+}
+
+/// How many bytes the text of a document of so many entities has after its frames, and how many of these were accepted.
+fn outcome_of<H: AllocGlobal + Threads + Wait + Sync>(
+    rt: &H,
     work: Work,
     count: u32,
     frames: u32,
 ) -> Result<(usize, u32), AllocError> {
     let text = document(rt.alloc(), work, count, frames, 0, "vec")?;
-    let mut scene = opened(rt.alloc(), text.as_str())?;
-    run_frames(rt, &mut scene);
-    let written = scene.snapshot(rt.alloc())?;
-    Ok((written.len(), scene.report().frames))
+    outcome(rt, Basics, text.as_str())
 }
 
 /// The nanoseconds of one of so many, which began at `start`.
@@ -61,9 +65,37 @@ fn each<R: Clock>(rt: &R, start: Instant, count: u32) -> io::Result<u128> {
     Ok(if count != 0 { nanos / count as u128 } else { 0 })
 }
 
+/// The times of a scene: the nanoseconds of an entity loaded, in a frame, and printed, and the bytes of its text.
+fn times<R: Rules + Drop + Send + Sync, H: AllocGlobal + Clock + Threads + Wait + Sync>(
+    rt: &H,
+    rules: R,
+    text: &str,
+    count: u32,
+) -> io::Result<(u128, u128, u128, usize)>
+where
+    R::Value: Drop + Send + Sync,
+    R::Data: Send + Sync,
+    R::Global: Send + Sync,
+    R::System: Send + Sync,
+{
+    let start = Instant::now(rt)?;
+    let Ok(mut scene) = Scene::open(rt.alloc(), rules, Limits::FULL, text.as_bytes()) else {
+        return Err(AllocError.into());
+    };
+    let loading = each(rt, start, count)?;
+    let start = Instant::now(rt)?;
+    run_to_end(rt, &mut scene);
+    let running = each(rt, start, count.saturating_mul(FRAMES))?;
+    let start = Instant::now(rt)?;
+    let written = scene.snapshot(rt.alloc())?;
+    let printing = each(rt, start, count)?;
+    let _ = scene.into_parts();
+    Ok((loading, running, printing, written.len()))
+}
+
 /// The line of times of a way.
-fn time_work<R: AllocGlobal + Clock + Print + Threads + Wait + Sync>(
-    rt: &R,
+fn time_work<H: AllocGlobal + Clock + Print + Threads + Wait + Sync>(
+    rt: &H,
     name: &str,
     work: Work,
     count: u32,
@@ -71,16 +103,7 @@ fn time_work<R: AllocGlobal + Clock + Print + Threads + Wait + Sync>(
     store: &str,
 ) -> io::Result<()> {
     let text = document(rt.alloc(), work, count, FRAMES, workers, store)?;
-    let start = Instant::now(rt)?;
-    let mut scene = opened(rt.alloc(), text.as_str())?;
-    let loading = each(rt, start, count)?;
-    let start = Instant::now(rt)?;
-    run_frames(rt, &mut scene);
-    let running = each(rt, start, count.saturating_mul(FRAMES))?;
-    let start = Instant::now(rt)?;
-    let written = scene.snapshot(rt.alloc())?;
-    let printing = each(rt, start, count)?;
-    let bytes = written.len();
+    let (loading, running, printing, bytes) = times(rt, Basics, text.as_str(), count)?;
     println!(rt;
         "{name}, {count}, {workers} workers, {store}: loaded {loading} ns, a frame {running} ns, printed {printing} ns each ({bytes} bytes)"
     )
@@ -105,7 +128,7 @@ fn time_all<R: AllocGlobal + Clock + Print + Threads + Wait + Sync>(rt: &R) -> i
 /// The lines of what comes of each way.
 fn check_all<R: AllocGlobal + Print + Threads + Wait + Sync>(rt: &R) -> io::Result<()> {
     for (name, work) in WORKS {
-        let (bytes, frames) = outcome(rt, work, 1000, 3)?;
+        let (bytes, frames) = outcome_of(rt, work, 1000, 3)?;
         println!(rt; "{name}: {frames} frames, {bytes} bytes")?;
     }
     Ok(())
@@ -134,7 +157,7 @@ fn run_one<R: AllocGlobal + Print + Threads + Wait + Sync>(
     let [name, count, frames] = words else {
         return Ok(());
     };
-    let (bytes, accepted) = outcome(
+    let (bytes, accepted) = outcome_of(
         rt,
         named(name.as_str()),
         number(count.as_str()),

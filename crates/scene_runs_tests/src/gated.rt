@@ -96,12 +96,13 @@ fn with_config(flags: &Arc<Flags>, place: Place, config: &Json) -> Result<Option
         (configured (place_access place) (view config.now)))
         (λ error. error ≡ ReadError.Shape → configured (place_access place) (view config.now) ≡ misshapen) }
 {
-    if !config.is_null() {
-        return Err(ReadError::Shape);
-    }
-    match Arc::try_clone(flags) {
-        Ok(flags) => Ok(Some(Gate { flags, place })),
-        Err(_) => Err(ReadError::Memory),
+    if config.is_null() {
+        match Arc::try_clone(flags) {
+            Ok(flags) => Ok(Some(Gate { flags, place })),
+            Err(_) => Err(ReadError::Memory),
+        }
+    } else {
+        Err(ReadError::Shape)
     }
 }
 

@@ -98,14 +98,21 @@ fn loads_again<H: AllocGlobal + Threads + Wait + Sync>(
     document: &str,
     next: u64,
 ) -> Result<bool, AllocError> {
-    let Some(scene) = first_scene(rt, Basics, document) else {
-        return Ok(false);
+    let scene = match first_scene(rt, Basics, document) {
+        Some(scene) => scene,
+        None => return Ok(false),
     };
     a_ready_scene_can_be_read(&scene);
-    match print_and_load(rt.alloc(), &scene, Basics, Limits::FULL) {
-        Ok(again) => are_one(rt.alloc(), &scene, &again, next),
-        Err(_) => Ok(false),
-    }
+    let outcome = match print_and_load(rt.alloc(), &scene, Basics, Limits::FULL) {
+        Ok(again) => {
+            let one = are_one(rt.alloc(), &scene, &again, next);
+            let _ = again.into_parts();
+            one
+        }
+        Err(_error) => Ok(false),
+    };
+    let _ = scene.into_parts();
+    outcome
 }
 
 #[test]

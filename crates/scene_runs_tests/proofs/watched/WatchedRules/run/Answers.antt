@@ -6,3 +6,6 @@ returns-in-Watch-clause-leaves g c = leaves-itself _
 
 pub returns-in-Halt-clause-leaves : goal.returns-in-Halt-clause-leaves
 returns-in-Halt-clause-leaves g c = leaves-itself _
+
+pub returns-in-Found-clause-leaves : goal.returns-in-Found-clause-leaves
+returns-in-Found-clause-leaves g c = leaves-itself _
