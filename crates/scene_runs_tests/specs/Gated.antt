@@ -1,5 +1,5 @@
 -- Rules with two gates over positions and velocities: each looks at a kind of its own.
-use Rattle.std.specs.Prelude.{◌≡◌, Bool, true, false, [], ◌∷◌, codes, if◌then◌else◌}
+use Rattle.std.specs.Prelude.{◌≡◌, false, [], ◌∷◌, codes, if◌then◌else◌}
 use Rattle.std.specs.Str.{bytes_eq}
 use Rattle.std.specs.String.{string_bytes}
 use Rattle.shred_stages.specs.declared.stop.Stop.{Stop}

@@ -1,19 +1,17 @@
 -- Parts of the two kinds in the values of a world.
-use Rattle.std.proofs.Common.{◌≡◌, ◌≢◌, ℕ, Bool, true, false, cond, eqb, [], ◌∷◌, Option, Some, None, refl, ap, sym, ◌∙◌, subst}
+use Rattle.std.proofs.Common.{◌≡◌, ℕ, Bool, true, false, cond, eqb, [], Option, Some, None, refl, ap, sym, ◌∙◌, subst}
 use Rattle.std.specs.Prelude.{IsSome, option_map}
 use Rattle.std.specs.Option.{option_flatten}
 use Rattle.std.specs.Str.{bytes_eq}
 use Rattle.std.specs.FinMap as slots
 use Rattle.std.proofs.lemmas.Bool.{true≢false, eqb-true, eq-eqb}
 use Rattle.shred_world.specs.declared.resource_id.ResourceId.{ResourceId}
-use Rattle.shred_world.specs.ResourceIds.{id_of, same_id}
+use Rattle.shred_world.specs.ResourceIds.{same_id}
 use Rattle.shred_world.specs.Worlds.{Slots, value_at}
 use Rattle.shred_world.proofs.CallerLemmas.{get-insert_here, ids_total}
 use Rattle.specs_layouts.specs.Parts.{Puts, HasNone}
-use Rattle.scene_rules.specs.Parts.{Name, is_among}
-use Rattle.scene_world.specs.Stored.{Stored}
 use Rattle.scene_world.specs.Changes.{but_at}
-use Rattle.scene_turns.specs.Putting.{PutsIn, IsEmpty, Registers}
+use Rattle.scene_turns.specs.Putting.{PutsIn, Registers}
 use Rattle.scene_turns_tests.specs.Drifts.{Positions, Velocities, position_at, velocity_at, position_id, velocity_id}
 use Rattle.scene_turns_tests.specs.Drifting.{pos_name, vel_name, storing, counting, position_column, velocity_column, drifting_columns}
 use Rattle.scene_turns_tests.specs.declared.values.Position.{Position}

@@ -1,4 +1,4 @@
-use Rattle.std.proofs.Common.{◌≡◌, true, cond, Some, None, is_some, refl, ◌∙◌, ap, sym}
+use Rattle.std.proofs.Common.{◌≡◌, true, cond, is_some, refl, ◌∙◌, ap, sym}
 use Rattle.serde_json.specs.View.{view}
 use Rattle.serde_json.specs.Find.{as_null}
 use Rattle.scene_rules.specs.Rulebook.{known, misshapen}
