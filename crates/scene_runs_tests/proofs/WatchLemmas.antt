@@ -1,18 +1,13 @@
 -- The turns of the systems are ones that the rules allow.
-use Rattle.std.proofs.Common.{◌≡◌, true, List, [], Option, Some, None, refl, sym, subst}
+use Rattle.std.proofs.Common.{◌≡◌, List, [], Option, Some, None, refl}
 use Rattle.std.proofs.lemmas.Bool.{false≢true}
-use Rattle.std.proofs.lemmas.List.Elements.{All-nil}
 use Rattle.serde_json.specs.Data.{null}
 use Rattle.shred_world.specs.Bundles.{Holding}
 use Rattle.shred_stages.specs.declared.stop.Stop.{Stop}
 use Rattle.shred_stages.specs.declared.stop.Stop.TheVariants as stop
-use Rattle.scene_rules.specs.Lawful.{IsLawful}
-use Rattle.scene_rules.specs.Parts.{Name, is_among}
-use Rattle.scene_rules.specs.Rulebook.{Command, Fragment, leaves}
-use Rattle.scene_world.specs.Standing.{Kinds, fragment_of}
-use Rattle.scene_turns.specs.Places.{kinds_of}
-use Rattle.scene_turns.specs.Turns.{Meaning, sense_of, rules_by, Runs, Ends, meaning_of}
-use Rattle.scene_turns_tests.specs.Drifting.{counting, drift_name, drift_access, drifting_book, drifting_columns, drifting_places, Drifts}
+use Rattle.scene_rules.specs.Rulebook.{Command}
+use Rattle.scene_turns.specs.Turns.{Meaning, sense_of, Runs, Ends, meaning_of}
+use Rattle.scene_turns_tests.specs.Drifting.{drift_name, drift_access, drifting_book, Drifts}
 use Rattle.scene_turns_tests.specs.declared.values.Value.{Value}
 use Rattle.scene_runs_tests.specs.Watched.{mover_access, mover_does, mover_name, watched_book, IsHalt}
 use Rattle.scene_runs_tests.proofs.RestLemmas.{watched_kinds, rests-runs}
