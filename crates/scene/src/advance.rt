@@ -12,17 +12,13 @@ ghost use Rattle.scene.specs.Running.{Stands, listed_scene};
 use scene_frames::laws::a_refusal_in_a_world_is_one_of_the_scene;
 use scene_frames::run_frame;
 use scene_keeping::keep_scene;
-use scene_kept::Kept;
+use scene_kept::KeptScene;
 use scene_rules::{Command, FrameRefusal, Skip};
 use scene_systems::SceneDispatcher;
 use scene_turns::{Rules, SceneValue};
 use shred_world::World;
 use std::sync::Wait;
 use std::thread::Threads;
-
-/// What is kept of a scene: the data of each entity by the places of their kinds, and the globals by those of their
-/// names.
-pub(crate) type KeptScene<D, G> = Kept<Vec<Option<D>>, Vec<Option<G>>>;
 
 /// Runs a frame in a world, and keeps the scene after it. Errors: those of the frame; the scene before is kept.
 pub(crate) fn advance<R: Rules + Send + Sync, H: AllocGlobal + Threads + Wait + Sync>(
@@ -35,7 +31,7 @@ pub(crate) fn advance<R: Rules + Send + Sync, H: AllocGlobal + Threads + Wait + 
     frame: u32,
     given: &[Command<R::Data>],
     skips: &mut Vec<Skip>,
-    kept: &mut KeptScene<R::Data, R::Global>,
+    kept: &mut KeptScene<R::Data, Vec<Option<R::Global>>>,
 ) -> Result<(), FrameRefusal>
 where
     R::Value: Drop + Send + Sync,

@@ -4,11 +4,12 @@ ghost use Rattle.scene_rules.specs.Parts.{Part};
 ghost use Rattle.scene_rules.specs.Queues.{plain_commands};
 ghost use Rattle.scene_document.specs.Loading.{commands_at};
 
-use crate::advance::{KeptScene, advance};
+use crate::advance::advance;
 use crate::load::{Course, course_of, open_in_world};
 use scene_document::{Limits, LoadError, read_document};
 use scene_draft::{JsonError, read_json};
 use scene_rules::{Command, DocRefusal, Report, Skips};
+use scene_kept::KeptScene;
 use scene_snapshot::kept_text;
 use scene_staging::places_of_systems;
 use scene_systems::SceneDispatcher;
@@ -34,7 +35,7 @@ where
     places: Vec<u32>,
     commands: Vec<Vec<Command<R::Data>>>,
     asked: u32,
-    kept: KeptScene<R::Data, R::Global>,
+    kept: KeptScene<R::Data, Vec<Option<R::Global>>>,
     report: Report,
 }
 
@@ -183,7 +184,7 @@ where
             (placed_as (λ placed. placed.position)
             (λ placed. placed.system) R.kind_of R.config_of R.declared R.sense R.does) R.book self.now).scene.next }
     {
-        self.kept.next()
+        self.kept.living.next()
     }
 
     /// How far the scene has come: accepted frames, skipped commands, and the refusal if there is one.

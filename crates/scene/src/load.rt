@@ -15,7 +15,7 @@ ghost use Rattle.scene_frames.specs.Waiting.{NoneWaits};
 ghost use Rattle.scene.specs.Limits.{AreLimits};
 ghost use Rattle.scene.specs.Running.{IsUnrefused, course_of, listed_scene};
 
-use crate::advance::KeptScene;
+use scene_kept::KeptScene;
 use scene_document::{Limits, commands_of};
 use scene_draft::DocumentDraft;
 use scene_keeping::keep_scene;
@@ -52,7 +52,7 @@ pub(crate) fn open_in_world<R: Rules>(
     draft: &DocumentDraft<'_, R::Data, R::Global, R::System>,
     places: &[u32],
     alloc: Global,
-) -> Result<(World<R::Value>, KeptScene<R::Data, R::Global>), AllocError>
+) -> Result<(World<R::Value>, KeptScene<R::Data, Vec<Option<R::Global>>>), AllocError>
 where
     R::Value: Drop,
     requires limits { AreLimits limits }

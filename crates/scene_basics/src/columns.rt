@@ -1,6 +1,8 @@
 //! The parts of the four kinds in the values of a world.
-ghost use Rattle.std.specs.Prelude.{◌≡◌, ◌<◌, ◌++◌, [], length, OnOk, OnErr, option_map};
+ghost use Rattle.std.specs.Prelude.{◌≡◌, ◌<◌, ◌++◌, [], length, map, None, IfOk, OnOk, OnErr, option_map};
 ghost use Rattle.scene_turns.specs.Putting.{named_in, part_read, PutsIn, TakesOut, SameColumn, Registers};
+ghost use Rattle.scene_basics.specs.declared.data.Datum.TheVariants.{Whole as DatumWhole};
+ghost use Rattle.scene_basics.specs.Values.{whole_at};
 ghost use Rattle.scene_basics.specs.Numbers.{counting, referring, part_of};
 ghost use Rattle.scene_basics.specs.Columns.{part_id, number_column, owner_column, basic_columns};
 ghost use Rattle.scene_basics.specs.Registering.{HasNumbers, HasOwners};
@@ -164,6 +166,17 @@ pub(crate) fn owner_datum(value: &Value, index: u32, ids: &[u64]) -> Option<Datu
 }
 
 /// The number at an index, if there is one.
+fn number_at(numbers: &MaskedStorage<Whole>, index: u32) -> Option<Datum>
+    ensures { result ≡ option_map (λ whole. DatumWhole whole.0) (whole_at numbers.now index) }
+{
+    if numbers.contains(index) {
+        Some(Datum::Whole(numbers.get(index).0))
+    } else {
+        None
+    }
+}
+
+/// The number at an index, if there is one.
 pub(crate) fn number_datum(value: &Value, index: u32, ids: &[u64]) -> Option<Datum>
     requires { length ids.now ≡ length (named_in (number_column value.now index)) }
     ensures { option_map part_of result ≡ option_map (part_read ids.now) (number_column value.now index) }
@@ -171,9 +184,35 @@ pub(crate) fn number_datum(value: &Value, index: u32, ids: &[u64]) -> Option<Dat
     let Value::NumbersValue(numbers) = value else {
         return None;
     };
-    if numbers.contains(index) {
-        Some(Datum::Whole(numbers.get(index).0))
-    } else {
-        None
+    number_at(numbers, index)
+}
+
+/// The numbers at the indices of these entities, each of which stands behind the id of its entity. Errors: want of memory.
+pub(crate) fn numbers_each(
+    numbers: &MaskedStorage<Whole>,
+    entities: &[(u64, u32)],
+    alloc: Global,
+) -> Result<Vec<Option<Datum>>, AllocError>
+    ensures { IfOk result (λ data. data.items
+        ≡ map (λ entity. option_map (λ whole. DatumWhole whole.0) (whole_at numbers.now entity.1)) entities.now) }
+{
+    let mut data = Vec::with_capacity(alloc, entities.len())?;
+    for entity in entities {
+        data.push(number_at(numbers, entity.1))?;
     }
+    Ok(data)
+}
+
+/// Nothing for each of these entities. Errors: want of memory.
+pub(crate) fn nothing_each(
+    entities: &[(u64, u32)],
+    alloc: Global,
+) -> Result<Vec<Option<Datum>>, AllocError>
+    ensures { IfOk result (λ data. data.items ≡ map (λ _. None) entities.now) }
+{
+    let mut data = Vec::with_capacity(alloc, entities.len())?;
+    for _ in entities {
+        data.push(None)?;
+    }
+    Ok(data)
 }

@@ -9,7 +9,7 @@ ghost use Rattle.scene_basics.specs.WorldLaws.{law-of_book};
 use crate::adding::{add_to, global_of};
 use crate::asking::ask_all;
 use crate::columns::{
-    number_datum, owner_datum, part_id, push_owner, put_number, put_owner, register_all,
+    nothing_each, number_datum, numbers_each, owner_datum, part_id, push_owner, put_number, put_owner, register_all,
     take_number, take_owner,
 };
 use crate::data::{Ask, BasicSystem, Datum, Gain, HP, OWNER, POS, VEL};
@@ -95,6 +95,25 @@ impl Rules for Basics {
             Ok(owner_datum(value, index, ids))
         } else {
             Ok(number_datum(value, index, ids))
+        }
+    }
+
+    fn get_each(
+        value: &Value,
+        kind: &str,
+        entities: &[(u64, u32)],
+        alloc: Global,
+    ) -> Result<Option<Vec<Option<Datum>>>, AllocError> {
+        match value {
+            Value::NumbersValue(numbers) if kind != OWNER => {
+                let data = numbers_each(numbers, entities, alloc)?;
+                Ok(Some(data))
+            }
+            Value::OwnersValue(owners) if kind == OWNER && owners.mask().is_empty() => {
+                let data = nothing_each(entities, alloc)?;
+                Ok(Some(data))
+            }
+            _ => Ok(None),
         }
     }
 

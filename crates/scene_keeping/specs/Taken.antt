@@ -1,46 +1,71 @@
 -- What is taken off a world to be kept; no public clause cites this.
-use Rattle.std.specs.Prelude.{◌≡◌, ℕ, List, map, Option, Some, IsSome, option_map}
-use denote.Ref.{Bor}
-use Rattle.std.specs.Option.{MatchOption, option_copied}
-use Rattle.std.specs.List.{All}
-use Rattle.std.specs.Global.{Vec}
+use Rattle.std.specs.Prelude.{◌≡◌, ℕ, true, List, [], ◌∷◌, map, Option, Some, IsSome, is_some, option_map, ◌==◌}
+use Rattle.std.specs.List.{All, list_any}
+use Rattle.hibitset_sets.specs.BitSet.{has_member}
+use Rattle.hibitset_sets.specs.Walk.{walk}
 use Rattle.specs_entity.specs.Life.{LifeAt}
+use Rattle.specs_flagged.specs.Flagged.{Flagged}
+use Rattle.specs_layouts.specs.Masked.{Masked}
+use Rattle.specs_layouts.specs.declared.storages.vec.VecStorage.{VecStorage}
+use Rattle.scene_stores.specs.Markers.{marker_at}
 use Rattle.scene_rules.specs.Parts.{Name, Part}
 use Rattle.scene_world.specs.Stored.{part_under}
-use Rattle.scene_world.specs.Rolls.{Roll, id_at, index_of, ref_to}
+use Rattle.scene_world.specs.Rolls.{Roll, id_at, index_of, ref_to, part_in}
 use Rattle.scene_world.specs.Standing.{Sight, Kinds, roll_of, column_of}
-use Rattle.scene_kept.specs.Keeping.{Keeping, kept_at, Enters}
+use Rattle.scene_kept.specs.Keeping.{Keeping, kept_at}
 
 -- these are the ids with which the indices of entities are marked
 abbrev pub AreMarkedBy : Roll → List LifeAt → List ℕ → Type 0
 AreMarkedBy roll named ids = map (λ entity. roll.marker entity.id) named ≡ map (λ id. Some id) ids
 
--- these stand for the parts of kinds
-abbrev pub AreColumns : {V : Type 0} → Kinds V → Sight V → List Name → List (Option (Bor V)) → Type 0
-AreColumns kinds w names columns = map option_copied columns ≡ map (λ kind. w (kinds.part_id kind)) names
+-- these are a storage's markers, each before its index
+pub record AreMarkersOf (markers : Masked (Flagged (VecStorage ℕ))) (pairs : List (ℕ × ℕ)) : Type 0 where
+  pub each : All (λ pair. marker_at markers pair.1 ≡ Some pair.0) pairs
+  pub all : map (λ pair. pair.1) pairs ≡ walk (has_member markers.mask)
+
+-- one of these indices
+abbrev pub IsAmong : List ℕ → ℕ → Type 0
+IsAmong numbers number = list_any (λ other. number == other) numbers ≡ true
+
+-- these are the ids of those who live, each before the index of its entity
+pub record ArePairs (roll : Roll) (pairs : List (ℕ × ℕ)) : Type 0 where
+  pub each : All (λ pair. id_at roll pair.1 ≡ Some pair.0) pairs
+  pub all : (index : ℕ) → IsSome (id_at roll index) → IsAmong (map (λ pair. pair.1) pairs) index
+
+-- the ids that are kept are those of who lives
+abbrev pub HasIdsOf : {G : Type 0} → Roll → Keeping Unit G → Type 0
+HasIdsOf roll kept = (id : ℕ) → is_some (kept_at kept id) ≡ is_some (index_of roll id)
+
+module _ {D : Type 0} (part_of : D → Part) where
+  -- what is kept of an id is wanted of it
+  abbrev pub IsWanted : (ℕ → Option Part) → Keeping D Unit → ℕ → Type 0
+  IsWanted want column id = option_map part_of (kept_at column id) ≡ want id
+
+  -- what is wanted of each of some ids is kept, and nothing that isn't wanted
+  pub record AreWanted (want : ℕ → Option Part) (ids : List ℕ) (column : Keeping D Unit) : Type 0 where
+    pub sound : (id : ℕ) → IsSome (kept_at column id) → IsWanted want column id
+    pub each : All (IsWanted want column) ids
+
+-- where data are what is wanted of the ids beside which they stand, and nothing is wanted of others, they are kept
+abbrev pub IsFilledBy : {D : Type 0} → List (ℕ × ℕ) → List (Option D) → Keeping D Unit → Type 0
+IsFilledBy {D} pairs data column = (part_of : D → Part) (want : ℕ → Option Part) → map (option_map part_of) data ≡ map (λ pair. want pair.0) pairs → ((id : ℕ) → IsSome (want id) → IsAmong (map (λ pair. pair.0) pairs) id) → (id : ℕ) → IsWanted part_of want column id
 
 -- the part of a kind at an index, where each entity that it names is a reference to its id
 abbrev pub part_at : {V : Type 0} → Kinds V → Sight V → ℕ → Name → Option Part
 part_at kinds w index kind = option_map (part_under (ref_to (roll_of kinds w))) (column_of kinds w kind index)
 
 module _ {V D : Type 0} (kinds : Kinds V) (part_of : D → Part) (w : Sight V) where
-  -- data are by the places of kinds what the columns of the kinds store at an index
-  abbrev pub AreOfIndex : List Name → ℕ → List (Option D) → Type 0
-  AreOfIndex names index values = map (option_map part_of) values ≡ map (part_at kinds w index) names
+  -- these are the data of a kind at the indices of pairs
+  abbrev pub AreOfPairs : Name → List (ℕ × ℕ) → List (Option D) → Type 0
+  AreOfPairs kind pairs data = map (option_map part_of) data ≡ map (λ pair. part_at kinds w pair.1 kind) pairs
 
-  -- the entity at an index was entered under its id
-  pub record KeepsOne {G : Type 0} (names : List Name) (index : ℕ) (before after : Keeping (Vec (Option D)) G) : Type 0 where
-    pub id : ℕ
-    pub values : Vec (Option D)
-    pub marked : (roll_of kinds w).marker index ≡ Some id
-    pub its : AreOfIndex names index values.items
-    pub enters : Enters before id values after
+  -- the column of a kind is kept
+  abbrev pub IsColumnOf : Name → Keeping D Unit → Type 0
+  IsColumnOf kind column = (id : ℕ) → IsWanted part_of (part_in (roll_of kinds w) (column_of kinds w kind)) column id
 
-  -- what is kept under an id is that of an index
-  abbrev pub IsKeptOf : List Name → ℕ → Option (Vec (Option D)) → Type 0
-  IsKeptOf names index found = MatchOption found ⊥ (λ values. AreOfIndex names index values.items)
-
-  -- entities are kept, each under its id, and under no id that isn't somebody's
-  pub record AreKept {G : Type 0} (names : List Name) (entities : List LifeAt) (kept : Keeping (Vec (Option D)) G) : Type 0 where
-    pub each : All (λ entity. (id : ℕ) → id_at (roll_of kinds w) entity.id ≡ Some id → IsKeptOf names entity.id (kept_at kept id)) entities
-    pub only : (id : ℕ) → IsSome (kept_at kept id) → IsSome (index_of (roll_of kinds w) id)
+  -- the columns of kinds are kept, in their order
+  abbrev pub AreColumnsOf : List Name → List (Keeping D Unit) → Type 0
+  AreColumnsOf [] [] = Unit
+  AreColumnsOf [] (column ∷ columns) = ⊥
+  AreColumnsOf (kind ∷ kinds_left) [] = ⊥
+  AreColumnsOf (kind ∷ kinds_left) (column ∷ columns) = IsColumnOf kind column × AreColumnsOf kinds_left columns

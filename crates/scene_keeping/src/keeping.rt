@@ -1,143 +1,139 @@
 //! The scene that stands in a world, kept.
-ghost use Rattle.std.specs.Prelude.{◌≡◌, map as mapped, IfOk, OnOk};
-ghost use Rattle.std.specs.FinMap as map;
-ghost use Rattle.std.specs.List.Sorted.{IsPermutation};
+ghost use Rattle.std.specs.Prelude.{◌≡◌, true, IfOk};
+ghost use Rattle.scene_rules.specs.Parts.{is_among};
 ghost use Rattle.scene_rules.specs.Declaring.{texts};
 ghost use Rattle.scene_world.specs.Standing.{roll_of, plain_of, IsSceneWorld};
 ghost use Rattle.scene_turns.specs.Places.{kinds_of};
 ghost use Rattle.scene_acts.specs.Acts.{seen_of};
-ghost use Rattle.scene_acts.specs.Gone.{AreLiving};
 ghost use Rattle.scene_snapshot.specs.KeptScenes.{kept_scene};
-ghost use Rattle.scene_keeping.specs.Taken.{AreColumns, KeepsOne, AreKept};
+ghost use Rattle.scene_keeping.specs.Taken.{ArePairs, HasIdsOf, IsFilledBy, IsColumnOf, AreColumnsOf};
 
-use crate::taking::{columns_in, data_at, globals_in, next_in};
-use scene_acts::{id_marked, living_in};
-use scene_kept::Kept;
+use crate::taking::{data_at, globals_in, next_in, pairs_in};
+use scene_kept::{Kept, KeptScene};
 use scene_snapshot::ByPlace;
 use scene_turns::{Rules, SceneValue};
 use shred_world::World;
-use specs_entity::Entity;
 use std::alloc::{AllocError, Global};
 
 /// What is kept of the scene that stands in a world: all of it, read off the world.
 ///
-/// The data of an entity stand by the places of their kinds, and the globals by those of their names.
+/// The columns stand by the places of their kinds, and the globals by those of their names.
 ///
 /// Errors: want of memory.
 pub fn keep_scene<R: Rules>(
     rules: &R,
     world: &World<R::Value>,
     alloc: Global,
-) -> Result<Kept<Vec<Option<R::Data>>, Vec<Option<R::Global>>>, AllocError>
+) -> Result<KeptScene<R::Data, Vec<Option<R::Global>>>, AllocError>
     requires stands { IsSceneWorld (kinds_of ⟦<R::Value as SceneValue<R::Data>>⟧.places R.part_of R.columns)
         (R.book rules.now) (seen_of world.now) }
     ensures { IfOk result (λ kept. kept_scene R.part_of R.global_of
-        ⟦<Vec<Option<R::Data>> as ByPlace<R::Data>>⟧.at_place
         ⟦<Vec<Option<R::Global>> as ByPlace<R::Global>>⟧.at_place (R.book rules.now) kept
         ≡ plain_of (kinds_of ⟦<R::Value as SceneValue<R::Data>>⟧.places R.part_of R.columns) (seen_of world.now)) }
 {
     let globals = globals_in::<R>(world, rules.global_names(), alloc)?;
     let next = next_in::<R>(world)?;
-    let living = living_in::<R>(world)?;
-    let entities = by_ids::<R>(world, &living, alloc)?;
+    let pairs = pairs_in(rules, world, alloc)?;
+    let living = keep_ids(rules, world, &pairs, next, globals, alloc)?;
+    let columns = keep_columns(rules, world, rules.part_names(), &pairs, alloc)?;
+    Ok(KeptScene { living, columns })
+}
+
+/// The ids of the living, kept, with the next id and the globals. Errors: want of memory.
+fn keep_ids<R: Rules, G: Drop>(
+    rules: &R,
+    world: &World<R::Value>,
+    pairs: &[(u64, u32)],
+    next: u64,
+    globals: G,
+    alloc: Global,
+) -> Result<Kept<(), G>, AllocError>
+    requires stands { IsSceneWorld (kinds_of ⟦<R::Value as SceneValue<R::Data>>⟧.places R.part_of R.columns)
+        (R.book rules.now) (seen_of world.now) }
+    requires pairs { ArePairs (roll_of (kinds_of ⟦<R::Value as SceneValue<R::Data>>⟧.places R.part_of R.columns)
+        (seen_of world.now)) pairs.now }
+    ensures next { IfOk result (λ kept. kept.next ≡ next) }
+    ensures globals { IfOk result (λ kept. kept.globals ≡ globals) }
+    ensures ids { IfOk result (HasIdsOf (roll_of (kinds_of ⟦<R::Value as SceneValue<R::Data>>⟧.places R.part_of
+        R.columns) (seen_of world.now))) }
+{
     let mut kept = Kept::new(alloc, next, globals);
-    keep_entities(rules, world, &entities, &mut kept, alloc)?;
+    kept.make_room(pairs.len())?;
+    for pair in pairs {
+        match kept.enter(pair.0, ()) {
+            Ok(_) => {}
+            Err(_) => return Err(AllocError),
+        }
+    }
     Ok(kept)
 }
 
-/// Entities, each behind the id with which it is marked. Errors: want of memory.
-fn marked<R: Rules>(
-    world: &World<R::Value>,
-    entities: &[Entity],
-    alloc: Global,
-) -> Result<Vec<(Option<u64>, Entity)>, AllocError>
-    ensures { IfOk result (λ pairs. mapped (λ pair. pair.1) pairs.items ≡ entities.now) }
-{
-    let mut pairs = Vec::new(alloc);
-    for entity in entities {
-        pairs.push((id_marked::<R>(world, entity.id()), *entity))?;
-    }
-    Ok(pairs)
-}
-
-/// The entities of pairs. Errors: want of memory.
-fn entities_of(pairs: &[(Option<u64>, Entity)], alloc: Global) -> Result<Vec<Entity>, AllocError>
-    ensures { IfOk result (λ entities. entities.items ≡ mapped (λ pair. pair.1) pairs.now) }
-{
-    let mut entities = Vec::new(alloc);
-    for pair in pairs {
-        entities.push(pair.1)?;
-    }
-    Ok(entities)
-}
-
-/// Entities in the order of their ids, so that each is entered behind the one before it. Errors: want of memory.
-fn by_ids<R: Rules>(
-    world: &World<R::Value>,
-    entities: &[Entity],
-    alloc: Global,
-) -> Result<Vec<Entity>, AllocError>
-    ensures { IfOk result (λ sorted. IsPermutation entities.now sorted.items) }
-{
-    let mut pairs = marked::<R>(world, entities, alloc)?;
-    pairs.sort_unstable_by_key(|pair| pair.0);
-    entities_of(&pairs, alloc)
-}
-
-/// Enters living entities into what is kept, of which there is none yet. Errors: want of memory.
-fn keep_entities<R: Rules>(
-    rules: &R,
-    world: &World<R::Value>,
-    entities: &[Entity],
-    kept: &mut Kept<Vec<Option<R::Data>>, Vec<Option<R::Global>>>,
-    alloc: Global,
-) -> Result<(), AllocError>
-    requires stands { IsSceneWorld (kinds_of ⟦<R::Value as SceneValue<R::Data>>⟧.places R.part_of R.columns)
-        (R.book rules.now) (seen_of world.now) }
-    requires living { AreLiving (roll_of
-        (kinds_of ⟦<R::Value as SceneValue<R::Data>>⟧.places R.part_of R.columns) (seen_of world.now)).births
-        entities.now }
-    requires none { kept.old.entries ≡ map.empty }
-    ensures next { OnOk result (kept.new.next ≡ kept.old.next) }
-    ensures globals { OnOk result (kept.new.globals ≡ kept.old.globals) }
-    ensures entities { OnOk result (AreKept
-        (kinds_of ⟦<R::Value as SceneValue<R::Data>>⟧.places R.part_of R.columns) R.part_of (seen_of world.now)
-        (R.book rules.now).part_names entities.now kept.new) }
-{
-    let names = rules.part_names();
-    let columns = columns_in::<R>(world, names, alloc)?;
-    for entity in entities {
-        keep_entity(rules, world, names, &columns, entity.id(), kept, alloc)?;
-    }
-    Ok(())
-}
-
-/// Enters the entity at an index into what is kept, under its id.
-///
-/// Errors: want of memory, and where the index is not marked.
-fn keep_entity<R: Rules>(
+/// The data of the living, kept in a column for each of these kinds. Errors: want of memory.
+fn keep_columns<R: Rules>(
     rules: &R,
     world: &World<R::Value>,
     names: &[&'static str],
-    columns: &[Option<&R::Value>],
-    index: u32,
-    kept: &mut Kept<Vec<Option<R::Data>>, Vec<Option<R::Global>>>,
+    pairs: &[(u64, u32)],
     alloc: Global,
-) -> Result<(), AllocError>
+) -> Result<Vec<Kept<R::Data, ()>>, AllocError>
     requires stands { IsSceneWorld (kinds_of ⟦<R::Value as SceneValue<R::Data>>⟧.places R.part_of R.columns)
         (R.book rules.now) (seen_of world.now) }
     requires known { texts names.now ≡ (R.book rules.now).part_names }
-    requires columns { AreColumns (kinds_of ⟦<R::Value as SceneValue<R::Data>>⟧.places R.part_of R.columns)
-        (seen_of world.now) (texts names.now) columns.now }
-    ensures { OnOk result (KeepsOne (kinds_of ⟦<R::Value as SceneValue<R::Data>>⟧.places R.part_of R.columns)
-        R.part_of (seen_of world.now) (texts names.now) index kept.old kept.new) }
+    requires pairs { ArePairs (roll_of (kinds_of ⟦<R::Value as SceneValue<R::Data>>⟧.places R.part_of R.columns)
+        (seen_of world.now)) pairs.now }
+    ensures { IfOk result (λ columns. AreColumnsOf (kinds_of ⟦<R::Value as SceneValue<R::Data>>⟧.places R.part_of
+        R.columns) R.part_of (seen_of world.now) (texts names.now) columns.items) }
 {
-    let Some(id) = id_marked::<R>(world, index) else {
-        return Err(AllocError);
-    };
-    let values = data_at(rules, world, names, columns, index, alloc)?;
-    match kept.enter(id, values) {
-        Ok(_) => Ok(()),
-        Err(_) => Err(AllocError),
+    let mut columns = Vec::with_capacity(alloc, names.len())?;
+    for kind in names {
+        columns.push(keep_column(rules, world, kind, pairs, alloc)?)?;
     }
+    Ok(columns)
+}
+
+/// The data of the living under a kind, kept. Errors: want of memory.
+fn keep_column<R: Rules>(
+    rules: &R,
+    world: &World<R::Value>,
+    kind: &str,
+    pairs: &[(u64, u32)],
+    alloc: Global,
+) -> Result<Kept<R::Data, ()>, AllocError>
+    requires stands { IsSceneWorld (kinds_of ⟦<R::Value as SceneValue<R::Data>>⟧.places R.part_of R.columns)
+        (R.book rules.now) (seen_of world.now) }
+    requires known { is_among kind.now R.columns.part_names ≡ true }
+    requires pairs { ArePairs (roll_of (kinds_of ⟦<R::Value as SceneValue<R::Data>>⟧.places R.part_of R.columns)
+        (seen_of world.now)) pairs.now }
+    ensures { IfOk result (IsColumnOf (kinds_of ⟦<R::Value as SceneValue<R::Data>>⟧.places R.part_of R.columns)
+        R.part_of (seen_of world.now) kind.now) }
+{
+    let Some(value) = world.get_raw(R::part_id(kind)) else {
+        return Ok(Kept::new(alloc, 0, ()));
+    };
+    let data = match R::get_each(value, kind, pairs, alloc)? {
+        Some(data) => data,
+        None => data_at(rules, world, kind, value, pairs, alloc)?,
+    };
+    column_of(pairs, data, alloc)
+}
+
+/// A column in which each of these data that is there stands under the id at its place. Errors: want of memory.
+fn column_of<D: Drop>(
+    pairs: &[(u64, u32)],
+    data: Vec<Option<D>>,
+    alloc: Global,
+) -> Result<Kept<D, ()>, AllocError>
+    ensures { IfOk result (IsFilledBy pairs.now data.items) }
+{
+    let mut column = Kept::new(alloc, 0, ());
+    column.make_room(data.iter().filter(|datum| datum.is_some()).count())?;
+    for (pair, datum) in pairs.iter().zip(data) {
+        if let Some(datum) = datum {
+            match column.enter(pair.0, datum) {
+                Ok(_) => {}
+                Err(_) => return Err(AllocError),
+            }
+        }
+    }
+    Ok(column)
 }

@@ -1,17 +1,71 @@
-//! What is taken off a world to be kept: the data at an index, the globals and the next id.
-ghost use Rattle.std.specs.Prelude.{◌≡◌, true, map, option_copied, option_map, IfOk};
+//! What is taken off a world to be kept: who lives, the datum at an index, the globals and the next id.
+ghost use Rattle.std.specs.Prelude.{◌≡◌, ℕ, true, map, Some, option_map, IfOk};
+ghost use Rattle.scene_stores.specs.Markers.{marker_at};
 ghost use Rattle.scene_rules.specs.Parts.{is_among};
 ghost use Rattle.scene_rules.specs.Declaring.{texts};
 ghost use Rattle.scene_world.specs.Standing.{roll_of, value_of, IsSceneWorld};
 ghost use Rattle.scene_turns.specs.Places.{kinds_of};
 ghost use Rattle.scene_acts.specs.Acts.{seen_of};
-ghost use Rattle.scene_keeping.specs.Taken.{AreColumns, AreMarkedBy, part_at, AreOfIndex};
+ghost use Rattle.scene_keeping.specs.Taken.{AreMarkersOf, ArePairs, AreMarkedBy, AreOfPairs, part_at};
 
 use scene_acts::id_marked;
+use scene_stores::SceneMarker;
 use scene_turns::{Rules, SceneValue};
 use shred_world::World;
 use specs_entity::Entity;
+use specs_layouts::MaskedStorage;
+use specs_markers::Marker;
 use std::alloc::{AllocError, Global};
+
+/// The markers of a world. Errors: where it has none.
+fn markers_in<R: Rules>(
+    world: &World<R::Value>,
+) -> Result<&MaskedStorage<SceneMarker>, AllocError>
+    ensures { IfOk result (λ markers. (index : ℕ) → (roll_of
+        (kinds_of ⟦<R::Value as SceneValue<R::Data>>⟧.places R.part_of R.columns) (seen_of world.now)).marker index
+        ≡ marker_at markers.now index) }
+{
+    let Some(value) = world.get_raw(<R::Value as SceneValue<R::Data>>::markers_id()) else {
+        return Err(AllocError);
+    };
+    match <R::Value as SceneValue<R::Data>>::markers(value) {
+        Some(markers) => Ok(markers),
+        None => Err(AllocError),
+    }
+}
+
+/// The id of each marker, before the index that it marks. Errors: want of memory.
+fn pairs_of(
+    markers: &MaskedStorage<SceneMarker>,
+    alloc: Global,
+) -> Result<Vec<(u64, u32)>, AllocError>
+    ensures { IfOk result (λ pairs. AreMarkersOf markers.now pairs.items) }
+{
+    let mut pairs = Vec::new(alloc);
+    for index in markers.mask().iter() {
+        pairs.push((markers.get(index).id(), index))?;
+    }
+    Ok(pairs)
+}
+
+/// The ids of the living, ascending, each before the index of its entity.
+///
+/// Errors: want of memory, and where the world has no markers.
+pub(crate) fn pairs_in<R: Rules>(
+    rules: &R,
+    world: &World<R::Value>,
+    alloc: Global,
+) -> Result<Vec<(u64, u32)>, AllocError>
+    requires stands { IsSceneWorld (kinds_of ⟦<R::Value as SceneValue<R::Data>>⟧.places R.part_of R.columns)
+        (R.book rules.now) (seen_of world.now) }
+    ensures { IfOk result (λ pairs. ArePairs (roll_of
+        (kinds_of ⟦<R::Value as SceneValue<R::Data>>⟧.places R.part_of R.columns) (seen_of world.now)) pairs.items) }
+{
+    let markers = markers_in::<R>(world)?;
+    let mut pairs = pairs_of(markers, alloc)?;
+    pairs.sort_unstable_by_key(|pair| pair.0);
+    Ok(pairs)
+}
 
 /// The ids with which the indices of entities are marked, in their order.
 ///
@@ -35,77 +89,57 @@ fn ids_marked<R: Rules>(
     Ok(ids)
 }
 
-/// What stands for the parts of each of these kinds in a world.
-///
-/// Errors: want of memory.
-pub(crate) fn columns_in<'w, R: Rules>(
-    world: &'w World<R::Value>,
-    names: &[&'static str],
-    alloc: Global,
-) -> Result<Vec<Option<&'w R::Value>>, AllocError>
-    ensures { IfOk result (λ columns. AreColumns
-        (kinds_of ⟦<R::Value as SceneValue<R::Data>>⟧.places R.part_of R.columns) (seen_of world.now)
-        (texts names.now) columns.items) }
-{
-    let mut columns = Vec::new(alloc);
-    for kind in names {
-        columns.push(world.get_raw(R::part_id(kind)))?;
-    }
-    Ok(columns)
-}
-
-/// The datum of a kind at an index, if there is one, by what stands for the parts of that kind.
+/// The datum of a kind at an index, if there is one, by what stands for the parts of that kind. What the list held is
+/// forgotten.
 ///
 /// Errors: want of memory.
 fn datum_at<R: Rules>(
     rules: &R,
     world: &World<R::Value>,
     kind: &str,
-    column: Option<&R::Value>,
+    value: &R::Value,
     index: u32,
+    named: &mut Vec<Entity>,
     alloc: Global,
 ) -> Result<Option<R::Data>, AllocError>
     requires stands { IsSceneWorld (kinds_of ⟦<R::Value as SceneValue<R::Data>>⟧.places R.part_of R.columns)
         (R.book rules.now) (seen_of world.now) }
     requires known { is_among kind.now R.columns.part_names ≡ true }
-    requires column { option_copied column ≡ seen_of world.now (R.columns.part_id kind.now) }
+    requires column { Some value.now ≡ seen_of world.now (R.columns.part_id kind.now) }
     ensures { IfOk result (λ datum. option_map R.part_of datum ≡ part_at
         (kinds_of ⟦<R::Value as SceneValue<R::Data>>⟧.places R.part_of R.columns) (seen_of world.now) index kind.now) }
 {
-    let Some(value) = column else {
-        return Ok(None);
-    };
-    let mut named = Vec::new(alloc);
-    R::named_at(value, kind, index, &mut named)?;
-    let ids = ids_marked::<R>(world, &named, alloc)?;
+    named.clear();
+    R::named_at(value, kind, index, named)?;
+    let ids = ids_marked::<R>(world, named, alloc)?;
     R::get(value, kind, index, &ids, alloc)
 }
 
-/// The data at an index, each at the place of its kind among these, by what stands for the parts of each.
+/// The data of a kind at the indices of these pairs, each if there is one, by what stands for the parts of that kind.
 ///
 /// Errors: want of memory.
 pub(crate) fn data_at<R: Rules>(
     rules: &R,
     world: &World<R::Value>,
-    names: &[&'static str],
-    columns: &[Option<&R::Value>],
-    index: u32,
+    kind: &str,
+    value: &R::Value,
+    pairs: &[(u64, u32)],
     alloc: Global,
 ) -> Result<Vec<Option<R::Data>>, AllocError>
     requires stands { IsSceneWorld (kinds_of ⟦<R::Value as SceneValue<R::Data>>⟧.places R.part_of R.columns)
         (R.book rules.now) (seen_of world.now) }
-    requires known { texts names.now ≡ (R.book rules.now).part_names }
-    requires columns { AreColumns (kinds_of ⟦<R::Value as SceneValue<R::Data>>⟧.places R.part_of R.columns)
-        (seen_of world.now) (texts names.now) columns.now }
-    ensures { IfOk result (λ values. AreOfIndex
-        (kinds_of ⟦<R::Value as SceneValue<R::Data>>⟧.places R.part_of R.columns) R.part_of (seen_of world.now)
-        (texts names.now) index values.items) }
+    requires known { is_among kind.now R.columns.part_names ≡ true }
+    requires column { Some value.now ≡ seen_of world.now (R.columns.part_id kind.now) }
+    ensures { IfOk result (λ data. AreOfPairs
+        (kinds_of ⟦<R::Value as SceneValue<R::Data>>⟧.places R.part_of R.columns) R.part_of (seen_of world.now) kind.now
+        pairs.now data.items) }
 {
-    let mut values = Vec::new(alloc);
-    for place in 0..names.len() {
-        values.push(datum_at(rules, world, names[place], columns[place], index, alloc)?)?;
+    let mut data = Vec::with_capacity(alloc, pairs.len())?;
+    let mut named = Vec::new(alloc);
+    for pair in pairs {
+        data.push(datum_at(rules, world, kind, value, pair.1, &mut named, alloc)?)?;
     }
-    Ok(values)
+    Ok(data)
 }
 
 /// A global's value, if it has one. Errors: want of memory.

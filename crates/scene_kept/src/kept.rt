@@ -84,7 +84,14 @@ impl<P, G> Kept<P, G> {
     pub fn get(&self, id: u64) -> Option<&P>
         ensures { option_copied result ≡ kept_at self.now id }
     {
-        match place_of(&self.slots, id, self.guess) {
+        self.get_near(id, self.guess)
+    }
+
+    /// What is kept of an entity, as `get`, which costs little where its slot stands at the place that is guessed.
+    pub fn get_near(&self, id: u64, guess: usize) -> Option<&P>
+        ensures { option_copied result ≡ kept_at self.now id }
+    {
+        match place_of(&self.slots, id, guess) {
             Ok(place) => self.slots[place].1.as_ref(),
             Err(_) => None,
         }

@@ -1,5 +1,5 @@
 //! Slots in the order of their ids.
-ghost use Rattle.std.specs.Prelude.{◌≡◌, ◌<◌, ◌≤◌, ◌-◌, ◌+◌, true, length, IsSome, IfOk, IfErr, OnOk, OnErr, IsOk};
+ghost use Rattle.std.specs.Prelude.{◌≡◌, ◌<◌, ◌≤◌, ◌-◌, ◌+◌, true, length, insert, IsSome, IfOk, IfErr, OnOk, OnErr, IsOk};
 ghost use Rattle.std.specs.Prelude.{vec_len, vec_capacity};
 ghost use Rattle.std.specs.FinMap as map;
 ghost use Rattle.scene_kept.specs.Keeping.{entries_of};
@@ -56,6 +56,27 @@ pub(crate) fn place_of<P>(slots: &[Slot<P>], id: u64, guess: usize) -> Result<us
     }
 }
 
+/// Puts a slot in at a place, for which there is room: behind all others by one write.
+///
+/// Errors: want of memory, where there was no room.
+fn put_in<P: Drop>(
+    slots: &mut Vec<Slot<P>>,
+    place: usize,
+    slot: Slot<P>,
+) -> Result<(), AllocFailed<Slot<P>>>
+    requires { place ≤ vec_len slots.old }
+    ensures items { OnOk result (slots.new.items ≡ insert slots.old.items place slot) }
+    ensures len { OnOk result (vec_len slots.new ≡ vec_len slots.old + 1) }
+    ensures capacity { vec_capacity slots.old ≤ vec_capacity slots.new }
+    ensures succeeds { vec_len slots.old < vec_capacity slots.old → IsOk result }
+{
+    if place == slots.len() {
+        slots.push(slot)
+    } else {
+        slots.insert(place, slot)
+    }
+}
+
 /// Puts something into the slot of an id, which is made where there is none, and gives back what was there. The guess
 /// at the place becomes the one behind it.
 ///
@@ -88,7 +109,7 @@ pub(crate) fn put<P: Drop>(
                 return Err(AllocFailed { value: parts });
             }
             *guess = place.saturating_add(1);
-            match slots.insert(place, (id, Some(parts))) {
+            match put_in(slots, place, (id, Some(parts))) {
                 Ok(()) => Ok(None),
                 Err(_) => unreachable!(),
             }

@@ -1,6 +1,7 @@
 -- Lemmas on the JSON of a scene that is kept: what its loops have made, and that no float stands in it.
 use Rattle.std.proofs.Common.{◌≡◌, ℕ, ◌+◌, ◌<◌, List, [], ◌∷◌, ◌++◌, map, length, get_or, take, false, Option, Some, None, option_map, option_and_then, IfSome, Bor, append-nil, refl, sym, ap, ◌∙◌}
 use Rattle.std.proofs.lemmas.List.{take_more, map-append}
+use Rattle.std.specs.Prelude.{slice_get}
 use Rattle.std.specs.FinMap as finite
 use Rattle.std.specs.List.{filter_map}
 use Rattle.serde_json.specs.Data.{Members}
@@ -13,8 +14,9 @@ use Rattle.scene_rules.specs.Declaring.{texts}
 use Rattle.scene_draft.specs.Texts.{members_with, entity_json, scene_json, text_of}
 use Rattle.scene_draft.specs.TextSteps.{with_found}
 use Rattle.scene_draft.proofs.CallerLemmas.{IsFloatFree, entries_more, scene_json_free}
-use Rattle.scene_kept.specs.Keeping.{Keeping, kept_at, present}
-use Rattle.scene_snapshot.specs.KeptScenes.{shown_parts, kept_scene, entity_with}
+use Rattle.scene_kept.specs.Keeping.{Keeping, present}
+use Rattle.scene_kept.specs.declared.columns.KeptScene.{KeptScene}
+use Rattle.scene_snapshot.specs.KeptScenes.{kept_datum, kept_part, kept_scene}
 
 -- ---- members that a loop puts in
 
@@ -60,16 +62,12 @@ module _ {P : Type 0} where
       let ids : ids-in (take (k + 1) slots) ≡ ids-in (take k slots) = ids-more slots k item below ∙ ap (λ rest. ids-in (take k slots) ++ rest) one ∙ append-nil (ids-in (take k slots)) in
       then ∙ was ∙ sym (ap (map entity) ids)
 
-module _ {D G P V : Type 0} (part_of : D → Part) (global_of : G → Json) (datum_at : P → ℕ → Option D) (value_at : V → ℕ → Option G) (book : Book) (kept : Keeping P V) where
+module _ {D G V : Type 0} (part_of : D → Part) (global_of : G → Json) (value_at : V → ℕ → Option G) (book : Book) (kept : KeptScene D V) where
   abbrev scene-kept : PlainScene
-  scene-kept = kept_scene part_of global_of datum_at value_at book kept
-
-  -- an entity of which parts are kept is the scene's
-  pub entity-is : (id : ℕ) (parts : P) → kept_at kept id ≡ Some parts → entity_with book (shown_parts part_of datum_at book parts) id ≡ entity_json book scene-kept id
-  entity-is id parts found = ap (λ (one : Option P). entity_with book (λ kind. option_and_then (λ some. shown_parts part_of datum_at book some kind) one) id) (sym found)
+  scene-kept = kept_scene part_of global_of value_at book kept
 
   -- what is kept is a scene where it has its next id, its ids, its parts and its globals
-  pub kept-scene-is : (scene : PlainScene) → kept.next ≡ scene.next → finite.keys kept.entries ≡ scene.ids → ((id : ℕ) (kind : Name) → scene-kept.part id kind ≡ scene.part id kind)
+  pub kept-scene-is : (scene : PlainScene) → kept.living.next ≡ scene.next → finite.keys kept.living.entries ≡ scene.ids → ((id : ℕ) (kind : Name) → scene-kept.part id kind ≡ scene.part id kind)
       → ((name : Name) → scene-kept.global name ≡ scene.global name) → scene-kept ≡ scene
   kept-scene-is scene next ids parts globals =
       λ i. record { next = next i; ids = ids i; part = λ id kind. parts id kind i; global = λ name. globals name i }
@@ -83,14 +81,10 @@ module _ {D G P V : Type 0} (part_of : D → Part) (global_of : G → Json) (dat
     value-free None = tt
     value-free (Some global) = globals_free global
 
-    shown-free : (kind : Name) (found : Option P) → IfSome (option_and_then (λ parts. shown_parts part_of datum_at book parts kind) found) (λ part. has_float part.json ≡ false)
-    shown-free kind None = tt
-    shown-free kind (Some parts) = datum-free (option_and_then (datum_at parts) (place_of kind book.part_names))
-
     kept-free : IsFloatFree scene-kept
     kept-free = record {
-      parts = λ id kind. shown-free kind (kept_at kept id);
-      globals = λ name. value-free (option_and_then (value_at kept.globals) (place_of name book.global_names));
+      parts = λ id kind. datum-free (option_and_then (kept_datum kept.columns.items id) (place_of kind book.part_names));
+      globals = λ name. value-free (option_and_then (value_at kept.living.globals) (place_of name book.global_names));
     }
 
     -- a value that is the JSON of the scene that is kept has no float, so its text is the scene's

@@ -1,5 +1,5 @@
 -- The scene that is kept.
-use Rattle.std.specs.Prelude.{ℕ, [], ◌∷◌, codes, Option, option_map, option_and_then}
+use Rattle.std.specs.Prelude.{ℕ, List, [], ◌∷◌, codes, Option, option_map, option_and_then, slice_get}
 use Rattle.std.specs.FinMap as finite
 use Rattle.std.specs.List.{filter_map}
 use Rattle.serde_json.specs.Data.{number, unsigned, object}
@@ -8,18 +8,23 @@ use Rattle.scene_rules.specs.Rulebook.{Book}
 use Rattle.scene_rules.specs.Scenes.{PlainScene}
 use Rattle.scene_draft.specs.Texts.{members_with}
 use Rattle.scene_kept.specs.Keeping.{Keeping, kept_at}
+use Rattle.scene_kept.specs.declared.columns.KeptScene.{KeptScene}
 
--- the part under a kind of an entity of which data are kept by the places of the kinds
-abbrev pub shown_parts : {D P : Type 0} → (D → Part) → (P → ℕ → Option D) → Book → P → Name → Option Part
-shown_parts part_of datum_at book parts kind = option_map part_of (option_and_then (datum_at parts) (place_of kind book.part_names))
+-- what is kept of an entity in the column at a place, if something is
+abbrev pub kept_datum : {D : Type 0} → List (Keeping D Unit) → ℕ → ℕ → Option D
+kept_datum columns id place = option_and_then (λ column. kept_at column id) (slice_get columns place)
+
+-- the part of an entity under a kind, where the columns stand by the places of the kinds
+abbrev pub kept_part : {D : Type 0} → (D → Part) → Book → List (Keeping D Unit) → ℕ → Name → Option Part
+kept_part part_of book columns id kind = option_map part_of (option_and_then (kept_datum columns id) (place_of kind book.part_names))
 
 -- the scene of what is kept: its ids ascending, the part of each id under each kind, the value of each global
-abbrev pub kept_scene : {D G P V : Type 0} → (D → Part) → (G → Json) → (P → ℕ → Option D) → (V → ℕ → Option G) → Book → Keeping P V → PlainScene
-kept_scene part_of global_of datum_at value_at book kept = record {
-  next = kept.next;
-  ids = finite.keys kept.entries;
-  part = λ id kind. option_and_then (λ parts. shown_parts part_of datum_at book parts kind) (kept_at kept id);
-  global = λ name. option_map global_of (option_and_then (value_at kept.globals) (place_of name book.global_names));
+abbrev pub kept_scene : {D G V : Type 0} → (D → Part) → (G → Json) → (V → ℕ → Option G) → Book → KeptScene D V → PlainScene
+kept_scene part_of global_of value_at book kept = record {
+  next = kept.living.next;
+  ids = finite.keys kept.living.entries;
+  part = λ id kind. kept_part part_of book kept.columns.items id kind;
+  global = λ name. option_map global_of (option_and_then (value_at kept.living.globals) (place_of name book.global_names));
 }
 
 -- the parts of an entity that are there, under their kinds

@@ -5,11 +5,10 @@ ghost use Rattle.serde_json.specs.Data.{object};
 ghost use Rattle.serde_json.specs.View.{view, members_view};
 ghost use Rattle.scene_draft.specs.Texts.{globals_json, entity_json, scene_json, text_of, ReadsBack};
 ghost use Rattle.scene_draft.specs.TextSteps.{with_found};
-ghost use Rattle.scene_kept.specs.Keeping.{kept_at};
-ghost use Rattle.scene_snapshot.specs.KeptScenes.{kept_scene, shown_parts, entity_with, parts_with};
+ghost use Rattle.scene_snapshot.specs.KeptScenes.{kept_scene, kept_datum, kept_part, entity_with, parts_with};
 
 use crate::by_place::ByPlace;
-use scene_kept::Kept;
+use scene_kept::{Kept, KeptScene};
 use scene_rules::DocumentRules;
 use serde_json::{Map, Value, put};
 use std::alloc::{AllocError, Global};
@@ -20,88 +19,105 @@ use std::alloc::{AllocError, Global};
 /// The text reads as that JSON, and as no other.
 ///
 /// Errors: memory was wanting.
-pub fn kept_text<R: DocumentRules, P: ByPlace<R::Data>, V: ByPlace<R::Global>>(
+pub fn kept_text<R: DocumentRules, V: ByPlace<R::Global>>(
     alloc: Global,
     rules: &R,
-    kept: &Kept<P, V>,
+    kept: &KeptScene<R::Data, V>,
 ) -> Result<Vec<u8>, AllocError>
     ensures text { IfOk result (λ text. text.items ≡ text_of (R.book rules.now)
-        (kept_scene R.part_of R.global_of P.at_place V.at_place (R.book rules.now) kept.now)) }
+        (kept_scene R.part_of R.global_of V.at_place (R.book rules.now) kept.now)) }
     ensures reads { IfOk result (λ text. ReadsBack text.items (scene_json (R.book rules.now)
-        (kept_scene R.part_of R.global_of P.at_place V.at_place (R.book rules.now) kept.now))) }
+        (kept_scene R.part_of R.global_of V.at_place (R.book rules.now) kept.now))) }
 {
     kept_value(alloc, rules, kept)?.to_vec(alloc)
 }
 
 // The JSON of the scene that is kept.
-fn kept_value<R: DocumentRules, P: ByPlace<R::Data>, V: ByPlace<R::Global>>(
+fn kept_value<R: DocumentRules, V: ByPlace<R::Global>>(
     alloc: Global,
     rules: &R,
-    kept: &Kept<P, V>,
+    kept: &KeptScene<R::Data, V>,
 ) -> Result<Value, AllocError>
     ensures { IfOk result (λ value. view value ≡ scene_json (R.book rules.now)
-        (kept_scene R.part_of R.global_of P.at_place V.at_place (R.book rules.now) kept.now)) }
+        (kept_scene R.part_of R.global_of V.at_place (R.book rules.now) kept.now)) }
 {
     let entities = entity_values(alloc, rules, kept)?;
     let globals = globals_map(alloc, rules, kept)?;
     let mut map = Map::new(alloc);
     put(&mut map, alloc, "entities", Value::Array(entities))?;
     put(&mut map, alloc, "globals", Value::Object(globals))?;
-    put(&mut map, alloc, "next", Value::from(kept.next()))?;
+    put(&mut map, alloc, "next", Value::from(kept.living.next()))?;
     Ok(Value::Object(map))
 }
 
 // The JSON of each entity, in the order of the ids.
-fn entity_values<R: DocumentRules, P: ByPlace<R::Data>, V: ByPlace<R::Global>>(
+fn entity_values<R: DocumentRules, V: ByPlace<R::Global>>(
     alloc: Global,
     rules: &R,
-    kept: &Kept<P, V>,
+    kept: &KeptScene<R::Data, V>,
 ) -> Result<Vec<Value>, AllocError>
     ensures { IfOk result (λ values. map view values.items ≡ map (entity_json (R.book rules.now)
-        (kept_scene R.part_of R.global_of P.at_place V.at_place (R.book rules.now) kept.now))
-        (finite.keys kept.now.entries)) }
+        (kept_scene R.part_of R.global_of V.at_place (R.book rules.now) kept.now))
+        (finite.keys kept.now.living.entries)) }
 {
-    let slots = kept.slots();
+    let slots = kept.living.slots();
+    let columns = kept.columns.as_slice();
     let mut values = Vec::with_capacity(alloc, slots.len())?;
-    for (id, slot) in slots {
+    for (row, (id, slot)) in slots.iter().enumerate() {
         match slot {
-            Some(parts) => values.push(entity_value(alloc, rules, *id, parts)?)?,
+            Some(()) => values.push(entity_value(alloc, rules, *id, columns, row)?)?,
             None => {}
         }
     }
     Ok(values)
 }
 
-// The JSON of an entity with these parts.
-fn entity_value<R: DocumentRules, P: ByPlace<R::Data>>(
+// The JSON of an entity, of which the data in these columns are looked for at a row first.
+fn entity_value<R: DocumentRules>(
     alloc: Global,
     rules: &R,
     id: u64,
-    parts: &P,
+    columns: &[Kept<R::Data, ()>],
+    row: usize,
 ) -> Result<Value, AllocError>
     ensures { IfOk result (λ value. view value
-        ≡ entity_with (R.book rules.now) (shown_parts R.part_of P.at_place (R.book rules.now) parts.now) id) }
+        ≡ entity_with (R.book rules.now) (kept_part R.part_of (R.book rules.now) columns.now id) id) }
 {
-    let parts = parts_map(alloc, rules, parts)?;
+    let parts = parts_map(alloc, rules, id, columns, row)?;
     let mut map = Map::new(alloc);
     put(&mut map, alloc, "id", Value::from(id))?;
     put(&mut map, alloc, "parts", Value::Object(parts))?;
     Ok(Value::Object(map))
 }
 
+// What is kept of an entity in the column at a place, if there is one. It is looked for at a row first.
+fn datum_at<D>(columns: &[Kept<D, ()>], place: usize, id: u64, row: usize) -> Option<&D>
+    ensures { option_copied result ≡ kept_datum columns.now id place }
+{
+    columns.get(place)?.get_near(id, row)
+}
+
 // The parts of an entity that are there, under their kinds.
-fn parts_map<R: DocumentRules, P: ByPlace<R::Data>>(
+fn parts_map<R: DocumentRules>(
     alloc: Global,
     rules: &R,
-    parts: &P,
+    id: u64,
+    columns: &[Kept<R::Data, ()>],
+    row: usize,
 ) -> Result<Map<String, Value>, AllocError>
     ensures { IfOk result (λ map. object (members_view map.entries)
-        ≡ parts_with (R.book rules.now) (shown_parts R.part_of P.at_place (R.book rules.now) parts.now)) }
+        ≡ parts_with (R.book rules.now) (kept_part R.part_of (R.book rules.now) columns.now id)) }
 {
     let mut map = Map::new(alloc);
     let names = rules.part_names();
     for (place, kind) in names.iter().enumerate() {
-        put_part(alloc, rules, &mut map, kind, parts.at(place))?;
+        put_part(
+            alloc,
+            rules,
+            &mut map,
+            kind,
+            datum_at(columns, place, id, row),
+        )?;
     }
     Ok(map)
 }
@@ -125,18 +141,18 @@ fn put_part<R: DocumentRules>(
 }
 
 // The globals that have a value, under their names.
-fn globals_map<R: DocumentRules, P: ByPlace<R::Data>, V: ByPlace<R::Global>>(
+fn globals_map<R: DocumentRules, V: ByPlace<R::Global>>(
     alloc: Global,
     rules: &R,
-    kept: &Kept<P, V>,
+    kept: &KeptScene<R::Data, V>,
 ) -> Result<Map<String, Value>, AllocError>
     ensures { IfOk result (λ map. object (members_view map.entries) ≡ globals_json (R.book rules.now)
-        (kept_scene R.part_of R.global_of P.at_place V.at_place (R.book rules.now) kept.now)) }
+        (kept_scene R.part_of R.global_of V.at_place (R.book rules.now) kept.now)) }
 {
     let mut map = Map::new(alloc);
     let names = rules.global_names();
     for (place, name) in names.iter().enumerate() {
-        put_global(alloc, rules, &mut map, name, kept.globals().at(place))?;
+        put_global(alloc, rules, &mut map, name, kept.living.globals().at(place))?;
     }
     Ok(map)
 }

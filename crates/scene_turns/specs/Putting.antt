@@ -1,5 +1,5 @@
 -- Parts that are put in at an index and taken out there, and storages of parts that are registered.
-use Rattle.std.specs.Prelude.{◌≡◌, ℕ, true, false, List, [], map, Option, Some, None, IsSome}
+use Rattle.std.specs.Prelude.{◌≡◌, ℕ, true, false, List, [], map, Option, Some, None, IsSome, option_map}
 use Rattle.std.specs.Option.{option_map_or}
 use Rattle.std.specs.FinMap as slots
 use Rattle.shred_world.specs.declared.resource_id.ResourceId.{ResourceId}
@@ -24,6 +24,11 @@ pub record StoresAs (part : Part) (named : List LifeAt) (stored : Stored) : Type
 -- what is stored as a part, where it refers to these ids
 abbrev pub part_read : List ℕ → Stored → Part
 part_read ids stored = part_with stored.written (map (λ id. living id) ids)
+
+-- no part names an entity, and data are the parts at indices, each of which stands behind an id
+pub record AreReadAt {D : Type 0} (part_of : D → Part) (stored : ℕ → Option Stored) (entities : List (ℕ × ℕ)) (data : List (Option D)) : Type 0 where
+  pub nobody : (index : ℕ) → named_in (stored index) ≡ []
+  pub read : map (option_map part_of) data ≡ map (λ entity. option_map (part_read []) (stored entity.1)) entities
 
 module _ {V : Type 0} (stored : V → ℕ → Option Stored) where
   -- a part is stored at an index, and at each other what was there

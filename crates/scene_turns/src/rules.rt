@@ -24,7 +24,7 @@ pub trait Rules: DocumentRules {
     ghost use Rattle.scene_rules.specs.Queues.{waiting, plain_commands};
     ghost use Rattle.scene_world.specs.Lent.{StandApart};
     ghost use Rattle.scene_turns.specs.Places.{Columns, kinds_of};
-    ghost use Rattle.scene_turns.specs.Putting.{named_in, HasValue, PutsIn, TakesOut, SameColumn, part_read, Registers, AreNamedIn};
+    ghost use Rattle.scene_turns.specs.Putting.{named_in, HasValue, PutsIn, TakesOut, SameColumn, part_read, AreReadAt, Registers, AreNamedIn};
     ghost use Rattle.scene_turns.specs.Turns.{Sense, Runs, IsOfBook, meaning_of};
 
     /// What a world holds.
@@ -106,6 +106,22 @@ pub trait Rules: DocumentRules {
         requires as_many { length ids.now ≡ length (named_in (columns.stored kind.now value.now index)) }
         ensures { IfOk result (λ datum. option_map Self.part_of datum
             ≡ option_map (part_read ids.now) (columns.stored kind.now value.now index)) };
+
+    /// The parts at the indices of these entities, each of which stands behind the id of its entity, where no part of the kind
+    /// can refer to an entity: so a whole column is read by one call. None by default, and of a kind whose parts may refer.
+    ///
+    /// Errors: want of memory.
+    fn get_each(
+        _value: &Self::Value,
+        _kind: &str,
+        _entities: &[(u64, u32)],
+        _alloc: Global,
+    ) -> Result<Option<Vec<Option<Self::Data>>>, AllocError>
+        ensures { IfOk result (λ read. IfSome read (λ data. AreReadAt Self.part_of
+            (columns.stored _kind.now _value.now) _entities.now data.items)) }
+    {
+        Ok(None)
+    }
 
     /// The value that a global of the rules stands in a world as; none where they have no such global.
     fn to_value(name: &str, global: Self::Global) -> Option<Self::Value>

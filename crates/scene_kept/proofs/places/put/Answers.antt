@@ -29,19 +29,19 @@ returns-then-is_err-clause-there g c there =
     let gap = subst (λ slots. IsGapFor slots c.args.id c.in-Err.place) c.deref.ensures.value c.in-Err.ensures.absent in
     sym (ap is_some (kept-gap c.args.slots.now.items c.requires.sorted c.args.id c.in-Err.place gap)) ∙ there
 
-pub returns-in-Ok-insert-clause-sorted : goal.returns-in-Ok-insert-clause-sorted
-returns-in-Ok-insert-clause-sorted g c =
+pub returns-in-Ok-put_in-clause-sorted : goal.returns-in-Ok-put_in-clause-sorted
+returns-in-Ok-put_in-clause-sorted g c =
     let gap = subst (λ slots. IsGapFor slots c.args.id c.in-Err.place) c.deref.ensures.value c.in-Err.ensures.absent in
-    subst AreSorted (sym (c.in-Ok-insert.ensures.items ∙ ap (λ (slots : List (ℕ × Option _)). insert slots c.in-Err.place (c.args.id, Some c.args.parts)) c.reserve.ensures.items))
+    subst AreSorted (sym (c.in-Ok-put_in.ensures.items ∙ ap (λ (slots : List (ℕ × Option _)). insert slots c.in-Err.place (c.args.id, Some c.args.parts)) c.reserve.ensures.items))
     (sorted-gap c.args.slots.now.items c.requires.sorted c.args.id c.in-Err.place gap (Some c.args.parts))
 
-pub returns-in-Ok-insert-clause-ok : goal.returns-in-Ok-insert-clause-ok
-returns-in-Ok-insert-clause-ok g c =
+pub returns-in-Ok-put_in-clause-ok : goal.returns-in-Ok-put_in-clause-ok
+returns-in-Ok-put_in-clause-ok g c =
     let gap = subst (λ slots. IsGapFor slots c.args.id c.in-Err.place) c.deref.ensures.value c.in-Err.ensures.absent in
-    ap entries_of (c.in-Ok-insert.ensures.items ∙ ap (λ (slots : List (ℕ × Option _)). insert slots c.in-Err.place (c.args.id, Some c.args.parts)) c.reserve.ensures.items)
+    ap entries_of (c.in-Ok-put_in.ensures.items ∙ ap (λ (slots : List (ℕ × Option _)). insert slots c.in-Err.place (c.args.id, Some c.args.parts)) c.reserve.ensures.items)
     ∙ filled-gap c.args.slots.now.items c.requires.sorted c.args.id c.in-Err.place gap c.args.parts
 
-pub returns-in-Ok-insert-clause-was_there : goal.returns-in-Ok-insert-clause-was_there
-returns-in-Ok-insert-clause-was_there g c =
+pub returns-in-Ok-put_in-clause-was_there : goal.returns-in-Ok-put_in-clause-was_there
+returns-in-Ok-put_in-clause-was_there g c =
     let gap = subst (λ slots. IsGapFor slots c.args.id c.in-Err.place) c.deref.ensures.value c.in-Err.ensures.absent in
     sym (kept-gap c.args.slots.now.items c.requires.sorted c.args.id c.in-Err.place gap)

@@ -16,13 +16,13 @@ loop-id-preserved g c =
     let slots = c.slots-slots.result.now in
     let item = c.loop-id-item.result in
     let old = c.loop-id.values.items in
-    let entity = entity_json book (kept_scene g.R.DocumentRules.part_of g.R.DocumentRules.global_of g.P.ByPlace.at_place g.V.ByPlace.at_place book kept) in
+    let entity = entity_json book (kept_scene g.R.DocumentRules.part_of g.R.DocumentRules.global_of g.V.ByPlace.at_place book kept) in
     elim c.match-slot.branch [
       | in-Some+in_ok-entity_value-in-Some+in_ok-push-in-Some w ↦
           let value = w.in_ok-entity_value-in-Some.field-0 in
           let each = c.slots-slots.ensures.each c.loop-id.id-index item c.loop-id-test.true in
           let found = subst (λ (slot : ℕ × Option _). kept_at kept slot.0 ≡ slot.1) (sym c.loop-id-item.is) each ∙ w.in-Some.is in
-          let shown = entity-is g.R.DocumentRules.part_of g.R.DocumentRules.global_of g.P.ByPlace.at_place g.V.ByPlace.at_place book kept item.0 w.in-Some.parts found in
+          let shown = entity-is g.R.DocumentRules.part_of g.R.DocumentRules.global_of g.V.ByPlace.at_place book kept item.0 w.in-Some.parts found in
           entities-added entity slots c.loop-id.id-index item w.in-Some.parts (map view old) (map view c.match-slot.values.items) c.loop-id-test.true c.loop-id-item.is w.in-Some.is c.loop-id.invariant
           (ap (λ values. map view values.items) w.values-is ∙ ap (map view) w.in_ok-push-in-Some.ensures.items ∙ map-append view old (value ∷ [])
           ∙ ap (λ (one : Data). map view old ++ one ∷ []) (w.in_ok-entity_value-in-Some.ensures ∙ shown))
@@ -34,6 +34,6 @@ loop-id-preserved g c =
 pub returns : goal.returns
 returns g c =
     let book = g.R.DocumentRules.book c.args.rules.now in
-    let scene = kept_scene g.R.DocumentRules.part_of g.R.DocumentRules.global_of g.P.ByPlace.at_place g.V.ByPlace.at_place book c.args.kept.now in
+    let scene = kept_scene g.R.DocumentRules.part_of g.R.DocumentRules.global_of g.V.ByPlace.at_place book c.args.kept.now in
     c.loop-id.invariant
     ∙ ap (map (entity_json book scene)) (ap ids-in (take_all c.loop-id.id-index c.slots-slots.result.now (omega arith)) ∙ ap (map (λ entry. entry.0)) c.slots-slots.ensures.entries)

@@ -11,7 +11,7 @@ pub returns-clause-text : goal.returns-clause-text
 returns-clause-text g c =
     let json = view c.in_ok-kept_value.field-0 in
     IfOk-weaker c.to_vec.result _ _
-    (λ text written. kept-written g.R.DocumentRules.part_of g.R.DocumentRules.global_of g.P.ByPlace.at_place g.V.ByPlace.at_place (g.R.DocumentRules.book c.args.rules.now) c.args.kept.now g.met.R.DocumentRules.no_float g.met.R.DocumentRules.no_global_float
+    (λ text written. kept-written g.R.DocumentRules.part_of g.R.DocumentRules.global_of g.V.ByPlace.at_place (g.R.DocumentRules.book c.args.rules.now) c.args.kept.now g.met.R.DocumentRules.no_float g.met.R.DocumentRules.no_global_float
     json text.items c.in_ok-kept_value.ensures written)
     c.to_vec.ensures.text
 

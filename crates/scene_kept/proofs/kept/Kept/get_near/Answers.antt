@@ -2,7 +2,7 @@ use Rattle.std.proofs.Common.{sym, ap, subst, ◌∙◌}
 use Rattle.scene_kept.specs.Keeping.{kept_at}
 use Rattle.scene_kept.specs.Places.{IsPlaceOf, IsGapFor}
 use Rattle.scene_kept.proofs.KeptLemmas.{kept-here, kept-gap}
-use Rattle.scene_kept.proofs.kept.Kept.get.Goals as goal
+use Rattle.scene_kept.proofs.kept.Kept.get_near.Goals as goal
 
 pub returns-in-Ok : goal.returns-in-Ok
 returns-in-Ok g c =
