@@ -229,3 +229,34 @@ module _ (roll : Roll) (items : List LifeAt) (k : ℕ) (entity : LifeAt) (inside
   still-there rolls alive none =
       ap (list_any is_gone) (front_at (ref_to roll) items k entity inside is) ∙ list_any-append is_gone (map (ref_to roll) (take k items)) (ref_to roll entity ∷ [])
       ∙ ap (λ b. b || (is_gone (ref_to roll entity) || false)) none ∙ ap (λ b. b || false) (alive-there roll rolls entity alive)
+
+-- ---- kinds whose parts may refer to an entity
+
+-- where nobody is named, nobody who is gone is
+pub none-named : (ref : LifeAt → Ref) (stored : Option Stored) → named_in stored ≡ [] → holds_gone (option_map (part_under ref) stored) ≡ false
+none-named ref stored none = holds-named ref stored ∙ ap (λ named. list_any is_gone (map ref named)) none
+
+-- no test that always fails finds one
+find-none : (test : ℕ → Bool) (ids : List ℕ) → ((id : ℕ) → test id ≡ false) → find test ids ≡ None
+find-none test [] fails = refl
+find-none test (id ∷ ids) fails = ap (λ b. cond b (Some id) (find test ids)) (fails id) ∙ find-none test ids fails
+
+-- where at no index a part refers to somebody who is gone, no id has one
+pub none-gone : (roll : Roll) (names : List Name) (column : Name → ℕ → Option Stored) → ((index : ℕ) → list_any (λ kind. holds_gone (option_map (part_under (ref_to roll)) (column kind index))) names ≡ false)
+    → find (λ id. list_any (λ kind. holds_gone (cond (is_among kind names) (part_in roll (column kind) id) None)) names) (ids_in roll) ≡ None
+none-gone roll names column none = find-none _ (ids_in roll) (λ id. by id (index_of roll id) refl)
+  where
+    never : (id : ℕ) → index_of roll id ≡ None → (kinds : List Name) → list_any (λ kind. holds_gone (cond (is_among kind names) (part_in roll (column kind) id) None)) kinds ≡ false
+    never id at [] = refl
+    never id at (kind ∷ kinds) =
+        let one : holds_gone (cond (is_among kind names) (part_in roll (column kind) id) None) ≡ false =
+        ap (λ o. holds_gone (cond (is_among kind names) (option_and_then (λ index. option_map (part_under (ref_to roll)) (column kind index)) o) None)) at ∙ nothing (is_among kind names) in
+        ap (λ b. b || list_any (λ kind. holds_gone (cond (is_among kind names) (part_in roll (column kind) id) None)) kinds) one ∙ never id at kinds
+      where
+        nothing : (b : Bool) → holds_gone (cond b None None) ≡ false
+        nothing true = refl
+        nothing false = refl
+
+    by : (id : ℕ) (o : Option ℕ) → index_of roll id ≡ o → list_any (λ kind. holds_gone (cond (is_among kind names) (part_in roll (column kind) id) None)) names ≡ false
+    by id None at = never id at names
+    by id (Some index) at = test-at roll names column id index at ∙ none index

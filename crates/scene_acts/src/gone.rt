@@ -1,5 +1,5 @@
 //! References that are gone in a world.
-ghost use Rattle.std.specs.Prelude.{◌≡◌, IfOk, option_map};
+ghost use Rattle.std.specs.Prelude.{◌≡◌, ℕ, false, IfOk, option_map};
 ghost use Rattle.std.specs.List.{list_any};
 ghost use Rattle.scene_rules.specs.Commands.{first_gone, holds_gone};
 ghost use Rattle.scene_rules.specs.Declaring.{texts};
@@ -116,9 +116,48 @@ fn lesser(counts: bool, least: Option<u64>, id: u64) -> Option<u64>
     }
 }
 
+/// Whether a part of a kind may refer to an entity, as far as the rules tell at once.
+fn may_name<R: Rules>(world: &World<R::Value>, kind: &str) -> bool
+    ensures { result ≡ false → (index : ℕ) → holds_gone (option_map (part_under (ref_to
+        (roll_of (kinds_of ⟦<R::Value as SceneValue<R::Data>>⟧.places R.part_of R.columns) (seen_of world.now))))
+        (column_of (kinds_of ⟦<R::Value as SceneValue<R::Data>>⟧.places R.part_of R.columns) (seen_of world.now)
+        kind.now index)) ≡ false }
+{
+    match world.get_raw(R::part_id(kind)) {
+        Some(value) => !R::names_nobody(value, kind),
+        None => false,
+    }
+}
+
+/// Those of some kinds whose parts may refer to an entity: who holds a gone reference holds it under one of these.
+///
+/// Errors: want of memory.
+fn naming_kinds<R: Rules>(
+    world: &World<R::Value>,
+    names: &[&'static str],
+    alloc: Global,
+) -> Result<Vec<&'static str>, AllocError>
+    ensures { IfOk result (λ kinds. (index : ℕ) → list_any (λ kind. holds_gone (option_map (part_under (ref_to
+        (roll_of (kinds_of ⟦<R::Value as SceneValue<R::Data>>⟧.places R.part_of R.columns) (seen_of world.now))))
+        (column_of (kinds_of ⟦<R::Value as SceneValue<R::Data>>⟧.places R.part_of R.columns) (seen_of world.now)
+        kind index))) (texts kinds.items) ≡ list_any (λ kind. holds_gone (option_map (part_under (ref_to
+        (roll_of (kinds_of ⟦<R::Value as SceneValue<R::Data>>⟧.places R.part_of R.columns) (seen_of world.now))))
+        (column_of (kinds_of ⟦<R::Value as SceneValue<R::Data>>⟧.places R.part_of R.columns) (seen_of world.now)
+        kind index))) (texts names.now)) }
+{
+    let mut kinds = Vec::new(alloc);
+    for kind in names {
+        if may_name::<R>(world, kind) {
+            kinds.push(*kind)?;
+        }
+    }
+    Ok(kinds)
+}
+
 /// The least id whose parts refer to somebody who is gone, if there is one.
 ///
-/// It looks at each part of each entity. Errors: want of memory.
+/// It looks at the parts of each entity under the kinds whose parts may refer to one, and at none where there are no such kinds.
+/// Errors: want of memory.
 pub fn find_gone<R: Rules>(
     rules: &R,
     world: &World<R::Value>,
@@ -128,7 +167,10 @@ pub fn find_gone<R: Rules>(
     ensures { IfOk result (λ gone. gone ≡ first_gone (R.book rules.now)
         (plain_of (kinds_of ⟦<R::Value as SceneValue<R::Data>>⟧.places R.part_of R.columns) (seen_of world.now))) }
 {
-    let names = rules.part_names();
+    let names = naming_kinds::<R>(world, rules.part_names(), alloc)?;
+    if names.is_empty() {
+        return Ok(None);
+    }
     let entities = living_in::<R>(world)?;
     let mut named = Vec::new(alloc);
     let mut least = None;
@@ -136,7 +178,7 @@ pub fn find_gone<R: Rules>(
         let Some(id) = id_marked::<R>(world, entity.id()) else {
             return Err(AllocError);
         };
-        let gone = any_holds_gone::<R>(world, names, entity.id(), &mut named)?;
+        let gone = any_holds_gone::<R>(world, names.as_slice(), entity.id(), &mut named)?;
         least = lesser(gone, least, id);
     }
     Ok(least)

@@ -1,7 +1,8 @@
 -- Who is known in what is held.
-use Rattle.std.proofs.Common.{◌≡◌, ◌<◌, ℕ, Bool, true, false, cond, eqb, ◌||◌, List, [], ◌∷◌, map, Option, Some, None, is_some, refl, ap, sym, ◌∙◌, subst}
+use Rattle.std.proofs.Common.{◌≡◌, ◌<◌, ℕ, Bool, true, false, cond, eqb, ◌||◌, ◌&&◌, List, [], ◌∷◌, map, Option, Some, None, is_some, refl, ap, sym, ◌∙◌, subst}
 use Rattle.std.specs.Prelude.{IsSome, option_and_then}
-use Rattle.std.specs.List.{list_any, filter_map, cons_option}
+use Rattle.std.specs.List.{list_any, filter, filter_map, cons_option}
+use Rattle.std.proofs.lemmas.List.Kept.{AllPairs-filter}
 use Rattle.std.specs.Option.{unwrap_or, option_copied}
 use Rattle.std.specs.FinMap as slots
 use Rattle.std.specs.FinSet as set
@@ -16,10 +17,10 @@ use Rattle.specs_entity.specs.Births.{Births, living, living_of, none_born, all_
 use Rattle.specs_entity.specs.Life.{Life, LifeAt}
 use Rattle.specs_markers.specs.Simple.{Noting, noted_under, none_noted}
 use Rattle.scene_rules.specs.Ids.{ascending}
-use Rattle.scene_rules.specs.Scenes.{lives}
-use Rattle.scene_rules.proofs.CallerLemmas.{lives-ascending, in_order-ascends, same-ids}
+use Rattle.scene_rules.specs.Scenes.{lives, IdsAscend}
+use Rattle.scene_rules.proofs.CallerLemmas.{lives-ascending, in_order-ascends, same-ids, lives-kept}
 use Rattle.scene_world.specs.Rolls.{Roll, is_life, is_id, index_of, ids_in}
-use Rattle.scene_world.proofs.CallerLemmas.{is-id, id-lives, id-marks, id-at-index, lives-index, ids-ascend}
+use Rattle.scene_world.proofs.CallerLemmas.{is-id, id-marks, id-at-index, lives-index, ids-ascend}
 use Rattle.scene_basics.specs.Known.{known_at}
 
 -- nothing is noted where there is no allocator
@@ -53,6 +54,31 @@ or-right : (a b : Bool) → b ≡ true → (a || b) ≡ true
 or-right true b e = refl
 or-right false b e = e
 
+-- of ids that ascend, those among which all are that give something give what all give
+given-among : {X : Type 0} (f : ℕ → Option X) (xs ys : List ℕ) → IdsAscend xs → IdsAscend ys → ((id : ℕ) → lives id xs ≡ true → lives id ys ≡ true) → ((id : ℕ) → lives id ys ≡ true → IsSome (f id) → lives id xs ≡ true)
+    → filter_map f xs ≡ filter_map f ys
+given-among f xs ys up other within gives = ap (filter_map f) same ∙ kept ys (λ id e. e)
+  where
+    test : ℕ → Bool
+    test id = lives id xs
+
+    same : xs ≡ filter test ys
+    same = same-ids xs (filter test ys) up (AllPairs-filter (λ one other. one < other) test ys other) (λ id. both-ways (lives id xs) (lives id (filter test ys)) (λ e. lives-kept test id ys ∙ ap (λ b. b && test id) (within id e) ∙ e) (λ e. and-right (lives id ys) (test id) (sym (lives-kept test id ys) ∙ e)))
+      where
+        and-right : (a b : Bool) → (a && b) ≡ true → b ≡ true
+        and-right true b e = e
+        and-right false b e = absurd (false≢true e)
+
+    kept : (some : List ℕ) → ((id : ℕ) → lives id some ≡ true → lives id ys ≡ true) → filter_map f (filter test some) ≡ filter_map f some
+    kept [] known = refl
+    kept (id ∷ some) known =
+        by (test id) refl (f id) refl (known id (ap (λ b. b || lives id some) (eq-eqb id id refl))) (kept some (λ one e. known one (or-right (eqb id one) (lives one some) e)))
+      where
+        by : (b : Bool) → test id ≡ b → (o : Option _) → f id ≡ o → lives id ys ≡ true → filter_map f (filter test some) ≡ filter_map f some → filter_map f (cond (test id) (id ∷ filter test some) (filter test some)) ≡ cons_option (f id) (filter_map f some)
+        by true is o at on later = ap (λ b. filter_map f (cond b (id ∷ filter test some) (filter test some))) is ∙ ap (cons_option (f id)) later
+        by false is None at on later = ap (λ b. filter_map f (cond b (id ∷ filter test some) (filter test some))) is ∙ later ∙ ap (λ o. cons_option o (filter_map f some)) (sym at)
+        by false is (Some x) at on later = absurd (false≢true (sym is ∙ gives id on (ap is_some at)))
+
 module _ (roll : Roll) where
   -- the id that is known at an index has that index, and is known there
   pub known-index : (index id : ℕ) → known_at roll index ≡ Some id → index_of roll id ≡ Some index
@@ -71,63 +97,46 @@ module _ (roll : Roll) where
       ap (option_and_then (λ m. cond (is_id index (index_of roll m)) (Some m) None)) (id-marks roll id index (id-at-index roll id index e))
       ∙ ap (λ b. cond b (Some id) None) (ap (is_id index) e ∙ eq-eqb index index refl)
 
-  abbrev found : List LifeAt → List ℕ
-  found entities = filter_map (λ (entity : LifeAt). known_at roll entity.id) entities
+  abbrev found : List ℕ → List ℕ
+  found indices = filter_map (known_at roll) indices
 
   -- an id that is found is known
-  found-lives : (id : ℕ) (entities : List LifeAt) → lives id (found entities) ≡ true → is_some (index_of roll id) ≡ true
+  found-lives : (id : ℕ) (indices : List ℕ) → lives id (found indices) ≡ true → is_some (index_of roll id) ≡ true
   found-lives id [] e = absurd (false≢true e)
-  found-lives id (entity ∷ entities) e = by (found-lives id entities) (known_at roll entity.id) refl e
+  found-lives id (index ∷ indices) e = by (found-lives id indices) (known_at roll index) refl e
     where
-      at : (lives id (found entities) ≡ true → is_some (index_of roll id) ≡ true) → (m : ℕ) → known_at roll entity.id ≡ Some m → (b : Bool) → eqb m id ≡ b → (b || lives id (found entities)) ≡ true → is_some (index_of roll id) ≡ true
-      at later m known true is f = ap (λ one. is_some (index_of roll one)) (sym (eqb-true m id is)) ∙ ap is_some (known-index entity.id m known)
+      at : (lives id (found indices) ≡ true → is_some (index_of roll id) ≡ true) → (m : ℕ) → known_at roll index ≡ Some m → (b : Bool) → eqb m id ≡ b → (b || lives id (found indices)) ≡ true → is_some (index_of roll id) ≡ true
+      at later m known true is f = ap (λ one. is_some (index_of roll one)) (sym (eqb-true m id is)) ∙ ap is_some (known-index index m known)
       at later m known false is f = later f
 
-      by : (lives id (found entities) ≡ true → is_some (index_of roll id) ≡ true) → (o : Option ℕ) → known_at roll entity.id ≡ o → lives id (cons_option o (found entities)) ≡ true → is_some (index_of roll id) ≡ true
+      by : (lives id (found indices) ≡ true → is_some (index_of roll id) ≡ true) → (o : Option ℕ) → known_at roll index ≡ o → lives id (cons_option o (found indices)) ≡ true → is_some (index_of roll id) ≡ true
       by later None known f = later f
       by later (Some m) known f = at later m known (eqb m id) refl f
 
-  -- an id that is known at the index of one of them is found
-  lives-found : (id index : ℕ) → known_at roll index ≡ Some id → (entities : List LifeAt) → list_any (λ entity. eqb entity.id index) entities ≡ true → lives id (found entities) ≡ true
+  -- an id that is known at one of them is found
+  lives-found : (id index : ℕ) → known_at roll index ≡ Some id → (indices : List ℕ) → list_any (eqb index) indices ≡ true → lives id (found indices) ≡ true
   lives-found id index known [] e = absurd (false≢true e)
-  lives-found id index known (entity ∷ entities) e = by (eqb entity.id index) refl e (lives-found id index known entities)
+  lives-found id index known (first ∷ indices) e = by (eqb index first) refl e (lives-found id index known indices)
     where
-      behind : (o : Option ℕ) → lives id (found entities) ≡ true → lives id (cons_option o (found entities)) ≡ true
+      behind : (o : Option ℕ) → lives id (found indices) ≡ true → lives id (cons_option o (found indices)) ≡ true
       behind None f = f
-      behind (Some m) f = or-right (eqb m id) (lives id (found entities)) f
+      behind (Some m) f = or-right (eqb m id) (lives id (found indices)) f
 
-      by : (b : Bool) → eqb entity.id index ≡ b → (b || list_any (λ one. eqb one.id index) entities) ≡ true → (list_any (λ one. eqb one.id index) entities ≡ true → lives id (found entities) ≡ true)
-          → lives id (cons_option (known_at roll entity.id) (found entities)) ≡ true
+      by : (b : Bool) → eqb index first ≡ b → (b || list_any (eqb index) indices) ≡ true → (list_any (eqb index) indices ≡ true → lives id (found indices) ≡ true)
+          → lives id (cons_option (known_at roll first) (found indices)) ≡ true
       by true is f later =
-          ap (λ o. lives id (cons_option o (found entities))) (ap (known_at roll) (eqb-true entity.id index is) ∙ known)
-          ∙ ap (λ b. b || lives id (found entities)) (eq-eqb id id refl)
-      by false is f later = behind (known_at roll entity.id) (later f)
+          ap (λ o. lives id (cons_option o (found indices))) (ap (known_at roll) (sym (eqb-true index first is)) ∙ known)
+          ∙ ap (λ b. b || lives id (found indices)) (eq-eqb id id refl)
+      by false is f later = behind (known_at roll first) (later f)
 
-  -- the ids under which those that live are known are the ids that live
-  pub found-ids : (entities : List LifeAt) → ((index : ℕ) → IsSome (living roll.births index) → index < 16777216) → entities ≡ all_living roll.births → ascending (found entities) ≡ ids_in roll
-  found-ids entities bounded are =
-      same-ids (ascending (found entities)) (ids_in roll) (in_order-ascends (found entities)) (ids-ascend roll)
-      (λ id. lives-ascending id (found entities) ∙ both-ways (lives id (found entities)) (is_some (index_of roll id)) (found-lives id entities) (there id) ∙ sym (lives-index roll id))
+  -- where each id that gives something stands at one of some indices, the ids that are known there give all that those who live give
+  pub found-give : {X : Type 0} (f : ℕ → Option X) (indices : List ℕ) → ((id index : ℕ) → index_of roll id ≡ Some index → IsSome (f id) → list_any (eqb index) indices ≡ true)
+      → filter_map f (ascending (found indices)) ≡ filter_map f (ids_in roll)
+  found-give f indices gives =
+      given-among f (ascending (found indices)) (ids_in roll) (in_order-ascends (found indices)) (ids-ascend roll)
+      (λ id e. lives-index roll id ∙ found-lives id indices (sym (lives-ascending id (found indices)) ∙ e))
+      (λ id e some. by id (index_of roll id) refl (sym (lives-index roll id) ∙ e) some)
     where
-      mapped : (index : ℕ) (walked : List ℕ) → list_any (eqb index) walked ≡ true → list_any (λ one. eqb one.id index) (map (entity_at roll.births) walked) ≡ true
-      mapped index [] e = absurd (false≢true e)
-      mapped index (first ∷ walked) e = by (eqb index first) refl e (mapped index walked)
-        where
-          by : (b : Bool) → eqb index first ≡ b → (b || list_any (eqb index) walked) ≡ true → (list_any (eqb index) walked ≡ true → list_any (λ one. eqb one.id index) (map (entity_at roll.births) walked) ≡ true)
-              → (eqb first index || list_any (λ one. eqb one.id index) (map (entity_at roll.births) walked)) ≡ true
-          by true is f later = ap (λ b. b || list_any (λ one. eqb one.id index) (map (entity_at roll.births) walked)) (eq-eqb first index (sym (eqb-true index first is)))
-          by false is f later = or-right (eqb first index) (list_any (λ one. eqb one.id index) (map (entity_at roll.births) walked)) (later f)
-
-      at : (id index : ℕ) → index_of roll id ≡ Some index → lives id (found entities) ≡ true
-      at id index e =
-          let alive : is_some (living roll.births index) ≡ true = id-lives roll id index (id-at-index roll id index e) in
-          lives-found id index (index-known index id e) entities
-          (subst (λ list. list_any (λ one. eqb one.id index) list ≡ true) (sym are)
-          (mapped index (walk (λ i. is_some (living roll.births i))) (any-walk (λ i. is_some (living roll.births i)) index (bounded index alive) alive)))
-
-      there : (id : ℕ) → is_some (index_of roll id) ≡ true → lives id (found entities) ≡ true
-      there id e = by (index_of roll id) refl e
-        where
-          by : (o : Option ℕ) → index_of roll id ≡ o → is_some o ≡ true → lives id (found entities) ≡ true
-          by None is f = absurd (false≢true f)
-          by (Some index) is f = at id index is
+      by : (id : ℕ) (o : Option ℕ) → index_of roll id ≡ o → is_some o ≡ true → IsSome (f id) → lives id (ascending (found indices)) ≡ true
+      by id None at there some = absurd (false≢true there)
+      by id (Some index) at there some = lives-ascending id (found indices) ∙ lives-found id index (index-known index id at) indices (gives id index at some)

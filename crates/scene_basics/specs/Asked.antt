@@ -1,5 +1,6 @@
 -- What the systems ask for in a world that change nothing themselves.
-use Rattle.std.specs.Prelude.{◌≡◌, ℕ, ℤ, List, length, Option, option_and_then, option_map}
+use Rattle.std.specs.Prelude.{◌≡◌, ℕ, ℤ, Bool, false, List, length, Option, option_and_then, option_map}
+use Rattle.std.specs.Option.{option_map_or}
 use Rattle.shred_world.specs.Bundles.{Holding, readable}
 use Rattle.shred_stages.specs.declared.stop.Stop.{Stop}
 use Rattle.shred_stages.specs.declared.stop.Stop.TheVariants as stop
@@ -12,10 +13,11 @@ use Rattle.scene_basics.specs.declared.data.Ask.TheVariants.{Deaths, Births}
 use Rattle.scene_basics.specs.declared.data.BasicSystem.TheVariants.{Reap, Bud}
 use Rattle.scene_basics.specs.declared.values.Whole.{Whole}
 use Rattle.scene_basics.specs.declared.values.Value.{Value}
-use Rattle.scene_basics.specs.Asks.{Asking}
+use Rattle.scene_basics.specs.Asks.{asks, Asking}
 use Rattle.scene_basics.specs.Systems.{declared_access}
 use Rattle.scene_basics.specs.Columns.{part_id, basic_kinds}
 use Rattle.scene_basics.specs.Known.{basic_roll}
+use Rattle.scene_basics.specs.Values.{Numbers, whole_at}
 use Rattle.scene_basics.specs.Adding.{numbers_of}
 
 -- the number at an index under a kind, and the number of an id
@@ -24,6 +26,10 @@ number_seen w kind index = option_map (λ (whole : Whole). whole.0) (numbers_of 
 
 abbrev pub number_under : Holding Value → Name → ℕ → Option ℤ
 number_under w kind id = option_and_then (number_seen w kind) (index_of (basic_roll w) id)
+
+-- whether something may be asked for one at an index
+abbrev pub asks_at : Ask → Numbers → ℕ → Bool
+asks_at ask numbers index = option_map_or (λ (whole : Whole). asks ask whole.0) (whole_at numbers index) false
 
 -- what the system that asks is lent of what is held
 abbrev pub lent_for : Ask → Holding Value → Fragment

@@ -1,5 +1,5 @@
 -- What the systems ask for that change nothing themselves: a command for each id that passes a test.
-use Rattle.std.specs.Prelude.{◌≡◌, ◌<◌, ◌≤◌, ℕ, ℤ, pos, int_le, List, [], ◌∷◌, length, take, Option, Some, None, if◌then◌else◌}
+use Rattle.std.specs.Prelude.{◌≡◌, ◌<◌, ◌≤◌, ℕ, ℤ, pos, int_le, Bool, List, [], ◌∷◌, length, take, Option, Some, None, if◌then◌else◌}
 use Rattle.std.specs.List.{filter_map}
 use Rattle.scene_rules.specs.Parts.{Part}
 use Rattle.scene_rules.specs.Rulebook.{Fragment, Outcome, leaves, refuses, fills, queue_room, Command, spawn, kill}
@@ -29,6 +29,11 @@ birth_at (Some place) = Some (newborn place)
 abbrev pub birth_by : Option ℤ → Option Part → Option Command
 birth_by None place = None
 birth_by (Some hp) place = if int_le (pos 10) hp then birth_at place else None
+
+-- whether something may be asked for one who has this hp
+abbrev pub asks : Ask → ℤ → Bool
+asks Deaths hp = int_le hp (pos 0)
+asks Births hp = int_le (pos 10) hp
 
 -- the command that is asked for an id, if one is
 abbrev pub asked_for : Ask → Fragment → ℕ → Option Command

@@ -1,21 +1,26 @@
 //! The systems in a world that ask for deaths or births.
 ghost use Rattle.std.specs.Prelude.{◌≡◌, ◌++◌, OnOk, IfOk, IfErr, MatchResult, [], option_map};
+ghost use Rattle.std.specs.List.{filter, filter_map};
 ghost use Rattle.std.specs.Option.{option_to_list};
+ghost use Rattle.hibitset_sets.specs.BitSet.{has_member};
+ghost use Rattle.hibitset_sets.specs.Walk.{walk};
 ghost use Rattle.scene_rules.specs.Rulebook.{leaves};
 ghost use Rattle.scene_rules.specs.Queues.{waiting, plain_command, plain_commands};
 ghost use Rattle.scene_basics.specs.Names.{hp_kind, pos_kind};
 ghost use Rattle.scene_basics.specs.Numbers.{counting, part_of};
-ghost use Rattle.scene_basics.specs.Asks.{death_by, birth_by, asked_for, Asking, IsNotAsked};
-ghost use Rattle.scene_basics.specs.Asked.{number_seen, number_under, lent_for, StopsAsking};
+ghost use Rattle.scene_basics.specs.Asks.{death_by, birth_by, asks, asked_for, asked_of, Asking, IsNotAsked};
+ghost use Rattle.scene_basics.specs.Asked.{number_seen, number_under, asks_at, lent_for, StopsAsking};
 
 use crate::columns::part_id;
 use crate::data::{Ask, Datum, HP, POS};
 use crate::known::{ids_in_order, index_under};
-use crate::values::Value;
+use crate::values::{Value, Whole};
+use hibitset::BitSetLike;
 use scene_rules::{Command, Queue};
 use scene_turns::stop_for;
 use shred_stages::Stop;
 use shred_world::Holder;
+use specs_layouts::MaskedStorage;
 use std::alloc::{AllocError, Global};
 
 /// The number at an index under a kind.
@@ -112,7 +117,54 @@ fn ask_for(queue: &mut Queue<Datum>, command: Option<Command<Datum>>) -> Result<
     }
 }
 
-/// Asks for what is asked of each entity, in the order of the ids.
+/// Whether something may be asked for an entity of this hp.
+fn may_ask(ask: Ask, hp: i64) -> bool
+    ensures { result ≡ asks ask hp }
+{
+    match ask {
+        Ask::Deaths => hp <= 0,
+        Ask::Births => 10 <= hp,
+    }
+}
+
+/// The indices at which something may be asked, ascending. Errors: want of memory.
+fn indices_asking(
+    alloc: Global,
+    numbers: &MaskedStorage<Whole>,
+    ask: Ask,
+) -> Result<Vec<u32>, AllocError>
+    ensures { IfOk result (λ indices. indices.items
+        ≡ filter (asks_at ask numbers.now) (walk (has_member numbers.now.mask))) }
+{
+    let mut indices = Vec::new(alloc);
+    for index in numbers.mask().iter() {
+        if may_ask(ask, numbers.get(index).0) {
+            indices.push(index)?;
+        }
+    }
+    Ok(indices)
+}
+
+/// The ids for which something may be asked, in order: all that is asked for is asked for one of these.
+///
+/// Errors: want of memory.
+fn ids_asking<W: Holder<Value>>(
+    alloc: Global,
+    view: &W,
+    ask: Ask,
+) -> Result<Vec<u64>, AllocError>
+    ensures { IfOk result (λ ids. filter_map (asked_for ask (lent_for ask (W.slots view.now))) ids.items
+        ≡ asked_of ask (lent_for ask (W.slots view.now))) }
+{
+    let Some(Value::NumbersValue(numbers)) = view.value(part_id(HP)) else {
+        return Ok(Vec::new(alloc));
+    };
+    let indices = indices_asking(alloc, numbers, ask)?;
+    ids_in_order(alloc, view, indices.as_slice())
+}
+
+/// Asks for what is asked of each entity, in the order of the ids. It looks at the hp of each, and else at those alone for
+/// whom something may be asked.
 ///
 /// Errors: `Full`, where the queue is full of the first of it; `Memory`.
 pub(crate) fn ask_all<H: AllocGlobal, W: Holder<Value>>(
@@ -127,7 +179,7 @@ pub(crate) fn ask_all<H: AllocGlobal, W: Holder<Value>>(
         (plain_commands part_of (waiting queue.new))))
         (StopsAsking ask (lent_for ask (W.slots view.now)) (plain_commands part_of (waiting queue.new))) }
 {
-    let Ok(list) = ids_in_order(rt.alloc(), view) else {
+    let Ok(list) = ids_asking(rt.alloc(), view, ask) else {
         return Err(Stop::Memory);
     };
     let ids = list.as_slice();

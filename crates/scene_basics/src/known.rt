@@ -1,17 +1,15 @@
 //! Who is known in a world by an id, as a system sees it.
 ghost use Rattle.std.specs.Prelude.{◌≡◌, IfOk};
 ghost use Rattle.std.specs.List.{filter_map};
-ghost use Rattle.specs_entity.specs.Life.{LifeAt};
 ghost use Rattle.scene_rules.specs.Ids.{ascending};
 ghost use Rattle.specs_entity.specs.Births.{living};
 ghost use Rattle.specs_markers.specs.Simple.{noted_under};
-ghost use Rattle.scene_world.specs.Rolls.{is_life, index_of, ids_in};
+ghost use Rattle.scene_world.specs.Rolls.{is_life, index_of};
 ghost use Rattle.scene_basics.specs.Known.{basic_roll, known_at};
 
 use crate::values::Value;
 use scene_stores::SceneMarkerAllocator;
 use shred_world::{Holder, Resource, ResourceId};
-use specs_entity::laws::the_living_are_below_the_limit;
 use specs_entity::{EntitiesRes, Entity};
 use specs_markers::{Marker, MarkerAllocator};
 use std::alloc::{AllocError, Global};
@@ -75,18 +73,18 @@ pub(crate) fn id_known<W: Holder<Value>>(view: &W, index: u32) -> Option<u64>
     }
 }
 
-/// The ids under which entities are known, each once. Errors: want of memory.
+/// The ids under which entities at these indices are known, each once. Errors: want of memory.
 fn ids_known<W: Holder<Value>>(
     alloc: Global,
     view: &W,
-    entities: &[Entity],
+    indices: &[u32],
 ) -> Result<BTreeSet<u64>, AllocError>
-    ensures { IfOk result (λ ids. ids.keys ≡ ascending
-        (filter_map (λ (entity : LifeAt). known_at (basic_roll (W.slots view.now)) entity.id) entities.now)) }
+    ensures { IfOk result (λ ids. ids.keys
+        ≡ ascending (filter_map (known_at (basic_roll (W.slots view.now))) indices.now)) }
 {
     let mut ids = BTreeSet::new(alloc);
-    for place in (0..entities.len()).rev() {
-        if let Some(id) = id_known(view, entities[place].id()) {
+    for place in (0..indices.len()).rev() {
+        if let Some(id) = id_known(view, indices[place]) {
             ids.insert(id)?;
         }
     }
@@ -100,21 +98,15 @@ fn in_order(alloc: Global, ids: BTreeSet<u64>) -> Result<Vec<u64>, AllocError>
     ids.into_iter().collect(alloc)
 }
 
-/// The ids of those that live, in order. Errors: want of memory, and where there are no entities.
+/// The ids under which entities at these indices are known, in order. Errors: want of memory.
 pub(crate) fn ids_in_order<W: Holder<Value>>(
     alloc: Global,
     view: &W,
+    indices: &[u32],
 ) -> Result<Vec<u64>, AllocError>
-    ensures { IfOk result (λ ids. ids.items ≡ ids_in (basic_roll (W.slots view.now))) }
+    ensures { IfOk result (λ ids. ids.items
+        ≡ ascending (filter_map (known_at (basic_roll (W.slots view.now))) indices.now)) }
 {
-    let Some(value) = view.value(ResourceId::from_type_id(0)) else {
-        return Err(AllocError);
-    };
-    let Some(entities) = <EntitiesRes as Resource<Value>>::view(value) else {
-        return Err(AllocError);
-    };
-    the_living_are_below_the_limit(entities);
-    let living = entities.living_entities()?;
-    let ids = ids_known(alloc, view, living.as_slice())?;
+    let ids = ids_known(alloc, view, indices)?;
     in_order(alloc, ids)
 }

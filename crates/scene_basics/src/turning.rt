@@ -98,6 +98,13 @@ impl Rules for Basics {
         }
     }
 
+    fn names_nobody(value: &Value, kind: &str) -> bool {
+        match value {
+            Value::OwnersValue(owners) if kind == OWNER => owners.mask().is_empty(),
+            _ => true,
+        }
+    }
+
     fn get_each(
         value: &Value,
         kind: &str,

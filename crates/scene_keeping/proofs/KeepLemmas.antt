@@ -1,36 +1,44 @@
--- Lemmas on entities that are entered one after another into what is kept, and on the scene that is kept then.
-use Rattle.std.proofs.Common.{◌≡◌, ◌<◌, ◌+◌, ℕ, take, get_or, Bool, true, false, cond, eqb, ◌||◌, List, [], ◌∷◌, ◌++◌, map, length, All, Option, Some, None, IsSome, is_some, option_map, refl, ap, sym, subst, ◌∙◌, arith}
+-- Lemmas on what is kept of a world: of who lives, of the columns of kinds, and of the scene.
+use Rattle.std.proofs.Common.{◌≡◌, ◌<◌, ◌+◌, ℕ, zero, suc, take, get_or, Bool, true, false, cond, eqb, ◌||◌, List, [], ◌∷◌, ◌++◌, map, length, All, Option, Some, None, IsSome, is_some, option_map, refl, ap, sym, subst, ◌∙◌, arith}
 use denote.Ref.{Bor}
 use Rattle.std.specs.Option.{option_copied}
 use Rattle.std.specs.Prelude.{option_and_then, slice_get}
 use Rattle.std.specs.List.{list_any}
 use Rattle.std.specs.List.Sorted.{IsPermutation}
-use Rattle.std.proofs.lemmas.List.Sorted.{All-permutation, list_any-IsPermutation}
+use Rattle.std.proofs.lemmas.List.Sorted.{All-permutation, list_any-IsPermutation, IsPermutation-map}
 use Rattle.std.specs.Global.{Vec}
 use Rattle.std.specs.Ordering.{nat_cmp}
 use Rattle.std.specs.FinMap as finite
 use Rattle.std.specs.Cmp.{nat_cmp_total}
 use Rattle.std.proofs.lemmas.Bool.{false≢true, eqb-true, eq-eqb}
 use Rattle.std.proofs.lemmas.List.Elements.{All-nil, All-head, All-tail, All-push, All-weaker}
-use Rattle.std.proofs.lemmas.List.{length-map, get_or-map, take_more}
-use Rattle.specs_entity.specs.Births.{Births, IsAlive, living}
-use Rattle.specs_entity.specs.Life.{LifeAt}
-use Rattle.scene_rules.specs.Parts.{Json, Name, Part, is_among, place_of, living as reaching}
+use Rattle.std.proofs.lemmas.List.{length-map, map-append, take_more}
+use Rattle.hibitset_sets.specs.BitSet.{has_member}
+use Rattle.hibitset_sets.proofs.CallerLemmas.{any-walk}
+use Rattle.specs_entity.specs.Births.{living}
+use Rattle.specs_entity.specs.Life.{Life, LifeAt}
+use Rattle.specs_flagged.specs.Flagged.{Flagged}
+use Rattle.specs_layouts.specs.Masked.{Masked, Agrees}
+use Rattle.specs_layouts.specs.declared.storages.vec.VecStorage.{VecStorage}
+use Rattle.scene_stores.specs.Markers.{marker_at}
+use Rattle.scene_rules.specs.Parts.{Json, Name, Part, is_among, place_of, name_at, living as reaching}
 use Rattle.scene_rules.specs.Declaring.{texts}
 use Rattle.scene_rules.specs.Rulebook.{Book}
 use Rattle.scene_rules.specs.Scenes.{RefLives}
+use Rattle.scene_rules.specs.Slots.{filled}
 use Rattle.scene_rules.proofs.CallerLemmas.{is_eq-nat_cmp, same-ids}
+use Rattle.scene_rules.proofs.NameLemmas.{place_of-bound, place_of-name}
+use Rattle.scene_draft.proofs.CallerLemmas.{is_some-place_of}
 use Rattle.scene_world.specs.Stored.{Stored, part_under, part_with}
 use Rattle.scene_world.specs.Rolls.{Roll, IsRoll, id_at, index_of, ids_in, ref_to, reference, part_in, is_life}
 use Rattle.scene_world.specs.Standing.{Sight, Kinds, roll_of, column_of, value_of, plain_of, IsSceneWorld}
-use Rattle.scene_world.proofs.CallerLemmas.{id-lives, id-at-index, lives-index, ids-ascend, index-of-id}
-use Rattle.scene_turns.specs.Putting.{named_in, part_read}
-use Rattle.scene_acts.specs.Gone.{AreLiving}
-use Rattle.scene_kept.specs.Keeping.{Keeping, kept_at}
-use Rattle.scene_snapshot.specs.KeptScenes.{kept_scene}
+use Rattle.scene_world.proofs.CallerLemmas.{id-at-index, lives-index, ids-ascend, index-of-id}
+use Rattle.scene_turns.specs.Putting.{named_in, part_read, AreReadAt}
+use Rattle.scene_kept.specs.Keeping.{Keeping, kept_at, Enters}
+use Rattle.scene_kept.specs.declared.columns.KeptScene.{KeptScene}
+use Rattle.scene_snapshot.specs.KeptScenes.{kept_datum, kept_part, kept_scene}
 use Rattle.scene_snapshot.proofs.KeptTextLemmas.{kept-scene-is}
-use Rattle.scene_rules.specs.Slots.{filled}
-use Rattle.scene_keeping.specs.Taken.{AreColumns, AreMarkedBy, part_at, AreOfIndex, KeepsOne, IsKeptOf, AreKept}
+use Rattle.scene_keeping.specs.Taken.{AreMarkedBy, AreMarkersOf, IsAmong, ArePairs, HasIdsOf, IsWanted, AreWanted, part_at, AreOfPairs, IsColumnOf, AreColumnsOf}
 use Rattle.scene_keeping.proofs.PlaceLemmas.{by-name, keys-ascend, keys-there}
 
 -- ---- references
@@ -80,167 +88,235 @@ module _ {V : Type 0} (kinds : Kinds V) (book : Book) (w : Sight V) (stands : Is
       (ap (λ b. cond b (part_in roll (column_of kinds w kind) marked.0) None) known
       ∙ ap (option_and_then (λ at. option_map (part_under (ref_to roll)) (column_of kinds w kind at))) known_at ∙ ap (option_map (part_under (ref_to roll))) there)
 
--- ---- entities
+-- ---- who lives
 
--- one of those that pass, of which something holds
-any-holds : (P : LifeAt → Type 0) (index : ℕ) (entities : List LifeAt) → All P entities → list_any (λ one. eqb one.id index) entities ≡ true → (one : LifeAt) × (one.id ≡ index) × P one
-any-holds P index [] all some = absurd (false≢true some)
-any-holds P index (entity ∷ entities) all some = by (eqb entity.id index) refl some (any-holds P index entities (All-tail P entity entities all))
-  where
-    by : (b : Bool) → eqb entity.id index ≡ b → (b || list_any (λ one. eqb one.id index) entities) ≡ true → (list_any (λ one. eqb one.id index) entities ≡ true → (one : LifeAt) × (one.id ≡ index) × P one) → (one : LifeAt) × (one.id ≡ index) × P one
-    by true same some later = (entity, eqb-true entity.id index same, All-head P entity entities all)
-    by false apart some later = later some
+-- markers of which each is that of somebody who lives are all that there are
+module _ (roll : Roll) (is : IsRoll roll) (markers : Masked (Flagged (VecStorage ℕ))) (of : (index : ℕ) → roll.marker index ≡ marker_at markers index) where
+  marked-lives : (index id : ℕ) → marker_at markers index ≡ Some id → id_at roll index ≡ Some id
+  marked-lives index id there = by (living roll.births index) refl
+    where
+      by : (life : Option Life) → living roll.births index ≡ life → cond (is_some life) (roll.marker index) None ≡ Some id
+      by None none = absurd (false≢true (sym (ap is_some (is.unmarked index none)) ∙ ap is_some (of index ∙ there)))
+      by (Some life) some = of index ∙ there
 
--- as many values stand for kinds as there are kinds, and each is that of its kind
-pub as-many-columns : {V : Type 0} (kinds : Kinds V) (w : Sight V) (names : List (Bor Name)) (columns : List (Option (Bor V))) → AreColumns kinds w (texts names) columns → length columns ≡ length names
-as-many-columns kinds w names columns are = sym (length-map columns option_copied) ∙ ap length are ∙ length-map (texts names) (λ kind. w (kinds.part_id kind)) ∙ length-map names (λ name. name.now)
+  lives-marked : (index : ℕ) → IsSome (id_at roll index) → IsSome (marker_at markers index)
+  lives-marked index some = by (living roll.births index) some
+    where
+      by : (life : Option Life) → IsSome (cond (is_some life) (roll.marker index) None) → IsSome (marker_at markers index)
+      by None none = absurd (false≢true none)
+      by (Some life) there = sym (ap is_some (of index)) ∙ there
 
-pub column-at : {V : Type 0} (kinds : Kinds V) (w : Sight V) (names : List (Bor Name)) (columns : List (Option (Bor V))) → AreColumns kinds w (texts names) columns → (place : ℕ) (name : Bor Name) (one : Option (Bor V))
-    → place < length names → one ≡ get_or columns place one → option_copied one ≡ w (kinds.part_id (get_or names place name).now)
-column-at kinds w names columns are place name one within is =
-    let many : length columns ≡ length names = as-many-columns kinds w names columns are in
-    let all : length (texts names) ≡ length names = length-map names (λ name. name.now) in
-    ap option_copied is ∙ sym (get_or-map option_copied columns place one (option_copied one) (omega (arith, many, within)))
-    ∙ ap (λ list. get_or list place (option_copied one)) are
-    ∙ get_or-map (λ kind. w (kinds.part_id kind)) (texts names) place name.now (option_copied one) (omega (arith, all, within))
-    ∙ ap (λ kind. w (kinds.part_id kind)) (get_or-map (λ name. name.now) names place name name.now within)
-
--- in another order they are all that live still
-pub living-permuted : (births : Births) (entities others : List LifeAt) → IsPermutation entities others → AreLiving births entities → AreLiving births others
-living-permuted births entities others permuted living_all = record {
-  alive = All-permutation (IsAlive births) entities others permuted living_all.alive;
-  all = λ entity alive. sym (list_any-IsPermutation (λ one. eqb one.id entity.id) entities others permuted) ∙ living_all.all entity alive;
-}
-
-module _ {V D G : Type 0} (kinds : Kinds V) (part_of : D → Part) (w : Sight V) (names : List Name) where
-  -- what holds of an entity of which is kept
-  abbrev IsKept : Keeping (Vec (Option D)) G → LifeAt → Type 0
-  IsKept kept entity = (id : ℕ) → id_at (roll_of kinds w) entity.id ≡ Some id → IsKeptOf kinds part_of w names entity.id (kept_at kept id)
-
-  -- of nobody is anything kept at first
-  pub none-kept : (kept : Keeping (Vec (Option D)) G) → kept.entries ≡ finite.empty → AreKept kinds part_of w names [] kept
-  none-kept kept none = record {
-    each = All-nil (IsKept kept);
-    only = λ id some. absurd (false≢true (sym (ap is_some (ap (λ m. finite.get m id) none ∙ finite.get-empty nat_cmp id)) ∙ some));
+  all-pairs : (pairs : List (ℕ × ℕ)) → Agrees markers.mask (marker_at markers) → ((index : ℕ) → has_member markers.mask index ≡ true → index < 16777216) → AreMarkersOf markers pairs → ArePairs roll pairs
+  all-pairs pairs agree range are = record {
+    each = All-weaker (λ pair. marker_at markers pair.1 ≡ Some pair.0) (λ pair. id_at roll pair.1 ≡ Some pair.0) (λ pair. marked-lives pair.1 pair.0) pairs are.each;
+    all = λ index some.
+        let member : has_member markers.mask index ≡ true = agree index ∙ lives-marked index some in
+        ap (list_any (eqb index)) are.all ∙ any-walk (has_member markers.mask) index (range index member) member;
   }
 
-  module _ (is : IsRoll (roll_of kinds w)) (done : List LifeAt) (entity : LifeAt) (before after : Keeping (Vec (Option D)) G) (alive : IsAlive (roll_of kinds w).births entity) (keeps : KeepsOne kinds part_of w names entity.id before after) where
-    entered-at : id_at (roll_of kinds w) entity.id ≡ Some keeps.id
-    entered-at = ap (λ o. cond (is_some o) ((roll_of kinds w).marker entity.id) None) alive ∙ keeps.marked
+-- in another order they are all still
+pub pairs-permuted : (roll : Roll) (pairs others : List (ℕ × ℕ)) → IsPermutation pairs others → ArePairs roll pairs → ArePairs roll others
+pairs-permuted roll pairs others permuted are = record {
+  each = All-permutation (λ pair. id_at roll pair.1 ≡ Some pair.0) pairs others permuted are.each;
+  all = λ index some. sym (list_any-IsPermutation (eqb index) _ _ (IsPermutation-map (λ pair. pair.1) pairs others permuted)) ∙ are.all index some;
+}
 
-    found-after : (id : ℕ) (b : Bool) → eqb keeps.id id ≡ b → kept_at after id ≡ cond b (Some keeps.values) (kept_at before id)
-    found-after id b is =
-        ap (λ m. finite.get m id) keeps.enters.entries ∙ finite.get-insert nat_cmp_total before.entries keeps.id keeps.values id
-        ∙ ap (λ b. cond b (Some keeps.values) (kept_at before id)) (is_eq-nat_cmp id keeps.id ∙ is)
+module _ (roll : Roll) (is : IsRoll roll) where
+  -- who is known under an id is among the pairs
+  among : (pairs : List (ℕ × ℕ)) (id index : ℕ) → id_at roll index ≡ Some id → All (λ pair. id_at roll pair.1 ≡ Some pair.0) pairs → IsAmong (map (λ pair. pair.1) pairs) index → IsAmong (map (λ pair. pair.0) pairs) id
+  among [] id index at each some = absurd (false≢true some)
+  among (pair ∷ pairs) id index at each some = by (eqb index pair.1) refl some
+    where
+      by : (b : Bool) → eqb index pair.1 ≡ b → (b || list_any (eqb index) (map (λ pair. pair.1) pairs)) ≡ true → (eqb id pair.0 || list_any (eqb id) (map (λ pair. pair.0) pairs)) ≡ true
+      by true same some =
+          let here : Some id ≡ Some pair.0 = sym at ∙ ap (id_at roll) (eqb-true index pair.1 same) ∙ All-head (λ pair. id_at roll pair.1 ≡ Some pair.0) pair pairs each in
+          let id_is : id ≡ pair.0 = cc in
+          ap (λ b. b || list_any (eqb id) (map (λ pair. pair.0) pairs)) (eq-eqb id pair.0 id_is)
+      by false apart some =
+          let later = among pairs id index at (All-tail (λ pair. id_at roll pair.1 ≡ Some pair.0) pair pairs each) some in
+          ap (λ b. eqb id pair.0 || b) later ∙ or-true (eqb id pair.0)
 
-    -- what was kept of another is kept still
-    still-kept : (one : LifeAt) → IsKept before one → IsKept after one
-    still-kept one held id at = by (eqb keeps.id id) refl
+      or-true : (b : Bool) → (b || true) ≡ true
+      or-true true = refl
+      or-true false = refl
+
+  known-among : (pairs : List (ℕ × ℕ)) → ArePairs roll pairs → (id : ℕ) → IsSome (index_of roll id) → IsAmong (map (λ pair. pair.0) pairs) id
+  known-among pairs are id some =
+      let index = some-of (index_of roll id) some in
+      let at : id_at roll index.0 ≡ Some id = id-at-index roll id index.0 index.1 in
+      among pairs id index.0 at are.each (are.all index.0 (ap is_some at))
+
+-- ---- what is wanted of ids
+
+-- of an id that is entered, and of one of which nothing is
+Steps : {D G : Type 0} → ℕ → Option D → (before after : Keeping D G) → Type 0
+Steps id None before after = after ≡ before
+Steps id (Some datum) before after = Enters before id datum after
+
+module _ {D G X : Type 0} (part_of : D → X) (want : ℕ → Option X) where
+  -- at first nothing is kept
+  pub none-wanted : (kept : Keeping D G) → kept.entries ≡ finite.empty → AreWanted part_of want [] kept
+  none-wanted kept none = record {
+    sound = λ id some. absurd (false≢true (sym (ap is_some (ap (λ m. finite.get m id) none ∙ finite.get-empty nat_cmp id)) ∙ some));
+    each = All-nil (IsWanted part_of want kept);
+  }
+
+  -- what is kept is wanted, so it is of an id of which nothing is wanted
+  nothing-wanted : (kept : Keeping D G) → ((id : ℕ) → IsSome (kept_at kept id) → IsWanted part_of want kept id) → (id : ℕ) → None ≡ want id → IsWanted part_of want kept id
+  nothing-wanted kept sound id none = by (kept_at kept id) refl
+    where
+      by : (o : Option D) → kept_at kept id ≡ o → IsWanted part_of want kept id
+      by None e = ap (option_map part_of) e ∙ none
+      by (Some datum) e = sound id (ap is_some e)
+
+  module _ (id : ℕ) (datum : D) (before after : Keeping D G) (enters : Enters before id datum after) (wanted : Some (part_of datum) ≡ want id) where
+    found-after : (one : ℕ) (b : Bool) → eqb id one ≡ b → kept_at after one ≡ cond b (Some datum) (kept_at before one)
+    found-after one b is =
+        ap (λ m. finite.get m one) enters.entries ∙ finite.get-insert nat_cmp_total before.entries id datum one
+        ∙ ap (λ b. cond b (Some datum) (kept_at before one)) (is_eq-nat_cmp one id ∙ is)
+
+    -- of the id that was entered, and of each of which it was before
+    wanted-after : (one : ℕ) → (eqb id one ≡ false → IsWanted part_of want before one) → IsWanted part_of want after one
+    wanted-after one was = by (eqb id one) refl was
       where
-        by : (b : Bool) → eqb keeps.id id ≡ b → IsKeptOf kinds part_of w names one.id (kept_at after id)
-        by false apart = subst (IsKeptOf kinds part_of w names one.id) (sym (found-after id false apart)) (held id at)
-        by true same =
-            let id_is : keeps.id ≡ id = eqb-true keeps.id id same in
-            let here : id_at (roll_of kinds w) entity.id ≡ Some id = entered-at ∙ ap (λ id. Some id) id_is in
-            let both : Some entity.id ≡ Some one.id = sym (index-of-id (roll_of kinds w) is id entity.id here) ∙ index-of-id (roll_of kinds w) is id one.id at in
-            let index : entity.id ≡ one.id = cc in
-            subst (IsKeptOf kinds part_of w names one.id) (sym (found-after id true same)) (subst (λ at. AreOfIndex kinds part_of w names at keeps.values.items) index keeps.its)
+        by : (b : Bool) → eqb id one ≡ b → (b ≡ false → IsWanted part_of want before one) → IsWanted part_of want after one
+        by true same was = ap (option_map part_of) (found-after one true same) ∙ wanted ∙ ap want (eqb-true id one same)
+        by false apart was = ap (option_map part_of) (found-after one false apart) ∙ was refl
 
-    -- and the one that was entered is kept
-    now-kept : IsKept after entity
-    now-kept id at =
-        let both : Some keeps.id ≡ Some id = sym entered-at ∙ at in
-        let id_is : keeps.id ≡ id = cc in
-        subst (IsKeptOf kinds part_of w names entity.id) (sym (found-after id true (eq-eqb keeps.id id id_is))) keeps.its
-
-    pub more-kept : AreKept kinds part_of w names done before → AreKept kinds part_of w names (done ++ entity ∷ []) after
-    more-kept kept = record {
-      each = All-push (IsKept after) done entity (All-weaker (IsKept before) (IsKept after) still-kept done kept.each) now-kept;
-      only = λ id some. by id (eqb keeps.id id) refl some;
+    entered-wanted : (ids : List ℕ) → AreWanted part_of want ids before → AreWanted part_of want (ids ++ id ∷ []) after
+    entered-wanted ids are = record {
+      sound = λ one some. wanted-after one (λ apart. are.sound one (sym (ap is_some (found-after one false apart)) ∙ some));
+      each = All-push (IsWanted part_of want after) ids id (All-weaker (IsWanted part_of want before) (IsWanted part_of want after) (λ one was. wanted-after one (λ apart. was)) ids are.each)
+          (ap (option_map part_of) (found-after id true (eq-eqb id id refl)) ∙ wanted);
     }
-      where
-        by : (id : ℕ) (b : Bool) → eqb keeps.id id ≡ b → IsSome (kept_at after id) → IsSome (index_of (roll_of kinds w) id)
-        by id true same some = ap is_some (ap (index_of (roll_of kinds w)) (sym (eqb-true keeps.id id same)) ∙ index-of-id (roll_of kinds w) is keeps.id entity.id entered-at)
-        by id false apart some = kept.only id (subst IsSome (found-after id false apart) some)
 
-  -- of those up to a place, and of the one there
-  pub next-kept : IsRoll (roll_of kinds w) → (entities : List LifeAt) (k : ℕ) (entity : LifeAt) → k < length entities → entity ≡ get_or entities k entity → IsAlive (roll_of kinds w).births entity → (listed : List Name) (index : ℕ) → listed ≡ names → index ≡ entity.id
-      → (before after : Keeping (Vec (Option D)) G) → KeepsOne kinds part_of w listed index before after → AreKept kinds part_of w names (take k entities) before
-      → (after.next ≡ before.next) × (after.globals ≡ before.globals) × AreKept kinds part_of w names (take (k + 1) entities) after
-  next-kept is entities k entity below there alive listed index known at before after keeps kept =
-      let one : KeepsOne kinds part_of w names entity.id before after = subst (λ i. KeepsOne kinds part_of w names i before after) at (subst (λ list. KeepsOne kinds part_of w list index before after) known keeps) in
-      let front : take (k + 1) entities ≡ take k entities ++ entity ∷ [] = take_more entities k entity below ∙ ap (λ one. take k entities ++ one ∷ []) (sym there) in
-      (keeps.enters.next, keeps.enters.globals, subst (λ list. AreKept kinds part_of w names list after) (sym front) (more-kept is (take k entities) entity before after alive one kept))
+  -- so it is of one id more
+  pub next-wanted : (ids : List ℕ) (id : ℕ) (found : Option D) (before after : Keeping D G) → option_map part_of found ≡ want id → Steps id found before after → AreWanted part_of want ids before → AreWanted part_of want (ids ++ id ∷ []) after
+  next-wanted ids id None before after none same are = subst (AreWanted part_of want (ids ++ id ∷ [])) (sym same) (record {
+    sound = are.sound;
+    each = All-push (IsWanted part_of want before) ids id are.each (nothing-wanted before are.sound id none);
+  })
+  next-wanted ids id (Some datum) before after wanted enters are = entered-wanted id datum before after enters wanted ids are
 
-  -- ---- the scene that is kept
+  -- and of every id, where nothing is wanted of others
+  pub all-wanted : (ids : List ℕ) (kept : Keeping D G) → AreWanted part_of want ids kept → ((id : ℕ) → IsSome (want id) → IsAmong ids id) → (id : ℕ) → IsWanted part_of want kept id
+  all-wanted ids kept are others id = by (want id) refl
+    where
+      by : (o : Option X) → want id ≡ o → IsWanted part_of want kept id
+      by None none = nothing-wanted kept are.sound id (sym none)
+      by (Some x) some = one-of (IsWanted part_of want kept) ids id are.each (others id (ap is_some some))
 
-  module _ (entities : List LifeAt) (kept : Keeping (Vec (Option D)) G) (living_all : AreLiving (roll_of kinds w).births entities) (all : AreKept kinds part_of w names entities kept) where
-    -- of each id that is somebody's
-    kept-there : (id index : ℕ) → index_of (roll_of kinds w) id ≡ Some index → IsKeptOf kinds part_of w names index (kept_at kept id)
-    kept-there id index at =
-        let roll : Roll = roll_of kinds w in
-        let here : id_at roll index ≡ Some id = id-at-index roll id index at in
-        let life = some-of (living roll.births index) (id-lives roll id index here) in
-        let entity : LifeAt = record { id = index; generation = life.0 } in
-        let found = any-holds (IsKept kept) index entities all.each (living_all.all entity life.1) in
-        subst (λ at. IsKeptOf kinds part_of w names at (kept_at kept id)) found.1 (found.2 id (ap (id_at roll) found.1 ∙ here))
+      one-of : (P : ℕ → Type 0) (ids : List ℕ) (id : ℕ) → All P ids → IsAmong ids id → P id
+      one-of P [] id each some = absurd (false≢true some)
+      one-of P (one ∷ ids) id each some = choose (eqb id one) refl some
+        where
+          choose : (b : Bool) → eqb id one ≡ b → (b || list_any (eqb id) ids) ≡ true → P id
+          choose true same some = subst P (sym (eqb-true id one same)) (All-head P one ids each)
+          choose false apart some = one-of P ids id (All-tail P one ids each) some
 
-    -- and of no other
-    kept-none : (id : ℕ) → index_of (roll_of kinds w) id ≡ None → kept_at kept id ≡ None
-    kept-none id none = by (kept_at kept id) refl
-      where
-        by : (o : Option (Vec (Option D))) → kept_at kept id ≡ o → o ≡ None
-        by None is = refl
-        by (Some values) is = absurd (false≢true (sym (ap is_some none) ∙ all.only id (ap is_some is)))
+-- ---- columns
 
-    there-as : (id : ℕ) (found : Option ℕ) → index_of (roll_of kinds w) id ≡ found → is_some (kept_at kept id) ≡ is_some found
-    there-as id None none = ap is_some (kept-none id none)
-    there-as id (Some index) at = by (kept_at kept id) (kept-there id index at)
-      where
-        by : (o : Option (Vec (Option D))) → IsKeptOf kinds part_of w names index o → is_some o ≡ true
-        by None is = absurd is
-        by (Some values) is = refl
+module _ {V D : Type 0} (kinds : Kinds V) (part_of : D → Part) (w : Sight V) where
+  -- the parts at the indices of who lives are those under their ids
+  parts-known : IsRoll (roll_of kinds w) → (kind : Name) (pairs : List (ℕ × ℕ)) → All (λ pair. id_at (roll_of kinds w) pair.1 ≡ Some pair.0) pairs
+      → map (λ pair. part_at kinds w pair.1 kind) pairs ≡ map (λ pair. part_in (roll_of kinds w) (column_of kinds w kind) pair.0) pairs
+  parts-known is kind [] each = refl
+  parts-known is kind (pair ∷ pairs) each =
+      let at : index_of (roll_of kinds w) pair.0 ≡ Some pair.1 = index-of-id (roll_of kinds w) is pair.0 pair.1 (All-head (λ pair. id_at (roll_of kinds w) pair.1 ≡ Some pair.0) pair pairs each) in
+      let one : part_at kinds w pair.1 kind ≡ part_in (roll_of kinds w) (column_of kinds w kind) pair.0 = sym (ap (option_and_then (λ index. part_at kinds w index kind)) at) in
+      let others = parts-known is kind pairs (All-tail (λ pair. id_at (roll_of kinds w) pair.1 ≡ Some pair.0) pair pairs each) in
+      ap (λ first. first ∷ map (λ pair. part_at kinds w pair.1 kind) pairs) one ∙ ap (λ rest. part_in (roll_of kinds w) (column_of kinds w kind) pair.0 ∷ rest) others
 
-    -- the ids are those of the scene
-    pub kept-ids : finite.keys kept.entries ≡ ids_in (roll_of kinds w)
-    kept-ids =
-        same-ids (finite.keys kept.entries) (ids_in (roll_of kinds w)) (keys-ascend kept.entries) (ids-ascend (roll_of kinds w))
-        (λ id. keys-there kept.entries id ∙ there-as id (index_of (roll_of kinds w) id) refl ∙ sym (lives-index (roll_of kinds w) id))
+  -- so the data at these indices are what is wanted of the ids
+  pub data-wanted : IsRoll (roll_of kinds w) → (kind : Name) (pairs : List (ℕ × ℕ)) (data : List (Option D)) → ArePairs (roll_of kinds w) pairs → AreOfPairs kinds part_of w kind pairs data
+      → map (option_map part_of) data ≡ map (λ pair. part_in (roll_of kinds w) (column_of kinds w kind) pair.0) pairs
+  data-wanted is kind pairs data are of = of ∙ parts-known is kind pairs are.each
 
-    -- and so are the parts
-    pub kept-parts : (id : ℕ) (kind : Name) → option_and_then (λ values. option_map part_of (option_and_then (λ place. filled (slice_get values.items place)) (place_of kind names))) (kept_at kept id)
-        ≡ cond (is_among kind names) (part_in (roll_of kinds w) (column_of kinds w kind) id) None
-    kept-parts id kind = by (index_of (roll_of kinds w) id) refl
-      where
-        shown : Vec (Option D) → Option Part
-        shown values = option_map part_of (option_and_then (λ place. filled (slice_get values.items place)) (place_of kind names))
+  -- and nothing is wanted of others
+  pub others-unwanted : IsRoll (roll_of kinds w) → (kind : Name) (pairs : List (ℕ × ℕ)) → ArePairs (roll_of kinds w) pairs → (id : ℕ) → IsSome (part_in (roll_of kinds w) (column_of kinds w kind) id) → IsAmong (map (λ pair. pair.0) pairs) id
+  others-unwanted is kind pairs are id some = known-among (roll_of kinds w) is pairs are id (by (index_of (roll_of kinds w) id) some)
+    where
+      by : (o : Option ℕ) → IsSome (option_and_then (λ index. part_at kinds w index kind) o) → IsSome o
+      by None none = none
+      by (Some index) there = refl
 
-        nothing : (b : Bool) → ◌≡◌ {A = Option Part} None (cond b None None)
-        nothing true = refl
-        nothing false = refl
+  -- where nothing stands for a kind, nothing is kept
+  pub bare-column : (kind : Name) (column : Keeping D Unit) → w (kinds.part_id kind) ≡ None → column.entries ≡ finite.empty → IsColumnOf kinds part_of w kind column
+  bare-column kind column none empty id =
+      ap (λ m. option_map part_of (finite.get m id)) empty ∙ ap (option_map part_of) (finite.get-empty nat_cmp id) ∙ by (index_of (roll_of kinds w) id)
+    where
+      by : (o : Option ℕ) → ◌≡◌ {A = Option Part} None (option_and_then (λ index. part_at kinds w index kind) o)
+      by None = refl
+      by (Some index) = sym (ap (λ held. option_map (part_under (ref_to (roll_of kinds w))) (option_and_then (λ v. kinds.stored kind v index) held)) none)
 
-        there : (index : ℕ) (o : Option (Vec (Option D))) → IsKeptOf kinds part_of w names index o → option_and_then shown o ≡ cond (is_among kind names) (part_at kinds w index kind) None
-        there index None is = absurd is
-        there index (Some values) is = by-name part_of (part_at kinds w index) names values.items is kind
+  -- data that were read at once, of parts that name nobody, are the parts
+  pub read-at-once : (kind : Name) (value : V) → Some value ≡ w (kinds.part_id kind) → (pairs : List (ℕ × ℕ)) (data : List (Option D)) → AreReadAt part_of (kinds.stored kind value) pairs data → AreOfPairs kinds part_of w kind pairs data
+  read-at-once kind value there pairs data are = are.read ∙ by pairs
+    where
+      one : (index : ℕ) → option_map (part_read []) (kinds.stored kind value index) ≡ part_at kinds w index kind
+      one index =
+          read-part (roll_of kinds w) (kinds.stored kind value index) [] (ap (map (λ entity. (roll_of kinds w).marker entity.id)) (are.nobody index))
+          (λ some is. subst (λ named. All (RefLives (ids_in (roll_of kinds w))) (map (ref_to (roll_of kinds w)) named)) (sym (are.nobody index) ∙ ap named_in is) (All-nil (RefLives (ids_in (roll_of kinds w)))))
+          ∙ ap (λ held. option_map (part_under (ref_to (roll_of kinds w))) (option_and_then (λ v. kinds.stored kind v index) held)) there
 
-        by : (found : Option ℕ) → index_of (roll_of kinds w) id ≡ found → option_and_then shown (kept_at kept id) ≡ cond (is_among kind names) (option_and_then (λ index. option_map (part_under (ref_to (roll_of kinds w))) (column_of kinds w kind index)) (index_of (roll_of kinds w) id)) None
-        by None none =
-            ap (option_and_then shown) (kept-none id none) ∙ nothing (is_among kind names)
-            ∙ ap (λ found. cond (is_among kind names) (option_and_then (λ index. option_map (part_under (ref_to (roll_of kinds w))) (column_of kinds w kind index)) found) None) (sym none)
-        by (Some index) at =
-            there index (kept_at kept id) (kept-there id index at)
-            ∙ ap (λ found. cond (is_among kind names) (option_and_then (λ index. option_map (part_under (ref_to (roll_of kinds w))) (column_of kinds w kind index)) found) None) (sym at)
+      by : (pairs : List (ℕ × ℕ)) → map (λ pair. option_map (part_read []) (kinds.stored kind value pair.1)) pairs ≡ map (λ pair. part_at kinds w pair.1 kind) pairs
+      by [] = refl
+      by (pair ∷ pairs) = ap (λ first. first ∷ map (λ pair. option_map (part_read []) (kinds.stored kind value pair.1)) pairs) (one pair.1) ∙ ap (λ rest. part_at kinds w pair.1 kind ∷ rest) (by pairs)
+
+  -- a column more
+  pub more-columns : (names : List Name) (columns : List (Keeping D Unit)) (kind : Name) (column : Keeping D Unit) → AreColumnsOf kinds part_of w names columns → IsColumnOf kinds part_of w kind column
+      → AreColumnsOf kinds part_of w (names ++ kind ∷ []) (columns ++ column ∷ [])
+  more-columns [] [] kind column are one = (one, tt)
+  more-columns [] (other ∷ columns) kind column are one = absurd are
+  more-columns (name ∷ names) [] kind column are one = absurd are
+  more-columns (name ∷ names) (other ∷ columns) kind column are one = (are.0, more-columns names columns kind column are.1 one)
+
+  -- what is kept in the column at a place is the part under its kind
+  column-at : (names : List Name) (columns : List (Keeping D Unit)) (place id : ℕ) → AreColumnsOf kinds part_of w names columns → place < length names
+      → option_map part_of (kept_datum columns id place) ≡ part_in (roll_of kinds w) (column_of kinds w (name_at names place)) id
+  column-at [] columns place id are below = absurd (omega arith)
+  column-at (name ∷ names) [] place id are below = absurd are
+  column-at (name ∷ names) (column ∷ columns) zero id are below = are.0 id
+  column-at (name ∷ names) (column ∷ columns) (suc place) id are below = column-at names columns place id are.1 (omega arith)
+
+  -- so the parts are those of the scene
+  kept-parts : (book : Book) (columns : List (Keeping D Unit)) → AreColumnsOf kinds part_of w book.part_names columns → (id : ℕ) (kind : Name)
+      → kept_part part_of book columns id kind ≡ cond (is_among kind book.part_names) (part_in (roll_of kinds w) (column_of kinds w kind) id) None
+  kept-parts book columns are id kind = by (place_of kind book.part_names) refl
+    where
+      read : Name → Option Part
+      read kind = part_in (roll_of kinds w) (column_of kinds w kind) id
+
+      by : (place : Option ℕ) → place_of kind book.part_names ≡ place → option_map part_of (option_and_then (kept_datum columns id) place) ≡ cond (is_among kind book.part_names) (read kind) None
+      by None is = ap (λ b. cond b (read kind) None) (sym (ap is_some is) ∙ is_some-place_of kind book.part_names)
+      by (Some place) is =
+          column-at book.part_names columns place id are (place_of-bound kind place book.part_names is) ∙ ap read (place_of-name kind place book.part_names is)
+          ∙ ap (λ b. cond b (read kind) None) (sym (ap is_some is) ∙ is_some-place_of kind book.part_names)
+
+-- the ids are those of the scene
+kept-ids : {G : Type 0} (roll : Roll) (kept : Keeping Unit G) → HasIdsOf roll kept → finite.keys kept.entries ≡ ids_in roll
+kept-ids roll kept has =
+    same-ids (finite.keys kept.entries) (ids_in roll) (keys-ascend kept.entries) (ids-ascend roll)
+    (λ id. keys-there kept.entries id ∙ has id ∙ sym (lives-index roll id))
+
+-- where something is kept of each id of who lives, and of no other, the ids are those
+pub has-ids : {G : Type 0} (roll : Roll) (kept : Keeping Unit G) → ((id : ℕ) → IsWanted (λ (u : Unit). u) (λ id. option_map (λ _. tt) (index_of roll id)) kept id) → HasIdsOf roll kept
+has-ids roll kept wanted id = sym (some-map (λ (u : Unit). u) (kept_at kept id)) ∙ ap is_some (wanted id) ∙ some-map (λ (index : ℕ). tt) (index_of roll id)
+  where
+    some-map : {A B : Type 0} (f : A → B) (o : Option A) → is_some (option_map f o) ≡ is_some o
+    some-map f None = refl
+    some-map f (Some a) = refl
 
 -- what is kept is the scene that is seen, where its next id, its entities and its globals are
 pub keeps-scene : {V D G : Type 0} (kinds : Kinds V) (part_of : D → Part) (global_of : G → Json) (book : Book) (w : Sight V) → kinds.part_names ≡ book.part_names → kinds.global_names ≡ book.global_names
-    → (entities : List LifeAt) (kept : Keeping (Vec (Option D)) (Vec (Option G))) → AreLiving (roll_of kinds w).births entities → AreKept kinds part_of w book.part_names entities kept → kept.next ≡ (roll_of kinds w).noting.next
-    → (globals : Vec (Option G)) (listed : List Name) → kept.globals ≡ globals → listed ≡ book.global_names → map (option_map global_of) globals.items ≡ map (value_of kinds w) listed
-    → kept_scene part_of global_of (λ list place. filled (slice_get list.items place)) (λ list place. filled (slice_get list.items place)) book kept ≡ plain_of kinds w
-keeps-scene kinds part_of global_of book w parts_named globals_named entities kept living_all all next globals listed held known read =
-    kept-scene-is part_of global_of (λ list place. filled (slice_get list.items place)) (λ list place. filled (slice_get list.items place)) book kept (plain_of kinds w) next
-    (kept-ids kinds part_of w book.part_names entities kept living_all all)
+    → (kept : KeptScene D (Vec (Option G))) → HasIdsOf (roll_of kinds w) kept.living → AreColumnsOf kinds part_of w book.part_names kept.columns.items → kept.living.next ≡ (roll_of kinds w).noting.next
+    → (globals : Vec (Option G)) (listed : List Name) → kept.living.globals ≡ globals → listed ≡ book.global_names → map (option_map global_of) globals.items ≡ map (value_of kinds w) listed
+    → kept_scene part_of global_of (λ list place. filled (slice_get list.items place)) book kept ≡ plain_of kinds w
+keeps-scene kinds part_of global_of book w parts_named globals_named kept ids columns next globals listed held known read =
+    kept-scene-is part_of global_of (λ list place. filled (slice_get list.items place)) book kept (plain_of kinds w) next
+    (kept-ids (roll_of kinds w) kept.living ids)
     (λ id kind.
-    kept-parts kinds part_of w book.part_names entities kept living_all all id kind
+    kept-parts kinds part_of w book kept.columns.items columns id kind
     ∙ ap (λ names. cond (is_among kind names) (part_in (roll_of kinds w) (column_of kinds w kind) id) None) (sym parts_named))
     (λ name.
     ap (λ list. option_map global_of (option_and_then (λ place. filled (slice_get list.items place)) (place_of name book.global_names))) held

@@ -36,15 +36,15 @@ pub record ArePairs (roll : Roll) (pairs : List (ℕ × ℕ)) : Type 0 where
 abbrev pub HasIdsOf : {G : Type 0} → Roll → Keeping Unit G → Type 0
 HasIdsOf roll kept = (id : ℕ) → is_some (kept_at kept id) ≡ is_some (index_of roll id)
 
-module _ {D : Type 0} (part_of : D → Part) where
+module _ {D G X : Type 0} (part_of : D → X) (want : ℕ → Option X) where
   -- what is kept of an id is wanted of it
-  abbrev pub IsWanted : (ℕ → Option Part) → Keeping D Unit → ℕ → Type 0
-  IsWanted want column id = option_map part_of (kept_at column id) ≡ want id
+  abbrev pub IsWanted : Keeping D G → ℕ → Type 0
+  IsWanted kept id = option_map part_of (kept_at kept id) ≡ want id
 
   -- what is wanted of each of some ids is kept, and nothing that isn't wanted
-  pub record AreWanted (want : ℕ → Option Part) (ids : List ℕ) (column : Keeping D Unit) : Type 0 where
-    pub sound : (id : ℕ) → IsSome (kept_at column id) → IsWanted want column id
-    pub each : All (IsWanted want column) ids
+  pub record AreWanted (ids : List ℕ) (kept : Keeping D G) : Type 0 where
+    pub sound : (id : ℕ) → IsSome (kept_at kept id) → IsWanted kept id
+    pub each : All (IsWanted kept) ids
 
 -- where data are what is wanted of the ids beside which they stand, and nothing is wanted of others, they are kept
 abbrev pub IsFilledBy : {D : Type 0} → List (ℕ × ℕ) → List (Option D) → Keeping D Unit → Type 0

@@ -8,6 +8,7 @@ ghost use Rattle.scene_turns.specs.Places.{kinds_of};
 ghost use Rattle.scene_acts.specs.Acts.{seen_of};
 ghost use Rattle.scene_keeping.specs.Taken.{AreMarkersOf, ArePairs, AreMarkedBy, AreOfPairs, part_at};
 
+use hibitset::BitSetLike;
 use scene_acts::id_marked;
 use scene_stores::SceneMarker;
 use scene_turns::{Rules, SceneValue};

@@ -47,19 +47,20 @@ module _ {P : Type 0} where
       ap ids-in (take_more slots k d below) ∙ ap (map (λ entry. entry.0)) (present-append (take k slots) (get_or slots k d ∷ [])) ∙ map-append (λ entry. entry.0) (present (take k slots)) (present (get_or slots k d ∷ []))
 
   -- a slot with something in it adds an entity,
-  pub entities-added : (entity : ℕ → Json) (slots : List (ℕ × Option P)) (k : ℕ) (item : ℕ × Option P) (parts : P) (before after : List Json) → k < length slots → item ≡ get_or slots k item → item.1 ≡ Some parts
-      → before ≡ map entity (ids-in (take k slots)) → after ≡ before ++ entity item.0 ∷ [] → after ≡ map entity (ids-in (take (k + 1) slots))
-  entities-added entity slots k item parts before after below is some was then =
-      let one : ids-in (get_or slots k item ∷ []) ≡ item.0 ∷ [] = ap (λ slot. ids-in (slot ∷ [])) (sym is) ∙ ap (λ x. ids-in ((item.0, x) ∷ [])) some in
-      let ids : ids-in (take (k + 1) slots) ≡ ids-in (take k slots) ++ item.0 ∷ [] = ids-more slots k item below ∙ ap (λ rest. ids-in (take k slots) ++ rest) one in
-      then ∙ ap (λ first. first ++ entity item.0 ∷ []) was ∙ sym (ap (map entity) ids ∙ map-append entity (ids-in (take k slots)) (item.0 ∷ []))
+  pub entities-added : (entity : ℕ → Json) (slots : List (ℕ × Option P)) (k : ℕ) (d : ℕ × Option P) (parts : P) (before after : List Json) → k < length slots → (get_or slots k d).1 ≡ Some parts
+      → before ≡ map entity (ids-in (take k slots)) → after ≡ before ++ entity (get_or slots k d).0 ∷ [] → after ≡ map entity (ids-in (take (k + 1) slots))
+  entities-added entity slots k d parts before after below some was then =
+      let id : ℕ = (get_or slots k d).0 in
+      let one : ids-in (get_or slots k d ∷ []) ≡ id ∷ [] = ap (λ x. ids-in ((id, x) ∷ [])) some in
+      let ids : ids-in (take (k + 1) slots) ≡ ids-in (take k slots) ++ id ∷ [] = ids-more slots k d below ∙ ap (λ rest. ids-in (take k slots) ++ rest) one in
+      then ∙ ap (λ first. first ++ entity id ∷ []) was ∙ sym (ap (map entity) ids ∙ map-append entity (ids-in (take k slots)) (id ∷ []))
 
   -- and an empty one adds none
-  pub entities-skipped : (entity : ℕ → Json) (slots : List (ℕ × Option P)) (k : ℕ) (item : ℕ × Option P) (before after : List Json) → k < length slots → item ≡ get_or slots k item → item.1 ≡ None
+  pub entities-skipped : (entity : ℕ → Json) (slots : List (ℕ × Option P)) (k : ℕ) (d : ℕ × Option P) (before after : List Json) → k < length slots → (get_or slots k d).1 ≡ None
       → before ≡ map entity (ids-in (take k slots)) → after ≡ before → after ≡ map entity (ids-in (take (k + 1) slots))
-  entities-skipped entity slots k item before after below is none was then =
-      let one : ids-in (get_or slots k item ∷ []) ≡ [] = ap (λ slot. ids-in (slot ∷ [])) (sym is) ∙ ap (λ x. ids-in ((item.0, x) ∷ [])) none in
-      let ids : ids-in (take (k + 1) slots) ≡ ids-in (take k slots) = ids-more slots k item below ∙ ap (λ rest. ids-in (take k slots) ++ rest) one ∙ append-nil (ids-in (take k slots)) in
+  entities-skipped entity slots k d before after below none was then =
+      let one : ids-in (get_or slots k d ∷ []) ≡ [] = ap (λ x. ids-in (((get_or slots k d).0, x) ∷ [])) none in
+      let ids : ids-in (take (k + 1) slots) ≡ ids-in (take k slots) = ids-more slots k d below ∙ ap (λ rest. ids-in (take k slots) ++ rest) one ∙ append-nil (ids-in (take k slots)) in
       then ∙ was ∙ sym (ap (map entity) ids)
 
 module _ {D G V : Type 0} (part_of : D → Part) (global_of : G → Json) (value_at : V → ℕ → Option G) (book : Book) (kept : KeptScene D V) where

@@ -1,7 +1,7 @@
 //! Texts of scenes that are kept.
 use scene_basics::Basics;
 use scene_basics::data::Datum;
-use scene_kept::Kept;
+use scene_kept::{Kept, KeptScene};
 use scene_snapshot::kept_text;
 use std::alloc::{AllocError, Global};
 
@@ -64,23 +64,56 @@ const ROWS: [Row; 3] = [
     },
 ];
 
-/// The parts as a list.
-fn listed(alloc: Global, parts: Parts) -> Result<Vec<Option<Datum>>, AllocError> {
-    Vec::from_slice(alloc, parts)
+/// So many empty columns.
+fn columns(alloc: Global, count: usize) -> Result<Vec<Kept<Datum, ()>>, AllocError> {
+    let mut columns = Vec::new(alloc);
+    for _ in 0..count {
+        columns.push(Kept::new(alloc, 0, ()))?;
+    }
+    Ok(columns)
+}
+
+/// Enters an id, where it isn't there.
+fn enter<P: Drop, G>(kept: &mut Kept<P, G>, id: u64, parts: P) -> Result<(), AllocError> {
+    match kept.enter(id, parts) {
+        Ok(_) => Ok(()),
+        Err(_) => Err(AllocError),
+    }
+}
+
+/// Enters these parts of an entity, each in its column, and leaves the others out.
+fn change_parts(
+    columns: &mut [Kept<Datum, ()>],
+    id: u64,
+    parts: Parts,
+) -> Result<(), AllocError> {
+    for (column, part) in columns.iter_mut().zip(parts) {
+        match part {
+            Some(datum) => enter(column, id, *datum)?,
+            None => {
+                let _ = column.leave_out(id);
+            }
+        }
+    }
+    Ok(())
 }
 
 /// The text after the changes of a row.
 fn text_after(alloc: Global, row: &Row) -> Result<Vec<u8>, AllocError> {
     let globals = Vec::from_slice(alloc, &[row.g])?;
-    let mut kept = Kept::new(alloc, row.next, globals);
+    let mut kept = KeptScene {
+        living: Kept::new(alloc, row.next, globals),
+        columns: columns(alloc, NO_PARTS.len())?,
+    };
     for (id, change) in row.changes {
         match change {
-            Some(parts) => match kept.enter(*id, listed(alloc, *parts)?) {
-                Ok(_) => {}
-                Err(_) => return Err(AllocError),
-            },
+            Some(parts) => {
+                enter(&mut kept.living, *id, ())?;
+                change_parts(&mut kept.columns, *id, *parts)?;
+            }
             None => {
-                let _ = kept.leave_out(*id);
+                let _ = kept.living.leave_out(*id);
+                change_parts(&mut kept.columns, *id, NO_PARTS)?;
             }
         }
     }

@@ -1,5 +1,5 @@
 //! The rules of a scene, whose systems run over a world of entities.
-ghost use Rattle.std.specs.Prelude.{◌≡◌, ◌<◌, ◌++◌, [], length, map, Some, None, IfOk, OnOk, OnErr, IfSome, IsTrue, option_copied, option_map};
+ghost use Rattle.std.specs.Prelude.{◌≡◌, ◌<◌, ◌++◌, ℕ, true, [], length, map, Some, None, IfOk, OnOk, OnErr, IfSome, IsTrue, option_copied, option_map};
 ghost use Rattle.shred_stages.specs.Views.{Leaves, error_of};
 ghost use Rattle.scene_rules.specs.Parts.{living, is_among};
 
@@ -106,6 +106,14 @@ pub trait Rules: DocumentRules {
         requires as_many { length ids.now ≡ length (named_in (columns.stored kind.now value.now index)) }
         ensures { IfOk result (λ datum. option_map Self.part_of datum
             ≡ option_map (part_read ids.now) (columns.stored kind.now value.now index)) };
+
+    /// Whether no part of a kind refers to an entity, as far as the rules can tell at once: so nobody has to look for gone
+    /// references there. They can't by default.
+    fn names_nobody(_value: &Self::Value, _kind: &str) -> bool
+        ensures { result ≡ true → (index : ℕ) → named_in (columns.stored _kind.now _value.now index) ≡ [] }
+    {
+        false
+    }
 
     /// The parts at the indices of these entities, each of which stands behind the id of its entity, where no part of the kind
     /// can refer to an entity: so a whole column is read by one call. None by default, and of a kind whose parts may refer.

@@ -6,6 +6,6 @@ use Rattle.scene_snapshot.proofs.KeptTextLemmas.{ids-in}
 use Rattle.scene_snapshot.proofs.text.entity_values.Given as goal
 
 -- the entities of the slots so far
-abbrev pub invariant-loop-id : goal.invariant-loop-id
-invariant-loop-id g l =
-    map view l.values.items ≡ map (entity_json (g.R.DocumentRules.book l.rules) (kept_scene g.R.DocumentRules.part_of g.R.DocumentRules.global_of g.V.ByPlace.at_place (g.R.DocumentRules.book l.rules) l.kept)) (ids-in (take l.id-index l.slots))
+abbrev pub invariant-loop-row : goal.invariant-loop-row
+invariant-loop-row g l =
+    map view l.values.items ≡ map (entity_json (g.R.DocumentRules.book l.rules) (kept_scene g.R.DocumentRules.part_of g.R.DocumentRules.global_of g.V.ByPlace.at_place (g.R.DocumentRules.book l.rules) l.kept)) (ids-in (take l.row l.slots))
