@@ -15,10 +15,10 @@ ghost use Rattle.scene_frames.specs.Waiting.{NoneWaits};
 ghost use Rattle.scene.specs.Limits.{AreLimits};
 ghost use Rattle.scene.specs.Running.{IsUnrefused, course_of, listed_scene};
 
-use scene_kept::KeptScene;
 use scene_document::{Limits, commands_of};
 use scene_draft::DocumentDraft;
 use scene_keeping::keep_scene;
+use scene_kept::KeptScene;
 use scene_loading::load_world;
 use scene_rules::Command;
 use scene_staging::{open_queues, stage_systems};

@@ -148,11 +148,7 @@ fn indices_asking(
 /// The ids for which something may be asked, in order: all that is asked for is asked for one of these.
 ///
 /// Errors: want of memory.
-fn ids_asking<W: Holder<Value>>(
-    alloc: Global,
-    view: &W,
-    ask: Ask,
-) -> Result<Vec<u64>, AllocError>
+fn ids_asking<W: Holder<Value>>(alloc: Global, view: &W, ask: Ask) -> Result<Vec<u64>, AllocError>
     ensures { IfOk result (λ ids. filter_map (asked_for ask (lent_for ask (W.slots view.now))) ids.items
         ≡ asked_of ask (lent_for ask (W.slots view.now))) }
 {

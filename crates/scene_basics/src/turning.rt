@@ -9,8 +9,8 @@ ghost use Rattle.scene_basics.specs.WorldLaws.{law-of_book};
 use crate::adding::{add_to, global_of};
 use crate::asking::ask_all;
 use crate::columns::{
-    nothing_each, number_datum, numbers_each, owner_datum, part_id, push_owner, put_number, put_owner, register_all,
-    take_number, take_owner,
+    nothing_each, number_datum, numbers_each, owner_datum, part_id, push_owner, put_number,
+    put_owner, register_all, take_number, take_owner,
 };
 use crate::data::{Ask, BasicSystem, Datum, Gain, HP, OWNER, POS, VEL};
 use crate::rules::Basics;

@@ -152,7 +152,13 @@ fn globals_map<R: DocumentRules, V: ByPlace<R::Global>>(
     let mut map = Map::new(alloc);
     let names = rules.global_names();
     for (place, name) in names.iter().enumerate() {
-        put_global(alloc, rules, &mut map, name, kept.living.globals().at(place))?;
+        put_global(
+            alloc,
+            rules,
+            &mut map,
+            name,
+            kept.living.globals().at(place),
+        )?;
     }
     Ok(map)
 }

@@ -82,11 +82,7 @@ fn enter<P: Drop, G>(kept: &mut Kept<P, G>, id: u64, parts: P) -> Result<(), All
 }
 
 /// Enters these parts of an entity, each in its column, and leaves the others out.
-fn change_parts(
-    columns: &mut [Kept<Datum, ()>],
-    id: u64,
-    parts: Parts,
-) -> Result<(), AllocError> {
+fn change_parts(columns: &mut [Kept<Datum, ()>], id: u64, parts: Parts) -> Result<(), AllocError> {
     for (column, part) in columns.iter_mut().zip(parts) {
         match part {
             Some(datum) => enter(column, id, *datum)?,
