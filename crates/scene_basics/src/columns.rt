@@ -193,14 +193,14 @@ pub(crate) fn numbers_each(
     entities: &[(u64, u32)],
     alloc: Global,
 ) -> Result<Vec<Option<Datum>>, AllocError>
-    ensures { IfOk result (λ data. data.items
+    ensures { IfOk result (λ found. found.items
         ≡ map (λ entity. option_map (λ whole. DatumWhole whole.0) (whole_at numbers.now entity.1)) entities.now) }
 {
-    let mut data = Vec::with_capacity(alloc, entities.len())?;
+    let mut found = Vec::with_capacity(alloc, entities.len())?;
     for entity in entities {
-        data.push(number_at(numbers, entity.1))?;
+        found.push(number_at(numbers, entity.1))?;
     }
-    Ok(data)
+    Ok(found)
 }
 
 /// Nothing for each of these entities. Errors: want of memory.
@@ -208,11 +208,11 @@ pub(crate) fn nothing_each(
     entities: &[(u64, u32)],
     alloc: Global,
 ) -> Result<Vec<Option<Datum>>, AllocError>
-    ensures { IfOk result (λ data. data.items ≡ map (λ _. None) entities.now) }
+    ensures { IfOk result (λ found. found.items ≡ map (λ _. None) entities.now) }
 {
-    let mut data = Vec::with_capacity(alloc, entities.len())?;
+    let mut found = Vec::with_capacity(alloc, entities.len())?;
     for _ in entities {
-        data.push(None)?;
+        found.push(None)?;
     }
-    Ok(data)
+    Ok(found)
 }

@@ -228,9 +228,9 @@ module _ {V D : Type 0} (kinds : Kinds V) (part_of : D → Part) (w : Sight V) w
       ap (λ first. first ∷ map (λ pair. part_at kinds w pair.1 kind) pairs) one ∙ ap (λ rest. part_in (roll_of kinds w) (column_of kinds w kind) pair.0 ∷ rest) others
 
   -- so the data at these indices are what is wanted of the ids
-  pub data-wanted : IsRoll (roll_of kinds w) → (kind : Name) (pairs : List (ℕ × ℕ)) (data : List (Option D)) → ArePairs (roll_of kinds w) pairs → AreOfPairs kinds part_of w kind pairs data
-      → map (option_map part_of) data ≡ map (λ pair. part_in (roll_of kinds w) (column_of kinds w kind) pair.0) pairs
-  data-wanted is kind pairs data are of = of ∙ parts-known is kind pairs are.each
+  pub data-wanted : IsRoll (roll_of kinds w) → (kind : Name) (pairs : List (ℕ × ℕ)) (found : List (Option D)) → ArePairs (roll_of kinds w) pairs → AreOfPairs kinds part_of w kind pairs found
+      → map (option_map part_of) found ≡ map (λ pair. part_in (roll_of kinds w) (column_of kinds w kind) pair.0) pairs
+  data-wanted is kind pairs found are of = of ∙ parts-known is kind pairs are.each
 
   -- and nothing is wanted of others
   pub others-unwanted : IsRoll (roll_of kinds w) → (kind : Name) (pairs : List (ℕ × ℕ)) → ArePairs (roll_of kinds w) pairs → (id : ℕ) → IsSome (part_in (roll_of kinds w) (column_of kinds w kind) id) → IsAmong (map (λ pair. pair.0) pairs) id
@@ -250,8 +250,8 @@ module _ {V D : Type 0} (kinds : Kinds V) (part_of : D → Part) (w : Sight V) w
       by (Some index) = sym (ap (λ held. option_map (part_under (ref_to (roll_of kinds w))) (option_and_then (λ v. kinds.stored kind v index) held)) none)
 
   -- data that were read at once, of parts that name nobody, are the parts
-  pub read-at-once : (kind : Name) (value : V) → Some value ≡ w (kinds.part_id kind) → (pairs : List (ℕ × ℕ)) (data : List (Option D)) → AreReadAt part_of (kinds.stored kind value) pairs data → AreOfPairs kinds part_of w kind pairs data
-  read-at-once kind value there pairs data are = are.read ∙ by pairs
+  pub read-at-once : (kind : Name) (value : V) → Some value ≡ w (kinds.part_id kind) → (pairs : List (ℕ × ℕ)) (found : List (Option D)) → AreReadAt part_of (kinds.stored kind value) pairs found → AreOfPairs kinds part_of w kind pairs found
+  read-at-once kind value there pairs found are = are.read ∙ by pairs
     where
       one : (index : ℕ) → option_map (part_read []) (kinds.stored kind value index) ≡ part_at kinds w index kind
       one index =

@@ -48,7 +48,7 @@ module _ {D G X : Type 0} (part_of : D → X) (want : ℕ → Option X) where
 
 -- where data are what is wanted of the ids beside which they stand, and nothing is wanted of others, they are kept
 abbrev pub IsFilledBy : {D : Type 0} → List (ℕ × ℕ) → List (Option D) → Keeping D Unit → Type 0
-IsFilledBy {D} pairs data column = (part_of : D → Part) (want : ℕ → Option Part) → map (option_map part_of) data ≡ map (λ pair. want pair.0) pairs → ((id : ℕ) → IsSome (want id) → IsAmong (map (λ pair. pair.0) pairs) id) → (id : ℕ) → IsWanted part_of want column id
+IsFilledBy {D} pairs found column = (part_of : D → Part) (want : ℕ → Option Part) → map (option_map part_of) found ≡ map (λ pair. want pair.0) pairs → ((id : ℕ) → IsSome (want id) → IsAmong (map (λ pair. pair.0) pairs) id) → (id : ℕ) → IsWanted part_of want column id
 
 -- the part of a kind at an index, where each entity that it names is a reference to its id
 abbrev pub part_at : {V : Type 0} → Kinds V → Sight V → ℕ → Name → Option Part
@@ -57,7 +57,7 @@ part_at kinds w index kind = option_map (part_under (ref_to (roll_of kinds w))) 
 module _ {V D : Type 0} (kinds : Kinds V) (part_of : D → Part) (w : Sight V) where
   -- these are the data of a kind at the indices of pairs
   abbrev pub AreOfPairs : Name → List (ℕ × ℕ) → List (Option D) → Type 0
-  AreOfPairs kind pairs data = map (option_map part_of) data ≡ map (λ pair. part_at kinds w pair.1 kind) pairs
+  AreOfPairs kind pairs found = map (option_map part_of) found ≡ map (λ pair. part_at kinds w pair.1 kind) pairs
 
   -- the column of a kind is kept
   abbrev pub IsColumnOf : Name → Keeping D Unit → Type 0

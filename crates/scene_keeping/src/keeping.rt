@@ -110,24 +110,24 @@ fn keep_column<R: Rules>(
     let Some(value) = world.get_raw(R::part_id(kind)) else {
         return Ok(Kept::new(alloc, 0, ()));
     };
-    let data = match R::get_each(value, kind, pairs, alloc)? {
-        Some(data) => data,
+    let found = match R::get_each(value, kind, pairs, alloc)? {
+        Some(found) => found,
         None => data_at(rules, world, kind, value, pairs, alloc)?,
     };
-    column_of(pairs, data, alloc)
+    column_of(pairs, found, alloc)
 }
 
 /// A column in which each of these data that is there stands under the id at its place. Errors: want of memory.
 fn column_of<D: Drop>(
     pairs: &[(u64, u32)],
-    data: Vec<Option<D>>,
+    found: Vec<Option<D>>,
     alloc: Global,
 ) -> Result<Kept<D, ()>, AllocError>
-    ensures { IfOk result (IsFilledBy pairs.now data.items) }
+    ensures { IfOk result (IsFilledBy pairs.now found.items) }
 {
     let mut column = Kept::new(alloc, 0, ());
-    column.make_room(data.iter().filter(|datum| datum.is_some()).count())?;
-    for (pair, datum) in pairs.iter().zip(data) {
+    column.make_room(found.iter().filter(|datum| datum.is_some()).count())?;
+    for (pair, datum) in pairs.iter().zip(found) {
         if let Some(datum) = datum {
             match column.enter(pair.0, datum) {
                 Ok(_) => {}

@@ -131,16 +131,16 @@ pub(crate) fn data_at<R: Rules>(
         (R.book rules.now) (seen_of world.now) }
     requires known { is_among kind.now R.columns.part_names ≡ true }
     requires column { Some value.now ≡ seen_of world.now (R.columns.part_id kind.now) }
-    ensures { IfOk result (λ data. AreOfPairs
+    ensures { IfOk result (λ found. AreOfPairs
         (kinds_of ⟦<R::Value as SceneValue<R::Data>>⟧.places R.part_of R.columns) R.part_of (seen_of world.now) kind.now
-        pairs.now data.items) }
+        pairs.now found.items) }
 {
-    let mut data = Vec::with_capacity(alloc, pairs.len())?;
+    let mut found = Vec::with_capacity(alloc, pairs.len())?;
     let mut named = Vec::new(alloc);
     for pair in pairs {
-        data.push(datum_at(rules, world, kind, value, pair.1, &mut named, alloc)?)?;
+        found.push(datum_at(rules, world, kind, value, pair.1, &mut named, alloc)?)?;
     }
-    Ok(data)
+    Ok(found)
 }
 
 /// A global's value, if it has one. Errors: want of memory.

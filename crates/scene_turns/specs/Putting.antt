@@ -25,10 +25,10 @@ pub record StoresAs (part : Part) (named : List LifeAt) (stored : Stored) : Type
 abbrev pub part_read : List ℕ → Stored → Part
 part_read ids stored = part_with stored.written (map (λ id. living id) ids)
 
--- no part names an entity, and data are the parts at indices, each of which stands behind an id
-pub record AreReadAt {D : Type 0} (part_of : D → Part) (stored : ℕ → Option Stored) (entities : List (ℕ × ℕ)) (data : List (Option D)) : Type 0 where
+-- no part names an entity, and the parts that were found are those at indices, each of which stands behind an id
+pub record AreReadAt {D : Type 0} (part_of : D → Part) (stored : ℕ → Option Stored) (entities : List (ℕ × ℕ)) (found : List (Option D)) : Type 0 where
   pub nobody : (index : ℕ) → named_in (stored index) ≡ []
-  pub read : map (option_map part_of) data ≡ map (λ entity. option_map (part_read []) (stored entity.1)) entities
+  pub read : map (option_map part_of) found ≡ map (λ entity. option_map (part_read []) (stored entity.1)) entities
 
 module _ {V : Type 0} (stored : V → ℕ → Option Stored) where
   -- a part is stored at an index, and at each other what was there

@@ -125,8 +125,8 @@ pub trait Rules: DocumentRules {
         _entities: &[(u64, u32)],
         _alloc: Global,
     ) -> Result<Option<Vec<Option<Self::Data>>>, AllocError>
-        ensures { IfOk result (λ read. IfSome read (λ data. AreReadAt Self.part_of
-            (columns.stored _kind.now _value.now) _entities.now data.items)) }
+        ensures { IfOk result (λ read. IfSome read (λ found. AreReadAt Self.part_of
+            (columns.stored _kind.now _value.now) _entities.now found.items)) }
     {
         Ok(None)
     }
