@@ -1,9 +1,7 @@
 -- What stands elsewhere stays while commands are carried out.
 use Rattle.std.proofs.Common.{◌≡◌, ◌+◌, true, false, cond, eqb, ℕ, List, [], ◌∷◌, ◌++◌, Option, ap, ◌∙◌}
 use Rattle.std.specs.List.{list_all}
-use Rattle.shred_world.specs.declared.resource_id.ResourceId.{ResourceId}
 use Rattle.shred_world.specs.Worlds.{Slots}
-use Rattle.specs_entity.specs.Births.{Births}
 use Rattle.specs_entity.specs.Life.{LifeAt}
 use Rattle.scene_rules.specs.declared.refusals.FrameRefusal.{FrameRefusal}
 use Rattle.scene_rules.specs.declared.refusals.FrameRefusal.TheVariants.{System, GoneReference, IdsSpent, IndicesSpent, GenerationsSpent, TooManyCommands, Memory, Threads}
@@ -11,7 +9,6 @@ use Rattle.scene_rules.specs.Parts.{Name, Part, is_among, under}
 use Rattle.scene_rules.specs.Scenes.{PlainScene}
 use Rattle.scene_rules.specs.Commands.{changed, skipped, ids_spent, last_next, refs_live}
 use Rattle.scene_world.specs.Rolls.{ids_in}
-use Rattle.scene_rules.specs.Rulebook.{spawn}
 use Rattle.scene_world.specs.Stored.{Stored}
 use Rattle.scene_world.specs.Standing.{Kinds, roll_of, plain_of}
 use Rattle.scene_acts.specs.Acts.{seen_of, SetsColumn, StaysElsewhere}

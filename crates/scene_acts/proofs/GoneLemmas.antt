@@ -1,11 +1,13 @@
 -- Who holds a reference that is gone, and the least of them.
-use Rattle.std.proofs.Common.{◌≡◌, ◌<◌, ◌≤◌, ◌+◌, ℕ, suc, Bool, true, false, cond, eqb, ◌||◌, ◌⊎◌, inl, inr, ⊎_elim, List, [], ◌∷◌, length, get_or, map, take, Option, Some, None, is_some, refl, ap, sym, ◌∙◌, subst, arith}
+use Rattle.std.proofs.Common.{◌≡◌, ◌<◌, ◌≤◌, ◌+◌, ℕ, suc, Bool, true, false, cond, eqb, ◌||◌, ◌⊎◌, inl, inr, ⊎_elim, List, [], ◌∷◌, ◌++◌, length, get_or, map, take, Option, Some, None, is_some, refl, ap, sym, ◌∙◌, subst, arith}
 use Rattle.std.specs.Prelude.{IsSome, option_and_then, option_map}
 use Rattle.std.specs.List.{list_any, find}
 use Rattle.std.proofs.lemmas.Bool.{true≢false, false≢true, eqb-true, eq-eqb}
 use Rattle.std.proofs.lemmas.List.Folds.{list_any_more, list_any_at, list_any-append}
 use Rattle.std.proofs.Math.ListN.{get_or-map}
-use Rattle.std.proofs.lemmas.List.{length-map}
+use Rattle.std.proofs.lemmas.List.{length-map, map-append, take_more}
+use denote.Ref.{Bor}
+use Rattle.scene_rules.specs.Declaring.{texts}
 use Rattle.std.proofs.lemmas.Slice.Eq.{bytes_eq-Decides}
 use Rattle.std.specs.Str.{bytes_eq}
 use Rattle.hibitset_sets.specs.Walk.{walk}
@@ -260,3 +262,22 @@ none-gone roll names column none = find-none _ (ids_in roll) (λ id. by id (inde
     by : (id : ℕ) (o : Option ℕ) → index_of roll id ≡ o → list_any (λ kind. holds_gone (cond (is_among kind names) (part_in roll (column kind) id) None)) names ≡ false
     by id None at = never id at names
     by id (Some index) at = test-at roll names column id index at ∙ none index
+
+-- one kind more: it was taken, or nobody holds a gone reference under it
+module _ (holds : Name → Bool) (kinds names : List (Bor Name)) (k : ℕ) (d : Bor Name) (inside : k < length names) (same : list_any holds (texts kinds) ≡ list_any holds (texts (take k names))) where
+  one-more : list_any holds (texts (take (k + 1) names)) ≡ (list_any holds (texts kinds) || (holds (get_or names k d).now || false))
+  one-more =
+      ap (λ list. list_any holds (texts list)) (take_more names k d inside) ∙ ap (list_any holds) (map-append (λ (name : Bor Name). name.now) (take k names) (get_or names k d ∷ []))
+      ∙ list_any-append holds (texts (take k names)) ((get_or names k d).now ∷ []) ∙ ap (λ b. b || (holds (get_or names k d).now || false)) (sym same)
+
+  pub kind-taken : list_any holds (texts (kinds ++ get_or names k d ∷ [])) ≡ list_any holds (texts (take (k + 1) names))
+  kind-taken =
+      ap (list_any holds) (map-append (λ (name : Bor Name). name.now) kinds (get_or names k d ∷ []))
+      ∙ list_any-append holds (texts kinds) ((get_or names k d).now ∷ []) ∙ sym one-more
+
+  pub kind-left : holds (get_or names k d).now ≡ false → list_any holds (texts kinds) ≡ list_any holds (texts (take (k + 1) names))
+  kind-left none = or-false (list_any holds (texts kinds)) ∙ sym (one-more ∙ ap (λ b. list_any holds (texts kinds) || (b || false)) none)
+    where
+      or-false : (b : Bool) → b ≡ (b || false)
+      or-false true = refl
+      or-false false = refl

@@ -1,4 +1,4 @@
-use Rattle.std.proofs.Common.{◌≡◌, ℕ, Bool, List, take}
+use Rattle.std.proofs.Common.{◌≡◌, ℕ, Bool, take}
 use Rattle.std.specs.Prelude.{option_map}
 use Rattle.std.specs.List.{list_any}
 use Rattle.scene_rules.specs.Commands.{holds_gone}
