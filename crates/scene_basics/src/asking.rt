@@ -118,12 +118,12 @@ fn ask_for(queue: &mut Queue<Datum>, command: Option<Command<Datum>>) -> Result<
 }
 
 /// Whether something may be asked for an entity of this hp.
-fn may_ask(ask: Ask, hp: i64) -> bool
-    ensures { result ≡ asks ask hp }
+fn may_ask(ask: Ask, hp: &Whole) -> bool
+    ensures { result ≡ asks ask hp.now.0 }
 {
     match ask {
-        Ask::Deaths => hp <= 0,
-        Ask::Births => 10 <= hp,
+        Ask::Deaths => hp.0 <= 0,
+        Ask::Births => 10 <= hp.0,
     }
 }
 
@@ -138,7 +138,7 @@ fn indices_asking(
 {
     let mut indices = Vec::new(alloc);
     for index in numbers.mask().iter() {
-        if may_ask(ask, numbers.get(index).0) {
+        if may_ask(ask, numbers.get(index)) {
             indices.push(index)?;
         }
     }

@@ -1,9 +1,7 @@
 -- Lemmas on what is kept of a world: of who lives, of the columns of kinds, and of the scene.
-use Rattle.std.proofs.Common.{◌≡◌, ◌<◌, ◌+◌, ℕ, zero, suc, take, get_or, Bool, true, false, cond, eqb, ◌||◌, List, [], ◌∷◌, ◌++◌, map, length, All, Option, Some, None, IsSome, is_some, option_map, refl, ap, sym, subst, ◌∙◌, arith}
-use denote.Ref.{Bor}
-use Rattle.std.specs.Option.{option_copied}
+use Rattle.std.proofs.Common.{◌≡◌, ◌<◌, ◌+◌, ℕ, zero, suc, take, get_or, Bool, true, false, cond, eqb, ◌||◌, List, [], ◌∷◌, ◌++◌, append_assoc, append-nil, map, length, All, Option, Some, None, IsSome, is_some, option_map, refl, ap, sym, subst, ◌∙◌, arith}
 use Rattle.std.specs.Prelude.{option_and_then, slice_get}
-use Rattle.std.specs.List.{list_any}
+use Rattle.std.specs.List.{list_any, range_with_len}
 use Rattle.std.specs.List.Sorted.{IsPermutation}
 use Rattle.std.proofs.lemmas.List.Sorted.{All-permutation, list_any-IsPermutation, IsPermutation-map}
 use Rattle.std.specs.Global.{Vec}
@@ -11,9 +9,10 @@ use Rattle.std.specs.Ordering.{nat_cmp}
 use Rattle.std.specs.FinMap as finite
 use Rattle.std.specs.Cmp.{nat_cmp_total}
 use Rattle.std.proofs.lemmas.Bool.{false≢true, eqb-true, eq-eqb}
-use Rattle.std.proofs.lemmas.List.Elements.{All-nil, All-head, All-tail, All-push, All-weaker}
+use Rattle.std.proofs.lemmas.List.Elements.{All-nil, All-head, All-tail, All-push, All-weaker, filter_passes}
 use Rattle.std.proofs.lemmas.List.{length-map, map-append, take_more}
 use Rattle.hibitset_sets.specs.BitSet.{has_member}
+use Rattle.hibitset_sets.specs.Walk.{walk}
 use Rattle.hibitset_sets.proofs.CallerLemmas.{any-walk}
 use Rattle.specs_entity.specs.Births.{living}
 use Rattle.specs_entity.specs.Life.{Life, LifeAt}
@@ -22,11 +21,10 @@ use Rattle.specs_layouts.specs.Masked.{Masked, Agrees}
 use Rattle.specs_layouts.specs.declared.storages.vec.VecStorage.{VecStorage}
 use Rattle.scene_stores.specs.Markers.{marker_at}
 use Rattle.scene_rules.specs.Parts.{Json, Name, Part, is_among, place_of, name_at, living as reaching}
-use Rattle.scene_rules.specs.Declaring.{texts}
 use Rattle.scene_rules.specs.Rulebook.{Book}
 use Rattle.scene_rules.specs.Scenes.{RefLives}
 use Rattle.scene_rules.specs.Slots.{filled}
-use Rattle.scene_rules.proofs.CallerLemmas.{is_eq-nat_cmp, same-ids}
+use Rattle.scene_rules.proofs.CallerLemmas.{is_eq-nat_cmp, same-ids, no_items}
 use Rattle.scene_rules.proofs.NameLemmas.{place_of-bound, place_of-name}
 use Rattle.scene_draft.proofs.CallerLemmas.{is_some-place_of}
 use Rattle.scene_world.specs.Stored.{Stored, part_under, part_with}
@@ -88,6 +86,17 @@ module _ {V : Type 0} (kinds : Kinds V) (book : Book) (w : Sight V) (stands : Is
       (ap (λ b. cond b (part_in roll (column_of kinds w kind) marked.0) None) known
       ∙ ap (option_and_then (λ at. option_map (part_under (ref_to roll)) (column_of kinds w kind at))) known_at ∙ ap (option_map (part_under (ref_to roll))) there)
 
+-- ---- lists that loops make
+
+-- one more, behind what was made of those before
+pub mapped-more : {A B C : Type 0} (f : A → C) (g : B → C) (made : List A) (one : A) (items : List B) (k : ℕ) (d : B) → k < length items → map f made ≡ map g (take k items) → f one ≡ g (get_or items k d) → map f (made ++ one ∷ []) ≡ map g (take (k + 1) items)
+mapped-more f g made one items k d below so_far same =
+    map-append f made (one ∷ []) ∙ ap (λ front. front ++ f one ∷ []) so_far ∙ ap (λ last. map g (take k items) ++ last ∷ []) same
+    ∙ sym (ap (map g) (take_more items k d below) ∙ map-append g (take k items) (get_or items k d ∷ []))
+
+pub front-more : {B C : Type 0} (g : B → C) (items : List B) (k : ℕ) (d : B) → k < length items → map g (take (k + 1) items) ≡ map g (take k items) ++ g (get_or items k d) ∷ []
+front-more g items k d below = ap (map g) (take_more items k d below) ∙ map-append g (take k items) (get_or items k d ∷ [])
+
 -- ---- who lives
 
 -- markers of which each is that of somebody who lives are all that there are
@@ -106,13 +115,55 @@ module _ (roll : Roll) (is : IsRoll roll) (markers : Masked (Flagged (VecStorage
       by None none = absurd (false≢true none)
       by (Some life) there = sym (ap is_some (of index)) ∙ there
 
-  all-pairs : (pairs : List (ℕ × ℕ)) → Agrees markers.mask (marker_at markers) → ((index : ℕ) → has_member markers.mask index ≡ true → index < 16777216) → AreMarkersOf markers pairs → ArePairs roll pairs
-  all-pairs pairs agree range are = record {
+  pub all-pairs : (pairs : List (ℕ × ℕ)) → AreMarkersOf markers pairs → ArePairs roll pairs
+  all-pairs pairs are = record {
     each = All-weaker (λ pair. marker_at markers pair.1 ≡ Some pair.0) (λ pair. id_at roll pair.1 ≡ Some pair.0) (λ pair. marked-lives pair.1 pair.0) pairs are.each;
-    all = λ index some.
-        let member : has_member markers.mask index ≡ true = agree index ∙ lives-marked index some in
-        ap (list_any (eqb index)) are.all ∙ any-walk (has_member markers.mask) index (range index member) member;
+    all = λ index some. are.all index (lives-marked index some);
   }
+
+-- the indices that a set has are its members
+members-walked : (members : ℕ → Bool) → All (λ index. members index ≡ true) (walk members)
+unfolding walk
+members-walked members = filter_passes members (range_with_len 0 16777216)
+
+module _ (markers : Masked (Flagged (VecStorage ℕ))) where
+  -- the pairs so far are markers, with the indices that are to come they are all, and at each of these is one
+  pub record Pairing (pairs : List (ℕ × ℕ)) (left : List ℕ) : Type 0 where
+    pub each : All (λ pair. marker_at markers pair.1 ≡ Some pair.0) pairs
+    pub all : map (λ pair. pair.1) pairs ++ left ≡ walk (has_member markers.mask)
+    pub there : All (λ index. IsSome (marker_at markers index)) left
+
+  pub pairing-first : (left : List ℕ) → left ≡ walk (has_member markers.mask) → Agrees markers.mask (marker_at markers) → (pairs : List (ℕ × ℕ)) → pairs ≡ [] → Pairing pairs left
+  pairing-first left is agree pairs none = subst (λ list. Pairing list left) (sym none) (record {
+    each = All-nil (λ pair. marker_at markers pair.1 ≡ Some pair.0);
+    all = is;
+    there = subst (All (λ index. IsSome (marker_at markers index))) (sym is)
+        (All-weaker (λ index. has_member markers.mask index ≡ true) (λ index. IsSome (marker_at markers index)) (λ index member. sym (agree index) ∙ member) (walk (has_member markers.mask)) (members-walked (has_member markers.mask)));
+  })
+
+  module _ (pairs : List (ℕ × ℕ)) (left : List ℕ) (pairing : Pairing pairs left) where
+    pub pairing-last : left ≡ [] → Agrees markers.mask (marker_at markers) → ((index : ℕ) → has_member markers.mask index ≡ true → index < 16777216) → AreMarkersOf markers pairs
+    pairing-last none agree range = record {
+      each = pairing.each;
+      all = λ index some.
+          let member : has_member markers.mask index ≡ true = agree index ∙ some in
+          ap (list_any (eqb index)) (sym (append-nil (map (λ pair. pair.1) pairs)) ∙ sym (ap (λ rest. map (λ pair. pair.1) pairs ++ rest) none) ∙ pairing.all)
+          ∙ any-walk (has_member markers.mask) index (range index member) member;
+    }
+
+    module _ (index : ℕ) (rest : List ℕ) (is : left ≡ index ∷ rest) where
+      there-now : All (λ one. IsSome (marker_at markers one)) (index ∷ rest)
+      there-now = subst (All (λ one. IsSome (marker_at markers one))) is pairing.there
+
+      pub pairing-there : IsSome (marker_at markers index)
+      pairing-there = All-head (λ one. IsSome (marker_at markers one)) index rest there-now
+
+      pub pairing-next : (id : ℕ) (after : List (ℕ × ℕ)) → marker_at markers index ≡ Some id → after ≡ pairs ++ (id, index) ∷ [] → Pairing after rest
+      pairing-next id after there then = subst (λ list. Pairing list rest) (sym then) (record {
+        each = All-push (λ pair. marker_at markers pair.1 ≡ Some pair.0) pairs (id, index) pairing.each there;
+        all = ap (λ front. front ++ rest) (map-append (λ pair. pair.1) pairs ((id, index) ∷ [])) ∙ append_assoc (map (λ pair. pair.1) pairs) (index ∷ []) rest ∙ sym (ap (λ list. map (λ pair. pair.1) pairs ++ list) is) ∙ pairing.all;
+        there = All-tail (λ one. IsSome (marker_at markers one)) index rest there-now;
+      })
 
 -- in another order they are all still
 pub pairs-permuted : (roll : Roll) (pairs others : List (ℕ × ℕ)) → IsPermutation pairs others → ArePairs roll pairs → ArePairs roll others
@@ -125,31 +176,39 @@ module _ (roll : Roll) (is : IsRoll roll) where
   -- who is known under an id is among the pairs
   among : (pairs : List (ℕ × ℕ)) (id index : ℕ) → id_at roll index ≡ Some id → All (λ pair. id_at roll pair.1 ≡ Some pair.0) pairs → IsAmong (map (λ pair. pair.1) pairs) index → IsAmong (map (λ pair. pair.0) pairs) id
   among [] id index at each some = absurd (false≢true some)
-  among (pair ∷ pairs) id index at each some = by (eqb index pair.1) refl some
+  among (pair ∷ pairs) id index at each some = by (among pairs id index at (All-tail (λ pair. id_at roll pair.1 ≡ Some pair.0) pair pairs each)) (eqb index pair.1) refl some
     where
-      by : (b : Bool) → eqb index pair.1 ≡ b → (b || list_any (eqb index) (map (λ pair. pair.1) pairs)) ≡ true → (eqb id pair.0 || list_any (eqb id) (map (λ pair. pair.0) pairs)) ≡ true
-      by true same some =
-          let here : Some id ≡ Some pair.0 = sym at ∙ ap (id_at roll) (eqb-true index pair.1 same) ∙ All-head (λ pair. id_at roll pair.1 ≡ Some pair.0) pair pairs each in
-          let id_is : id ≡ pair.0 = cc in
-          ap (λ b. b || list_any (eqb id) (map (λ pair. pair.0) pairs)) (eq-eqb id pair.0 id_is)
-      by false apart some =
-          let later = among pairs id index at (All-tail (λ pair. id_at roll pair.1 ≡ Some pair.0) pair pairs each) some in
-          ap (λ b. eqb id pair.0 || b) later ∙ or-true (eqb id pair.0)
-
       or-true : (b : Bool) → (b || true) ≡ true
       or-true true = refl
       or-true false = refl
 
-  known-among : (pairs : List (ℕ × ℕ)) → ArePairs roll pairs → (id : ℕ) → IsSome (index_of roll id) → IsAmong (map (λ pair. pair.0) pairs) id
+      by : (IsAmong (map (λ pair. pair.1) pairs) index → IsAmong (map (λ pair. pair.0) pairs) id) → (b : Bool) → eqb index pair.1 ≡ b → (b || list_any (eqb index) (map (λ pair. pair.1) pairs)) ≡ true
+          → (eqb id pair.0 || list_any (eqb id) (map (λ pair. pair.0) pairs)) ≡ true
+      by later true same some =
+          let here : Some id ≡ Some pair.0 = sym at ∙ ap (id_at roll) (eqb-true index pair.1 same) ∙ All-head (λ pair. id_at roll pair.1 ≡ Some pair.0) pair pairs each in
+          let id_is : id ≡ pair.0 = cc in
+          ap (λ b. b || list_any (eqb id) (map (λ pair. pair.0) pairs)) (eq-eqb id pair.0 id_is)
+      by later false apart some = ap (λ b. eqb id pair.0 || b) (later some) ∙ or-true (eqb id pair.0)
+
+  pub known-among : (pairs : List (ℕ × ℕ)) → ArePairs roll pairs → (id : ℕ) → IsSome (index_of roll id) → IsAmong (map (λ pair. pair.0) pairs) id
   known-among pairs are id some =
       let index = some-of (index_of roll id) some in
       let at : id_at roll index.0 ≡ Some id = id-at-index roll id index.0 index.1 in
       among pairs id index.0 at are.each (are.all index.0 (ap is_some at))
 
+-- what holds of each of some numbers holds of one among them
+one-of : (P : ℕ → Type 0) (numbers : List ℕ) (number : ℕ) → All P numbers → IsAmong numbers number → P number
+one-of P [] number each some = absurd (false≢true some)
+one-of P (one ∷ numbers) number each some = choose (one-of P numbers number (All-tail P one numbers each)) (eqb number one) refl some
+  where
+    choose : (IsAmong numbers number → P number) → (b : Bool) → eqb number one ≡ b → (b || list_any (eqb number) numbers) ≡ true → P number
+    choose later true same some = subst P (sym (eqb-true number one same)) (All-head P one numbers each)
+    choose later false apart some = later some
+
 -- ---- what is wanted of ids
 
 -- of an id that is entered, and of one of which nothing is
-Steps : {D G : Type 0} → ℕ → Option D → (before after : Keeping D G) → Type 0
+abbrev pub Steps : {D G : Type 0} → ℕ → Option D → (before after : Keeping D G) → Type 0
 Steps id None before after = after ≡ before
 Steps id (Some datum) before after = Enters before id datum after
 
@@ -206,13 +265,46 @@ module _ {D G X : Type 0} (part_of : D → X) (want : ℕ → Option X) where
       by None none = nothing-wanted kept are.sound id (sym none)
       by (Some x) some = one-of (IsWanted part_of want kept) ids id are.each (others id (ap is_some some))
 
-      one-of : (P : ℕ → Type 0) (ids : List ℕ) (id : ℕ) → All P ids → IsAmong ids id → P id
-      one-of P [] id each some = absurd (false≢true some)
-      one-of P (one ∷ ids) id each some = choose (eqb id one) refl some
-        where
-          choose : (b : Bool) → eqb id one ≡ b → (b || list_any (eqb id) ids) ≡ true → P id
-          choose true same some = subst P (sym (eqb-true id one same)) (All-head P one ids each)
-          choose false apart some = one-of P ids id (All-tail P one ids each) some
+-- ---- a column that is filled
+
+module _ {D : Type 0} (pairs : List (ℕ × ℕ)) (part_of : D → Part) (want : ℕ → Option Part) where
+  -- of the pairs so far what is wanted is kept, and what is found for those that are left is wanted of them
+  pub record Filling (left : List (ℕ × ℕ)) (rest : List (Option D)) (column : Keeping D Unit) : Type 0 where
+    pub done : List ℕ
+    pub all : done ++ map (λ pair. pair.0) left ≡ map (λ pair. pair.0) pairs
+    pub same : map (option_map part_of) rest ≡ map (λ pair. want pair.0) left
+    pub wanted : AreWanted part_of want done column
+
+  pub filling-first : (left : List (ℕ × ℕ)) (rest found : List (Option D)) (column : Keeping D Unit) → left ≡ pairs → rest ≡ found → map (option_map part_of) found ≡ map (λ pair. want pair.0) pairs → column.entries ≡ finite.empty → Filling left rest column
+  filling-first left rest found column at here same none = record {
+    done = [];
+    all = ap (map (λ pair. pair.0)) at;
+    same = ap (map (option_map part_of)) here ∙ same ∙ sym (ap (map (λ pair. want pair.0)) at);
+    wanted = none-wanted part_of want column none;
+  }
+
+  module _ (left : List (ℕ × ℕ)) (rest : List (Option D)) (before : Keeping D Unit) (filling : Filling left rest before) where
+    pub filling-next : (pair : ℕ × ℕ) (later : List (ℕ × ℕ)) (found : Option D) (others : List (Option D)) (after : Keeping D Unit) → left ≡ pair ∷ later → rest ≡ found ∷ others → Steps pair.0 found before after → Filling later others after
+    filling-next pair later found others after at here steps =
+        let both : option_map part_of found ∷ map (option_map part_of) others ≡ want pair.0 ∷ map (λ one. want one.0) later = sym (ap (map (option_map part_of)) here) ∙ filling.same ∙ ap (map (λ one. want one.0)) at in
+        let one : option_map part_of found ≡ want pair.0 = cc in
+        let same : map (option_map part_of) others ≡ map (λ one. want one.0) later = cc in
+        record {
+          done = filling.done ++ pair.0 ∷ [];
+          all = append_assoc filling.done (pair.0 ∷ []) (map (λ one. one.0) later) ∙ sym (ap (λ list. filling.done ++ map (λ one. one.0) list) at) ∙ filling.all;
+          same = same;
+          wanted = next-wanted part_of want filling.done pair.0 found before after one steps filling.wanted;
+        }
+
+    -- where nothing is found any more no pair is left
+    pub filling-even : length rest ≡ 0 → length left ≡ 0
+    filling-even none = sym (length-map left (λ pair. want pair.0)) ∙ sym (ap length filling.same) ∙ length-map rest (option_map part_of) ∙ none
+
+    pub filling-last : length left ≡ 0 → ((id : ℕ) → IsSome (want id) → IsAmong (map (λ pair. pair.0) pairs) id) → (id : ℕ) → IsWanted part_of want before id
+    filling-last none others =
+        let left_none : left ≡ [] = no_items left none in
+        let all : filling.done ≡ map (λ pair. pair.0) pairs = sym (append-nil filling.done) ∙ sym (ap (λ list. filling.done ++ map (λ pair. pair.0) list) left_none) ∙ filling.all in
+        all-wanted part_of want filling.done before filling.wanted (λ id some. ap (λ ids. list_any (eqb id) ids) all ∙ others id some)
 
 -- ---- columns
 

@@ -1,8 +1,6 @@
 -- What is taken off a world to be kept; no public clause cites this.
 use Rattle.std.specs.Prelude.{◌≡◌, ℕ, true, List, [], ◌∷◌, map, Option, Some, IsSome, is_some, option_map, ◌==◌}
 use Rattle.std.specs.List.{All, list_any}
-use Rattle.hibitset_sets.specs.BitSet.{has_member}
-use Rattle.hibitset_sets.specs.Walk.{walk}
 use Rattle.specs_entity.specs.Life.{LifeAt}
 use Rattle.specs_flagged.specs.Flagged.{Flagged}
 use Rattle.specs_layouts.specs.Masked.{Masked}
@@ -18,14 +16,14 @@ use Rattle.scene_kept.specs.Keeping.{Keeping, kept_at}
 abbrev pub AreMarkedBy : Roll → List LifeAt → List ℕ → Type 0
 AreMarkedBy roll named ids = map (λ entity. roll.marker entity.id) named ≡ map (λ id. Some id) ids
 
+-- one of these numbers
+abbrev pub IsAmong : List ℕ → ℕ → Type 0
+IsAmong numbers number = list_any (λ other. number == other) numbers ≡ true
+
 -- these are a storage's markers, each before its index
 pub record AreMarkersOf (markers : Masked (Flagged (VecStorage ℕ))) (pairs : List (ℕ × ℕ)) : Type 0 where
   pub each : All (λ pair. marker_at markers pair.1 ≡ Some pair.0) pairs
-  pub all : map (λ pair. pair.1) pairs ≡ walk (has_member markers.mask)
-
--- one of these indices
-abbrev pub IsAmong : List ℕ → ℕ → Type 0
-IsAmong numbers number = list_any (λ other. number == other) numbers ≡ true
+  pub all : (index : ℕ) → IsSome (marker_at markers index) → IsAmong (map (λ pair. pair.1) pairs) index
 
 -- these are the ids of those who live, each before the index of its entity
 pub record ArePairs (roll : Roll) (pairs : List (ℕ × ℕ)) : Type 0 where
