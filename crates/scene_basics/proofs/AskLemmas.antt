@@ -15,7 +15,7 @@ use Rattle.scene_turns.specs.Stops.{stop_for}
 use Rattle.scene_basics.specs.declared.data.Datum.{Datum}
 use Rattle.scene_basics.specs.Numbers.{part_of}
 use Rattle.scene_basics.specs.declared.data.Ask.{Ask}
-use Rattle.scene_basics.specs.Asks.{asked_for, IsNotAsked}
+use Rattle.scene_basics.specs.Asks.{asked_for, asked_of, IsNotAsked}
 use Rattle.scene_basics.specs.Asked.{StopsAsking}
 
 -- one in front, or none, and a list behind
@@ -57,13 +57,14 @@ asked-full f ids place one within gives long = (subst (λ all. queue_room < leng
     more : queue_room < length (filter_map f (take place ids) ++ one ∷ rest)
     more = omega (arith, length-append (filter_map f (take place ids)) (one ∷ rest), long)
 
--- a command that was not asked for stops the system
-pub stopped : (ask : Ask) (old : Fragment) (place : ℕ) (before after : List Command) (why : Stop) → place < length old.ids → before ≡ filter_map (asked_for ask old) (take place old.ids) → IsNotAsked (asked_for ask old (get_or old.ids place 0)) before after why → StopsAsking ask old after why
-stopped ask old place before after (stop.Refused text) within so_far told = absurd told
-stopped ask old place before after stop.Memory within so_far told = tt
-stopped ask old place before after stop.Full within so_far told =
-    let full = asked-full (asked_for ask old) old.ids place told.0 within told.1 (ap (λ some. length some) (sym so_far) ∙ told.2) in
-    ((full.0, told.3 ∙ so_far ∙ full.1), ap (λ some. length some) told.3 ∙ told.2)
+-- a command that was not asked for stops the system, where all that is asked for is asked for some ids
+pub stopped : (ask : Ask) (old : Fragment) (ids : List ℕ) (place : ℕ) (before after : List Command) (why : Stop) → filter_map (asked_for ask old) ids ≡ asked_of ask old → place < length ids → before ≡ filter_map (asked_for ask old) (take place ids)
+    → IsNotAsked (asked_for ask old (get_or ids place 0)) before after why → StopsAsking ask old after why
+stopped ask old ids place before after (stop.Refused text) all within so_far told = absurd told
+stopped ask old ids place before after stop.Memory all within so_far told = tt
+stopped ask old ids place before after stop.Full all within so_far told =
+    let full = asked-full (asked_for ask old) ids place told.0 within told.1 (ap (λ some. length some) (sym so_far) ∙ told.2) in
+    ((subst (λ list. queue_room < length list) all full.0, told.3 ∙ so_far ∙ full.1 ∙ ap (take queue_room) all), ap (λ some. length some) told.3 ∙ told.2)
 
 -- a command that a queue did not take was not asked for
 pub not-asked : (command : CodeCommand Datum) (old new : List (CodeCommand Datum)) (refused : NotQueued Datum) → new ≡ old → (IsFull refused → length old ≡ queue_room) → IsNotAsked (Some (plain_command part_of command)) (plain_commands part_of old) (plain_commands part_of new) (stop_for refused)

@@ -1,25 +1,32 @@
 -- Parts of the four kinds in the values of a world.
-use Rattle.std.proofs.Common.{◌≡◌, ℕ, ℤ, Bool, true, false, cond, eqb, List, [], ◌∷◌, length, Option, Some, None, Result, Ok, Err, refl, ap, sym, ◌∙◌, subst}
+use Rattle.std.proofs.Common.{◌≡◌, ℕ, ℤ, Bool, true, false, cond, eqb, List, [], ◌∷◌, map, length, Option, Some, None, Result, Ok, Err, is_some, refl, ap, sym, ◌∙◌, subst}
 use Rattle.std.specs.Prelude.{IsSome, OnOk, option_map, slice_get}
 use Rattle.std.specs.Option.{option_flatten}
 use Rattle.std.specs.Str.{bytes_eq}
 use Rattle.std.specs.FinMap as slots
-use Rattle.std.proofs.lemmas.Bool.{true≢false, eqb-true, eq-eqb}
+use Rattle.std.specs.FinSet as set
+use Rattle.std.specs.Ordering.{nat_cmp}
+use Rattle.std.proofs.lemmas.Bool.{true≢false, false≢true, eqb-true, eq-eqb}
 use Rattle.shred_world.specs.declared.resource_id.ResourceId.{ResourceId}
 use Rattle.shred_world.specs.ResourceIds.{same_id}
 use Rattle.shred_world.specs.Worlds.{Slots, value_at}
 use Rattle.shred_world.proofs.CallerLemmas.{ids_total}
 use Rattle.specs_entity.specs.Life.{LifeAt}
+use Rattle.specs_layouts.specs.Masked.{Agrees}
 use Rattle.specs_layouts.specs.Parts.{Puts, HasNone}
 use Rattle.scene_rules.specs.Parts.{Name}
 use Rattle.scene_world.specs.Changes.{but_at}
-use Rattle.scene_turns.specs.Putting.{PutsIn, Registers}
+use Rattle.scene_turns.specs.Putting.{named_in, part_read, AreReadAt, PutsIn, Registers}
 use Rattle.scene_basics.specs.Names.{hp_kind, owner_kind, pos_kind, vel_kind}
-use Rattle.scene_basics.specs.Numbers.{counting, referring}
+use Rattle.scene_basics.specs.Numbers.{counting, referring, part_of}
 use Rattle.scene_basics.specs.Values.{Numbers, Owners, whole_at, owner_at}
 use Rattle.scene_basics.specs.Columns.{part_id, whole_stored, owner_stored, number_column, owner_column, basic_columns}
 use Rattle.scene_basics.specs.Registering.{HasNumbers, HasOwners}
 use Rattle.scene_basics.specs.Apart.{each-kind}
+use Rattle.scene_basics.specs.declared.data.Datum.{Datum}
+use Rattle.scene_basics.specs.declared.data.Datum.TheVariants.{Whole as DatumWhole}
+use Rattle.scene_basics.specs.declared.values.Owner.{Owner}
+use Rattle.scene_basics.specs.declared.values.Whole.{Whole}
 use Rattle.scene_basics.specs.declared.values.Value.{Value}
 use Rattle.scene_basics.specs.declared.values.Value.TheVariants.{NumbersValue, OwnersValue}
 
@@ -129,3 +136,44 @@ module _ (w with_hp with_owners with_pos later : Slots Value) (one : HasNumbers 
       elsewhere id false true c d e f g h = absurd (true≢false f)
       elsewhere id false false true d e f g h = absurd (true≢false g)
       elsewhere id false false false true e f g h = absurd (true≢false h)
+
+-- ---- columns that are read at once
+
+-- made from what was made is made from each
+mapped-twice : {A B C : Type 0} (f : B → C) (g : A → B) (h : A → C) → ((a : A) → f (g a) ≡ h a) → (items : List A) → map f (map g items) ≡ map h items
+mapped-twice f g h same [] = refl
+mapped-twice f g h same (a ∷ items) = ap (λ first. first ∷ map f (map g items)) (same a) ∙ ap (λ rest. h a ∷ rest) (mapped-twice f g h same items)
+
+-- under a kind of numbers nobody is named, and what is found is what stands there
+pub numbers-read : (kind : Name) (numbers : Numbers) (entities : List (ℕ × ℕ)) (found : List (Option Datum)) → bytes_eq kind owner_kind ≡ false → found ≡ map (λ entity. option_map (λ (whole : Whole). DatumWhole whole.0) (whole_at numbers entity.1)) entities
+    → AreReadAt part_of (basic_columns.stored kind (NumbersValue numbers)) entities found
+numbers-read kind numbers entities found apart are = record {
+  nobody = λ index. ap (λ b. named_in (cond b (owner_column (NumbersValue numbers) index) (number_column (NumbersValue numbers) index))) apart ∙ none (whole_at numbers index);
+  read = ap (map (option_map part_of)) are ∙ mapped-twice (option_map part_of) (λ entity. option_map (λ (whole : Whole). DatumWhole whole.0) (whole_at numbers entity.1)) _
+      (λ entity. same (whole_at numbers entity.1) ∙ ap (λ b. option_map (part_read []) (cond b (owner_column (NumbersValue numbers) entity.1) (number_column (NumbersValue numbers) entity.1))) (sym apart)) entities;
+}
+  where
+    none : (o : Option Whole) → named_in (option_map whole_stored o) ≡ []
+    none None = refl
+    none (Some whole) = refl
+
+    same : (o : Option Whole) → option_map part_of (option_map (λ (whole : Whole). DatumWhole whole.0) o) ≡ option_map (part_read []) (option_map whole_stored o)
+    same None = refl
+    same (Some whole) = refl
+
+-- where there are no owners, none stands under their kind
+pub no-owners : (kind : Name) (owners : Owners) → bytes_eq kind owner_kind ≡ true → Agrees owners.mask (owner_at owners) → owners.mask.members ≡ set.empty → (index : ℕ) → basic_columns.stored kind (OwnersValue owners) index ≡ None
+no-owners kind owners is agree none index =
+    ap (λ b. cond b (owner_column (OwnersValue owners) index) (number_column (OwnersValue owners) index)) is ∙ ap (option_map owner_stored) (by (owner_at owners index) refl)
+  where
+    by : (o : Option Owner) → owner_at owners index ≡ o → owner_at owners index ≡ None
+    by None e = e
+    by (Some owner) e = absurd (false≢true (sym (ap (λ members. set.contains members index) none ∙ set.contains-empty nat_cmp index) ∙ agree index ∙ ap is_some e))
+
+-- so nothing is found there
+pub nothing-read : (kind : Name) (owners : Owners) (entities : List (ℕ × ℕ)) (found : List (Option Datum)) → ((index : ℕ) → basic_columns.stored kind (OwnersValue owners) index ≡ None) → found ≡ map (λ entity. None) entities
+    → AreReadAt part_of (basic_columns.stored kind (OwnersValue owners)) entities found
+nothing-read kind owners entities found none are = record {
+  nobody = λ index. ap named_in (none index);
+  read = ap (map (option_map part_of)) are ∙ mapped-twice (option_map part_of) (λ (entity : ℕ × ℕ). None) _ (λ entity. sym (ap (option_map (part_read [])) (none entity.1))) entities;
+}

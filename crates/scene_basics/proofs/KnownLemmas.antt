@@ -1,5 +1,5 @@
 -- Who is known in what is held.
-use Rattle.std.proofs.Common.{◌≡◌, ◌<◌, ℕ, Bool, true, false, cond, eqb, ◌||◌, ◌&&◌, List, [], ◌∷◌, map, Option, Some, None, is_some, refl, ap, sym, ◌∙◌, subst}
+use Rattle.std.proofs.Common.{◌≡◌, ◌<◌, ℕ, Bool, true, false, cond, eqb, ◌||◌, ◌&&◌, List, [], ◌∷◌, Option, Some, None, is_some, refl, ap, sym, ◌∙◌}
 use Rattle.std.specs.Prelude.{IsSome, option_and_then}
 use Rattle.std.specs.List.{list_any, filter, filter_map, cons_option}
 use Rattle.std.proofs.lemmas.List.Kept.{AllPairs-filter}
@@ -9,11 +9,9 @@ use Rattle.std.specs.FinSet as set
 use Rattle.std.specs.Ordering.{nat_cmp}
 use Rattle.std.proofs.lemmas.Bool.{false≢true, eqb-true, eq-eqb}
 use denote.Ref.{Bor}
-use Rattle.hibitset_sets.specs.Walk.{walk}
-use Rattle.hibitset_sets.proofs.CallerLemmas.{any-walk}
 use Rattle.shred_world.specs.declared.resource_id.ResourceId.{ResourceId}
 use Rattle.shred_world.specs.Bundles.{Holding, readable}
-use Rattle.specs_entity.specs.Births.{Births, living, living_of, none_born, all_living, entity_at}
+use Rattle.specs_entity.specs.Births.{Births, living, living_of, none_born}
 use Rattle.specs_entity.specs.Life.{Life, LifeAt}
 use Rattle.specs_markers.specs.Simple.{Noting, noted_under, none_noted}
 use Rattle.scene_rules.specs.Ids.{ascending}

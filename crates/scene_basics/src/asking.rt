@@ -1,14 +1,13 @@
 //! The systems in a world that ask for deaths or births.
-ghost use Rattle.std.specs.Prelude.{◌≡◌, ◌++◌, OnOk, IfOk, IfErr, MatchResult, [], option_map};
-ghost use Rattle.std.specs.List.{filter, filter_map};
+ghost use Rattle.std.specs.Prelude.{◌≡◌, option_copied, ◌==◌, ◌++◌, ℕ, true, OnOk, IfOk, IfErr, MatchResult, [], option_map};
+ghost use Rattle.std.specs.List.{filter_map, list_any};
 ghost use Rattle.std.specs.Option.{option_to_list};
-ghost use Rattle.hibitset_sets.specs.BitSet.{has_member};
-ghost use Rattle.hibitset_sets.specs.Walk.{walk};
 ghost use Rattle.scene_rules.specs.Rulebook.{leaves};
 ghost use Rattle.scene_rules.specs.Queues.{waiting, plain_command, plain_commands};
 ghost use Rattle.scene_basics.specs.Names.{hp_kind, pos_kind};
 ghost use Rattle.scene_basics.specs.Numbers.{counting, part_of};
 ghost use Rattle.scene_basics.specs.Asks.{death_by, birth_by, asks, asked_for, asked_of, Asking, IsNotAsked};
+ghost use Rattle.scene_basics.specs.Values.{numbers_in};
 ghost use Rattle.scene_basics.specs.Asked.{number_seen, number_under, asks_at, lent_for, StopsAsking};
 
 use crate::columns::part_id;
@@ -127,14 +126,14 @@ fn may_ask(ask: Ask, hp: &Whole) -> bool
     }
 }
 
-/// The indices at which something may be asked, ascending. Errors: want of memory.
+/// The indices at which something may be asked. Errors: want of memory.
 fn indices_asking(
     alloc: Global,
     numbers: &MaskedStorage<Whole>,
     ask: Ask,
 ) -> Result<Vec<u32>, AllocError>
-    ensures { IfOk result (λ indices. indices.items
-        ≡ filter (asks_at ask numbers.now) (walk (has_member numbers.now.mask))) }
+    ensures { IfOk result (λ indices. (index : ℕ) → asks_at ask numbers.now index ≡ true
+        → list_any (λ other. index == other) indices.items ≡ true) }
 {
     let mut indices = Vec::new(alloc);
     for index in numbers.mask().iter() {
@@ -145,6 +144,16 @@ fn indices_asking(
     Ok(indices)
 }
 
+/// The numbers that a value holds, if it holds some.
+fn numbers_in(value: &Value) -> Option<&MaskedStorage<Whole>>
+    ensures { option_copied result ≡ numbers_in value.now }
+{
+    match value {
+        Value::NumbersValue(numbers) => Some(numbers),
+        _ => None,
+    }
+}
+
 /// The ids for which something may be asked, in order: all that is asked for is asked for one of these.
 ///
 /// Errors: want of memory.
@@ -152,7 +161,10 @@ fn ids_asking<W: Holder<Value>>(alloc: Global, view: &W, ask: Ask) -> Result<Vec
     ensures { IfOk result (λ ids. filter_map (asked_for ask (lent_for ask (W.slots view.now))) ids.items
         ≡ asked_of ask (lent_for ask (W.slots view.now))) }
 {
-    let Some(Value::NumbersValue(numbers)) = view.value(part_id(HP)) else {
+    let Some(value) = view.value(part_id(HP)) else {
+        return Ok(Vec::new(alloc));
+    };
+    let Some(numbers) = numbers_in(value) else {
         return Ok(Vec::new(alloc));
     };
     let indices = indices_asking(alloc, numbers, ask)?;
