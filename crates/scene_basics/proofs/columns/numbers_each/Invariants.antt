@@ -1,0 +1,9 @@
+use Rattle.std.proofs.Common.{◌≡◌, map, take, option_map}
+use Rattle.scene_basics.specs.declared.data.Datum.TheVariants.{Whole as DatumWhole}
+use Rattle.scene_basics.specs.declared.values.Whole.{Whole}
+use Rattle.scene_basics.specs.Values.{whole_at}
+use Rattle.scene_basics.proofs.columns.numbers_each.Given as goal
+
+-- the numbers of the entities so far
+abbrev pub invariant-loop-entity : goal.invariant-loop-entity
+invariant-loop-entity l = l.found.items ≡ map (λ entity. option_map (λ (whole : Whole). DatumWhole whole.0) (whole_at l.numbers entity.1)) (take l.entity-index l.entities)
