@@ -107,7 +107,7 @@ pub record RefusesDocument (book : Book) (bounds : Bounds) (reading : Reading) (
   pub untouched : writing.untouched
   pub whole : ReadWhole reading
 
--- The reader failed in the call, or gave bytes without end, and nothing was written.
+-- The reader failed in the call, or gave bytes 4,294,967,295 times, and nothing was written.
 pub record FailsRead (reading : Reading) (writing : Writing) : Type 0 where
   pub failed : HasFailed reading.failures_before reading.failures_after ⊎ GivesAtLeast 4294967295 reading.left_before reading.left_after
   pub untouched : writing.untouched

@@ -17,7 +17,7 @@ use Rattle.scene_draft.specs.Texts.{json_of}
 use Rattle.scene_document.specs.declared.loaded.Limits.{Limits}
 use Rattle.scene_document.specs.Documents.{document_from}
 use Rattle.scene_document.specs.Loading.{commands_at}
-use Rattle.scene_kept.specs.Keeping.{Keeping}
+use Rattle.scene_kept.specs.declared.columns.KeptScene.{KeptScene}
 use Rattle.scene_snapshot.specs.KeptScenes.{kept_scene}
 use Rattle.scene_world.specs.Standing.{Kinds, plain_of}
 use Rattle.scene_turns.specs.Turns.{Meaning}
@@ -47,9 +47,9 @@ pub record IsUnrefused {D G S : Type 0} (part_of : D → Part) (global_of : G �
 abbrev pub value_at : {X : Type 0} → Vec (Option X) → ℕ → Option X
 value_at list place = filled (slice_get list.items place)
 
--- the scene that is kept in lists by the places of the rules' names
-abbrev pub listed_scene : {D G : Type 0} → (D → Part) → (G → Json) → Book → Keeping (Vec (Option D)) (Vec (Option G)) → PlainScene
-listed_scene part_of global_of book kept = kept_scene part_of global_of value_at value_at book kept
+-- the scene that is kept, with its globals in a list by the places of the rules' names
+abbrev pub listed_scene : {D G : Type 0} → (D → Part) → (G → Json) → Book → KeptScene D (Vec (Option G)) → PlainScene
+listed_scene part_of global_of book kept = kept_scene part_of global_of value_at book kept
 
 -- a scene stands in a world, with its systems ready for a frame, no command that waits, and their places
 pub record Stands {V P : Type 0} (kinds : Kinds V) (meaning : Meaning P) (book : Book) (systems : Dispatching P P) (w : Slots V) (at_places : List ℕ) (scene : PlainScene) : Type 0 where

@@ -19,9 +19,7 @@ use specs_markers::Marker;
 use std::alloc::{AllocError, Global};
 
 /// The markers of a world. Errors: where it has none.
-fn markers_in<R: Rules>(
-    world: &World<R::Value>,
-) -> Result<&MaskedStorage<SceneMarker>, AllocError>
+fn markers_in<R: Rules>(world: &World<R::Value>) -> Result<&MaskedStorage<SceneMarker>, AllocError>
     ensures { IfOk result (λ markers. (index : ℕ) → (roll_of
         (kinds_of ⟦<R::Value as SceneValue<R::Data>>⟧.places R.part_of R.columns) (seen_of world.now)).marker index
         ≡ marker_at markers.now index) }
