@@ -10,7 +10,8 @@ use Rattle.scene_rules.specs.Parts.{Json, Name, Part, is_among, place_of}
 use Rattle.scene_rules.specs.Rulebook.{Book}
 use Rattle.scene_rules.specs.Scenes.{PlainScene, IsProper}
 use Rattle.scene_rules.specs.Laws.{Ascend}
-use Rattle.scene_kept.specs.Keeping.{Keeping, kept_at}
+use Rattle.scene_kept.specs.declared.columns.KeptScene.{KeptScene}
+use Rattle.scene_snapshot.specs.KeptScenes.{kept_datum}
 use Rattle.scene_draft.specs.Drafts.{Draft, draft_from}
 use Rattle.scene_draft.specs.Texts.{json_of, scene_json}
 use Rattle.scene_draft.proofs.CallerLemmas.{is_some-place_of}
@@ -63,35 +64,30 @@ from_document book indices json draft made = whole (has_float json) (draft_from 
     whole true o is = absurd (cc)
     whole false o is = shaped o is
 
-module _ {D G : Type 0} (part_of : D → Part) (global_of : G → Json) (book : Book) (kept : Keeping (Vec (Option D)) (Vec (Option G))) (proper : IsProper book (listed_scene part_of global_of book kept))
+module _ {D G : Type 0} (part_of : D → Part) (global_of : G → Json) (book : Book) (kept : KeptScene D (Vec (Option G))) (proper : IsProper book (listed_scene part_of global_of book kept))
     (back : (kind : Name) (one : D) → book.admits kind (part_of one) ≡ true → book.read_part kind (part_of one).json ≡ Some (part_of one)) where
   abbrev scene : PlainScene
   scene = listed_scene part_of global_of book kept
 
   stands : (id : ℕ) (kind : Name) (held : Part) → scene.part id kind ≡ Some held → is_among kind book.part_names ≡ true
-  stands id kind held is = here (kept_at kept id) (place_of kind book.part_names) (is_some-place_of kind book.part_names) is
+  stands id kind held is = here (place_of kind book.part_names) (is_some-place_of kind book.part_names) is
     where
-      here : (parts : Option (Vec (Option D))) (o : Option ℕ) → is_some o ≡ is_among kind book.part_names → option_and_then (λ one. option_map part_of (option_and_then (value_at one) o)) parts ≡ Some held → is_among kind book.part_names ≡ true
-      here None o among some = absurd (none-some held some)
-      here (Some parts) None among some = absurd (none-some held some)
-      here (Some parts) (Some place) among some = sym among
+      here : (o : Option ℕ) → is_some o ≡ is_among kind book.part_names → option_map part_of (option_and_then (kept_datum kept.columns.items id) o) ≡ Some held → is_among kind book.part_names ≡ true
+      here None among some = absurd (none-some held some)
+      here (Some place) among some = sym among
 
   named : (name : Name) (one : Json) → scene.global name ≡ Some one → is_among name book.global_names ≡ true
   named name one is = here (place_of name book.global_names) (is_some-place_of name book.global_names) is
     where
-      here : (o : Option ℕ) → is_some o ≡ is_among name book.global_names → option_map global_of (option_and_then (value_at kept.globals) o) ≡ Some one → is_among name book.global_names ≡ true
+      here : (o : Option ℕ) → is_some o ≡ is_among name book.global_names → option_map global_of (option_and_then (value_at kept.living.globals) o) ≡ Some one → is_among name book.global_names ≡ true
       here None among some = absurd (none-some one some)
       here (Some place) among some = sym among
 
   parts-back : (id : ℕ) (kind : Name) (held : Part) → scene.part id kind ≡ Some held → book.read_part kind held.json ≡ Some held
-  parts-back id kind held is = here (kept_at kept id) is
+  parts-back id kind held is = from_map part_of (option_and_then (kept_datum kept.columns.items id) (place_of kind book.part_names)) held is (λ datum found made. of_datum datum made)
     where
       of_datum : (datum : D) → part_of datum ≡ held → book.read_part kind held.json ≡ Some held
       of_datum datum made = subst (λ (part : Part). book.read_part kind part.json ≡ Some part) made (back kind datum (ap (book.admits kind) made ∙ proper.admitted id kind held is))
-
-      here : (parts : Option (Vec (Option D))) → option_and_then (λ one. option_map part_of (option_and_then (value_at one) (place_of kind book.part_names))) parts ≡ Some held → book.read_part kind held.json ≡ Some held
-      here None some = absurd (none-some held some)
-      here (Some parts) some = from_map part_of (option_and_then (value_at parts) (place_of kind book.part_names)) held some (λ datum found made. of_datum datum made)
 
   -- it can be read
   pub can-be-read : CanBeRead book scene
