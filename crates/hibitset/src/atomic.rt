@@ -1,4 +1,4 @@
-//! The set whose bits threads will set together, held alone.
+//! `AtomicBitSet` of the Rust crate, held by one owner: no two threads set bits in it at once.
 ghost use Rattle.std.specs.Prelude.{◌≡◌, ℕ, ◌<◌, ◌≤◌, IsTrue, ◌↔◌, IsOk, IfOk, OnOk, OnErr, true, map, List};
 ghost use Rattle.std.specs.FinSet as set;
 

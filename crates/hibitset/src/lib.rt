@@ -1,7 +1,7 @@
 //! Sets of indices in four layers of words, their splits, and work over them in several threads.
 //!
 //! Sets, operators and walks are those of `hibitset_sets`, under the same names. This crate adds
-//! producers, which can be split, parallel walks, and the set whose bits threads will set together.
+//! producers, which can be split, parallel walks, and `AtomicBitSet`, held by one owner.
 #![tactic(auto)]
 
 pub mod atomic;

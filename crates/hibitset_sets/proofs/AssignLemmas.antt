@@ -1,6 +1,7 @@
 -- Assignments word by word: the words before a place are done, those from it on are left.
 use Rattle.std.proofs.Common.{◌≡◌, ℕ, zero, suc, ◌+◌, ◌*◌, ◌/◌, ◌%◌, ◌<◌, ◌≤◌, Bool, true, false, ◌&&◌, cond, eqb, ◌⊎◌, inl, inr, refl, sym, ap, ◌∙◌, arith, List, [], ◌∷◌}
-use Rattle.std.specs.List.{list_any, range_with_len}
+use Rattle.std.specs.List.{All, list_any, range_with_len}
+use Rattle.std.proofs.lemmas.List.Elements.{filter_passes}
 use Rattle.std.proofs.Common.{filter}
 use Rattle.std.proofs.lemmas.Bool.{cases_eq, cases_lt, true≢false, eq-eqb, ne_eqb, lt-ltb, le-ltb, or_left, or_right, or_cases, eqb-true, false_from_ne_true}
 use Rattle.hibitset_sets.specs.Bits.{has_bit}
@@ -59,6 +60,11 @@ walked (suc n) a p i low high member =
 pub any-walk : (p : ℕ → Bool) (i : ℕ) → i < 16777216 → p i ≡ true → list_any (eqb i) (walk p) ≡ true
 unfolding walk
 any-walk p i within member = walked 16777216 0 p i (omega arith) (omega arith) member
+
+-- a walk comes to members alone
+pub members-walked : (p : ℕ → Bool) → All (λ i. p i ≡ true) (walk p)
+unfolding walk
+members-walked p = filter_passes p (range_with_len 0 16777216)
 
 -- each member is below the bound or still to come
 abbrev pub IsBoundedOrLeft : (ℕ → Bool) → ℕ → List ℕ → Type 0

@@ -11,7 +11,8 @@ ghost use Rattle.scene_world.specs.Standing.{roll_of};
 ghost use Rattle.scene_world.specs.Rolls.{ids_in};
 ghost use Rattle.scene_turns.specs.Places.{kinds_of};
 ghost use Rattle.scene_acts.specs.Acts.{seen_of, MayAct, Acts, StaysElsewhere};
-ghost use Rattle.scene_acts.specs.Newborns.{RefusesLife, RefusesSpawn, ComesToLife, GetsId, Marks, GivesPart, GivesParts, Settles};
+ghost use Rattle.scene_acts.specs.Newborns.{RefusesLife, RefusesSpawn, ComesToLife, GetsId, Marks, GivesPart};
+ghost use Rattle.scene_acts.specs.Newborns.{GivesParts, Settles};
 
 use crate::looking::entities_under;
 use crate::parts::put_at;

@@ -1,12 +1,12 @@
 -- What a system that asks came to.
 use Rattle.std.proofs.Common.{◌≡◌, ◌<◌, ℕ, ℤ, Bool, true, false, cond, eqb, List, [], ◌∷◌, ◌++◌, append_assoc, append-nil, All, Option, Some, None, is_some, refl, sym, ap, ◌∙◌, subst}
 use Rattle.std.specs.Prelude.{IsSome, option_and_then, option_map, pos, int_le}
-use Rattle.std.specs.List.{list_any, filter, filter_map, cons_option, range_with_len}
-use Rattle.std.proofs.lemmas.List.Elements.{All-head, All-tail, All-weaker, filter_passes}
+use Rattle.std.specs.List.{list_any, filter, filter_map, cons_option}
+use Rattle.std.proofs.lemmas.List.Elements.{All-head, All-tail, All-weaker}
 use Rattle.std.proofs.lemmas.Map.Views.{any-filter_same}
 use Rattle.hibitset_sets.specs.BitSet.{has_member}
 use Rattle.hibitset_sets.specs.Walk.{walk}
-use Rattle.hibitset_sets.proofs.CallerLemmas.{any-walk}
+use Rattle.hibitset_sets.proofs.CallerLemmas.{any-walk, members-walked}
 use Rattle.specs_layouts.specs.Masked.{Agrees}
 use Rattle.std.specs.Option.{option_map_or}
 use Rattle.std.proofs.lemmas.Bool.{false≢true, eqb-true}
@@ -69,11 +69,6 @@ lent-ids Deaths w = refl
 lent-ids Births w = refl
 
 -- ---- those for whom something may be asked, among the numbers of a kind
-
--- the indices that a set has are its members
-members-walked : (members : ℕ → Bool) → All (λ index. members index ≡ true) (walk members)
-unfolding walk
-members-walked members = filter_passes members (range_with_len 0 16777216)
 
 module _ (ask : Ask) (numbers : Numbers) where
   -- those that were chosen, with those among them that are to come, are all; and each that is to come has a number

@@ -9,7 +9,8 @@ ghost use Rattle.scene_basics.specs.declared.values.Value.TheVariants.{NumbersVa
 ghost use Rattle.scene_basics.specs.declared.values.Whole.{Whole as Number};
 ghost use Rattle.scene_basics.specs.Values.{whole_at, global_in};
 ghost use Rattle.scene_basics.specs.Columns.{part_id, global_id};
-ghost use Rattle.scene_basics.specs.Adding.{gained, numbers_of, addend, ShowsNumbers, Adds, SaysOverflow, SaysWhy, StopsAdding};
+ghost use Rattle.scene_basics.specs.Adding.{gained, numbers_of, addend, ShowsNumbers, Adds, SaysOverflow, SaysWhy};
+ghost use Rattle.scene_basics.specs.Adding.{StopsAdding};
 
 use crate::columns::part_id;
 use crate::data::Gain;

@@ -1,5 +1,6 @@
 //! The systems in a world that ask for deaths or births.
-ghost use Rattle.std.specs.Prelude.{◌≡◌, option_copied, ◌==◌, ◌++◌, ℕ, true, OnOk, IfOk, IfErr, MatchResult, [], option_map};
+ghost use Rattle.std.specs.Prelude.{◌≡◌, option_copied, ◌==◌, ◌++◌, ℕ, true, OnOk, IfOk, IfErr, MatchResult, []};
+ghost use Rattle.std.specs.Prelude.{option_map};
 ghost use Rattle.std.specs.List.{filter_map, list_any};
 ghost use Rattle.std.specs.Option.{option_to_list};
 ghost use Rattle.scene_rules.specs.Rulebook.{leaves};

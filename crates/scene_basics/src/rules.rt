@@ -55,7 +55,9 @@ fn is_number_kind(kind: &str) -> bool
 }
 
 impl DocumentRules for Basics {
-    ghost use Rattle.scene_basics.specs.RuleLaws.{law-reads_admitted, law-reads_back, law-global_reads_back, law-no_float, law-no_global_float, law-kinds_ascend, law-globals_ascend, law-declares_known};
+    ghost use Rattle.scene_basics.specs.RuleLaws.{law-reads_admitted, law-reads_back, law-global_reads_back};
+    ghost use Rattle.scene_basics.specs.RuleLaws.{law-no_float, law-no_global_float, law-kinds_ascend};
+    ghost use Rattle.scene_basics.specs.RuleLaws.{law-globals_ascend, law-declares_known};
 
     type Data = Datum;
 

@@ -3,7 +3,8 @@
 ghost use Rattle.std.specs.Prelude.{◌≡◌, refl};
 ghost use Rattle.std.proofs.Common.{rules};
 ghost use Rattle.scene_basics.specs.Values.{births_in, markers_in, noting_in, queue_in};
-ghost use Rattle.scene_basics.specs.declared.values.Value.TheVariants.{EntitiesValue, MarkersValue, AllocatorValue, QueueValue};
+ghost use Rattle.scene_basics.specs.declared.values.Value.TheVariants.{EntitiesValue, MarkersValue, AllocatorValue};
+ghost use Rattle.scene_basics.specs.declared.values.Value.TheVariants.{QueueValue};
 
 use crate::data::Datum;
 use scene_rules::Queue;

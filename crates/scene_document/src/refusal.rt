@@ -8,7 +8,10 @@ ghost use Rattle.scene_draft.specs.Drafts.{Draft};
 ghost use Rattle.scene_document.specs.Documents.{refusal_of, has_double};
 ghost use Rattle.scene_draft.specs.DraftViews.{IsDraft};
 ghost use Rattle.scene_rules.specs.Ids.{ascending};
-ghost use Rattle.scene_document.specs.Refusals.{datum_dangles, entity_dangles, asks_unknown, stands_for, lacks_declared, is_unmade, entry_that, has_unknown, declared_refusal, number_refusal, system_refusal, later_refusal, entity_refusal, draft_refusal};
+ghost use Rattle.scene_document.specs.Refusals.{datum_dangles, entity_dangles, asks_unknown, stands_for};
+ghost use Rattle.scene_document.specs.Refusals.{lacks_declared, is_unmade, entry_that, has_unknown, declared_refusal};
+ghost use Rattle.scene_document.specs.Refusals.{number_refusal, system_refusal, later_refusal, entity_refusal};
+ghost use Rattle.scene_document.specs.Refusals.{draft_refusal};
 
 use crate::ids::ids_of;
 use crate::loaded::Limits;

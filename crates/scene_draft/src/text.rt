@@ -1,8 +1,10 @@
 //! JSON from bytes.
-ghost use Rattle.std.specs.Prelude.{◌≡◌, None, Some, [], map, option_map, option_copied, slice_get, IfOk, OnOk, MatchResult};
+ghost use Rattle.std.specs.Prelude.{◌≡◌, None, Some, [], map, option_map, option_copied, slice_get, IfOk, OnOk};
+ghost use Rattle.std.specs.Prelude.{MatchResult};
 ghost use Rattle.serde_json.specs.Data.{object};
 ghost use Rattle.serde_json.specs.View.{view, items_view, members_view};
-ghost use Rattle.serde_json.specs.Written.{has_float as holds_float, items_have_float as items_hold_float, members_have_float as members_hold_float};
+ghost use Rattle.serde_json.specs.Written.{has_float as holds_float, items_have_float as items_hold_float};
+ghost use Rattle.serde_json.specs.Written.{members_have_float as members_hold_float};
 ghost use Rattle.scene_draft.specs.Texts.{json_of};
 
 use serde_json::{Category, Map, Value};

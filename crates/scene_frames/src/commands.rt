@@ -1,5 +1,6 @@
 //! The commands of a frame in a world: those that are given, and then those that wait in the queues of systems.
-ghost use Rattle.std.specs.Prelude.{◌≡◌, ◌+◌, ◌≤◌, ◌<◌, ◌++◌, ℕ, List, All, None, true, false, length, IfOk, IfErr, OnOk, OnErr};
+ghost use Rattle.std.specs.Prelude.{◌≡◌, ◌+◌, ◌≤◌, ◌<◌, ◌++◌, ℕ, List, All, None, true, false, length, IfOk, IfErr};
+ghost use Rattle.std.specs.Prelude.{OnOk, OnErr};
 ghost use Rattle.scene_rules.specs.declared.refusals.FrameRefusal.TheVariants as cause;
 ghost use Rattle.scene_rules.specs.Parts.{Part};
 ghost use Rattle.scene_rules.specs.Lawful.{IsLawful};

@@ -1,7 +1,7 @@
 -- Lemmas on what is kept of a world: of who lives, of the columns of kinds, and of the scene.
 use Rattle.std.proofs.Common.{◌≡◌, ◌<◌, ◌+◌, ℕ, zero, suc, take, get_or, Bool, true, false, cond, eqb, ◌||◌, List, [], ◌∷◌, ◌++◌, append_assoc, append-nil, map, length, All, Option, Some, None, IsSome, is_some, option_map, refl, ap, sym, subst, ◌∙◌, arith}
 use Rattle.std.specs.Prelude.{option_and_then, slice_get}
-use Rattle.std.specs.List.{list_any, range_with_len}
+use Rattle.std.specs.List.{list_any}
 use Rattle.std.specs.List.Sorted.{IsPermutation}
 use Rattle.std.proofs.lemmas.List.Sorted.{All-permutation, list_any-IsPermutation, IsPermutation-map}
 use Rattle.std.specs.Global.{Vec}
@@ -9,11 +9,11 @@ use Rattle.std.specs.Ordering.{nat_cmp}
 use Rattle.std.specs.FinMap as finite
 use Rattle.std.specs.Cmp.{nat_cmp_total}
 use Rattle.std.proofs.lemmas.Bool.{false≢true, eqb-true, eq-eqb}
-use Rattle.std.proofs.lemmas.List.Elements.{All-nil, All-head, All-tail, All-push, All-weaker, filter_passes}
+use Rattle.std.proofs.lemmas.List.Elements.{All-nil, All-head, All-tail, All-push, All-weaker}
 use Rattle.std.proofs.lemmas.List.{length-map, map-append, take_more}
 use Rattle.hibitset_sets.specs.BitSet.{has_member}
 use Rattle.hibitset_sets.specs.Walk.{walk}
-use Rattle.hibitset_sets.proofs.CallerLemmas.{any-walk}
+use Rattle.hibitset_sets.proofs.CallerLemmas.{any-walk, members-walked}
 use Rattle.specs_entity.specs.Births.{living}
 use Rattle.specs_entity.specs.Life.{Life, LifeAt}
 use Rattle.specs_flagged.specs.Flagged.{Flagged}
@@ -120,11 +120,6 @@ module _ (roll : Roll) (is : IsRoll roll) (markers : Masked (Flagged (VecStorage
     each = All-weaker (λ pair. marker_at markers pair.1 ≡ Some pair.0) (λ pair. id_at roll pair.1 ≡ Some pair.0) (λ pair. marked-lives pair.1 pair.0) pairs are.each;
     all = λ index some. are.all index (lives-marked index some);
   }
-
--- the indices that a set has are its members
-members-walked : (members : ℕ → Bool) → All (λ index. members index ≡ true) (walk members)
-unfolding walk
-members-walked members = filter_passes members (range_with_len 0 16777216)
 
 module _ (markers : Masked (Flagged (VecStorage ℕ))) where
   -- the pairs so far are markers, with the indices that are to come they are all, and at each of these is one

@@ -2,7 +2,8 @@
 ghost use Rattle.std.specs.Prelude.{◌≡◌, ◌≤◌, ℕ, List, length, Some, Ok, IfOk, IfErr};
 ghost use Rattle.scene_rules.specs.Parts.{Json};
 ghost use Rattle.scene_rules.specs.Scenes.{PlainScene};
-ghost use Rattle.scene_draft.specs.Drafts.{Draft, DraftEntry, DraftCommand, draft_from, entries_from, whole_32, commands_from};
+ghost use Rattle.scene_draft.specs.Drafts.{Draft, DraftEntry, DraftCommand, draft_from, entries_from, whole_32};
+ghost use Rattle.scene_draft.specs.Drafts.{commands_from};
 ghost use Rattle.scene_document.specs.Documents.{document_from, document_of};
 ghost use Rattle.scene_document.specs.Openings.{first_scene};
 ghost use Rattle.scene_draft.specs.Texts.{scene_json, text_of, ReadsBack};

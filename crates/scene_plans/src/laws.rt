@@ -1,5 +1,6 @@
 //! Laws of the plans of a scene's systems. The functions have no code; each contract is the law.
-ghost use Rattle.std.specs.Prelude.{◌≡◌, ◌≢◌, ◌≤◌, ◌++◌, ◌∷◌, [], ℕ, suc, true, false, List, length, map, All, None, Some, Ok};
+ghost use Rattle.std.specs.Prelude.{◌≡◌, ◌≢◌, ◌≤◌, ◌++◌, ◌∷◌, [], ℕ, suc, true, false, List, length, map, All, None};
+ghost use Rattle.std.specs.Prelude.{Some, Ok};
 ghost use Rattle.shred_world.specs.declared.resource_id.ResourceId.{ResourceId as Id};
 ghost use Rattle.shred_plan.specs.Plan.{Placing, conflict, plan, order};
 ghost use Rattle.shred.specs.Building.{Declared, nothing_built, built_with, fenced, refusal};

@@ -1,5 +1,6 @@
 //! The rules of a scene, whose systems run over a world of entities.
-ghost use Rattle.std.specs.Prelude.{◌≡◌, ◌<◌, ◌++◌, ℕ, true, [], length, map, Some, None, IfOk, OnOk, OnErr, IfSome, IsTrue, option_copied, option_map};
+ghost use Rattle.std.specs.Prelude.{◌≡◌, ◌<◌, ◌++◌, ℕ, true, [], length, map, Some, None, IfOk, OnOk, OnErr, IfSome};
+ghost use Rattle.std.specs.Prelude.{IsTrue, option_copied, option_map};
 ghost use Rattle.shred_stages.specs.Views.{Leaves, error_of};
 ghost use Rattle.scene_rules.specs.Parts.{living, is_among};
 
@@ -24,7 +25,8 @@ pub trait Rules: DocumentRules {
     ghost use Rattle.scene_rules.specs.Queues.{waiting, plain_commands};
     ghost use Rattle.scene_world.specs.Lent.{StandApart};
     ghost use Rattle.scene_turns.specs.Places.{Columns, kinds_of};
-    ghost use Rattle.scene_turns.specs.Putting.{named_in, HasValue, PutsIn, TakesOut, SameColumn, part_read, AreReadAt, Registers, AreNamedIn};
+    ghost use Rattle.scene_turns.specs.Putting.{named_in, HasValue, PutsIn, TakesOut, SameColumn, part_read};
+    ghost use Rattle.scene_turns.specs.Putting.{AreReadAt, Registers, AreNamedIn};
     ghost use Rattle.scene_turns.specs.Turns.{Sense, Runs, IsOfBook, meaning_of};
 
     /// What a world holds.

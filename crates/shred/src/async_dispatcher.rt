@@ -1,7 +1,8 @@
 //! Dispatches that run in a thread of their own while the caller goes on.
 ghost use Rattle.std.specs.Prelude.{◌≡◌, true, is_ok, IfOk};
 ghost use Rattle.shred.specs.Dispatching.{DispatchesLocals};
-ghost use Rattle.shred.specs.Asyncs.{here, Tells, TellsMemory, IsAway, IsAtHand, Does, Ends, Joins, Finishes, JoinsFirst, StartsFrom, SetsUpOwned};
+ghost use Rattle.shred.specs.Asyncs.{here, Tells, TellsMemory, IsAway, IsAtHand, Does, Ends, Joins, Finishes};
+ghost use Rattle.shred.specs.Asyncs.{JoinsFirst, StartsFrom, SetsUpOwned};
 
 use crate::{AsyncError, DispatchError, Dispatcher, RunNow, System};
 use shred_async::{Away, Done, Errand, Unstarted};

@@ -4,7 +4,10 @@ ghost use Rattle.shred_world.specs.Bundles.{holding_of};
 ghost use Rattle.shred_plan.specs.Plan.{most_groups};
 ghost use Rattle.shred_stages.specs.Views.{Leaves};
 ghost use Rattle.shred_stages.specs.Orders.{RunsInAnyOrder};
-ghost use Rattle.shred.specs.Dispatching.{Dispatching, Dispatches, DispatchesAll, DispatchesInAnyOrder, DispatchesOnThreads, DispatchesStaged, DispatchesLocals, local_refusal, TellsLocal, DispatcherSetsUp, DispatcherDisposes, TellsFirst, stop_in, MeetsAsLocal, DisposesAsLocal};
+ghost use Rattle.shred.specs.Dispatching.{Dispatching, Dispatches, DispatchesAll, DispatchesInAnyOrder};
+ghost use Rattle.shred.specs.Dispatching.{DispatchesOnThreads, DispatchesStaged, DispatchesLocals, local_refusal};
+ghost use Rattle.shred.specs.Dispatching.{TellsLocal, DispatcherSetsUp, DispatcherDisposes, TellsFirst, stop_in};
+ghost use Rattle.shred.specs.Dispatching.{MeetsAsLocal, DisposesAsLocal};
 ghost use Rattle.shred_stages.specs.Seats.{refusal_of};
 
 use crate::locals::{LocalRefusal, dispose_locals, run_locals, set_up_list};

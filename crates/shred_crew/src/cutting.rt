@@ -2,7 +2,8 @@
 ghost use Rattle.std.specs.Prelude.{◌≡◌, ◌<◌, ◌^◌, [], length, map, replicate, IfOk, OnOk};
 ghost use Rattle.std.specs.List.{All, enumerate_from, range_with_len};
 ghost use Rattle.shred_crew.specs.Deals.{lists, put_at};
-ghost use Rattle.shred_crew.specs.Cuts.{place_of_least as least, with_time, went_to, worker_of_each as workers_of, groups_of, by_falling_time as by_time, cut as shares, IsShared};
+ghost use Rattle.shred_crew.specs.Cuts.{place_of_least as least, with_time, went_to, worker_of_each as workers_of};
+ghost use Rattle.shred_crew.specs.Cuts.{groups_of, by_falling_time as by_time, cut as shares, IsShared};
 
 use std::alloc::{AllocError, Global};
 use std::cmp::Reverse;

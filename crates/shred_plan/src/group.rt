@@ -1,5 +1,6 @@
 //! Systems that run one after another.
-ghost use Rattle.std.specs.Prelude.{◌≡◌, ◌==◌, false, ◌≤◌, ◌<◌, ℕ, [], ◌∷◌, ◌++◌, length, map, OnOk, OnErr, IfOk, IfErr};
+ghost use Rattle.std.specs.Prelude.{◌≡◌, ◌==◌, false, ◌≤◌, ◌<◌, ℕ, [], ◌∷◌, ◌++◌, length, map, OnOk, OnErr, IfOk};
+ghost use Rattle.std.specs.Prelude.{IfErr};
 ghost use Rattle.std.specs.List.{remove, list_any};
 ghost use Rattle.std.specs.Option.{MatchOption};
 ghost use Rattle.shred_plan.specs.Plan.{hits, time_of, rest_after, without, completes};

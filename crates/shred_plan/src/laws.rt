@@ -1,7 +1,8 @@
 //! Laws of all plans, on which callers rely. The functions have no code; each contract is the law.
 ghost use Rattle.std.specs.Prelude.{List, [], ◌∷◌, ◌++◌};
 ghost use Rattle.shred_plan.specs.Plan.{Added, fence, plan};
-ghost use Rattle.shred_plan.specs.Laws.{GroupsAreApart, GroupsAreShort, EachStandsOnce, systems_added, Stay, EndsWith, ComeAfter, StagesWait};
+ghost use Rattle.shred_plan.specs.Laws.{GroupsAreApart, GroupsAreShort, EachStandsOnce, systems_added, Stay};
+ghost use Rattle.shred_plan.specs.Laws.{EndsWith, ComeAfter, StagesWait};
 
 /// A group has at most four systems.
 pub fn groups_are_short<K: PartialEq + Drop>()

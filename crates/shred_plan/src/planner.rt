@@ -1,5 +1,6 @@
 //! The plan of the systems that were added.
-ghost use Rattle.std.specs.Prelude.{◌≡◌, ◌==◌, ◌-◌, ◌/◌, ◌%◌, ◌≤◌, ◌<◌, ℕ, true, false, min, [], ◌∷◌, ◌++◌, length, map, nat_eq, OnOk, OnErr, IfOk, IfErr, if◌then◌else◌, Some, None};
+ghost use Rattle.std.specs.Prelude.{◌≡◌, ◌==◌, ◌-◌, ◌/◌, ◌%◌, ◌≤◌, ◌<◌, ℕ, true, false, min, [], ◌∷◌, ◌++◌, length};
+ghost use Rattle.std.specs.Prelude.{map, nat_eq, OnOk, OnErr, IfOk, IfErr, if◌then◌else◌, Some, None};
 ghost use Rattle.std.specs.List.{IsDistinct};
 ghost use Rattle.std.specs.Option.{IfSome};
 ghost use Rattle.shred_plan.specs.Plan.{Planning, added, fence, placing, placed, admitted, plan_order, most_groups};

@@ -1,5 +1,6 @@
 //! Groups that may run at the same time, and the ways in which a stage takes a system in.
-ghost use Rattle.std.specs.Prelude.{◌≡◌, true, ◌==◌, ◌≤◌, ◌<◌, ◌&&◌, ℕ, [], ◌∷◌, ◌++◌, length, map, count_by, OnOk, OnErr, IfOk, IfErr, IfSome, OnSome, if◌then◌else◌, None};
+ghost use Rattle.std.specs.Prelude.{◌≡◌, true, ◌==◌, ◌≤◌, ◌<◌, ◌&&◌, ℕ, [], ◌∷◌, ◌++◌, length, map, count_by, OnOk};
+ghost use Rattle.std.specs.Prelude.{OnErr, IfOk, IfErr, IfSome, OnSome, if◌then◌else◌, None};
 ghost use Rattle.std.specs.List.{position};
 ghost use Rattle.std.specs.Option.{option_map};
 ghost use Rattle.shred_plan.specs.Plan.{hits, joins, completes, longest, rest_after, systems_of, admitted, taken};

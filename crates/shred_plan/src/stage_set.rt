@@ -1,5 +1,6 @@
 //! Sets of stages, one bit a stage.
-ghost use Rattle.std.specs.Prelude.{◌≡◌, ℕ, ◌+◌, ◌*◌, ◌/◌, ◌<◌, ◌≤◌, ◌==◌, ◌||◌, ◌&&◌, not, true, false, length, slice_index, OnOk};
+ghost use Rattle.std.specs.Prelude.{◌≡◌, ℕ, ◌+◌, ◌*◌, ◌/◌, ◌<◌, ◌≤◌, ◌==◌, ◌||◌, ◌&&◌, not, true, false, length};
+ghost use Rattle.std.specs.Prelude.{slice_index, OnOk};
 ghost use Rattle.std.specs.Int.{bit_at};
 
 use std::alloc::{AllocError, Global};

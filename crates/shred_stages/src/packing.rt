@@ -5,7 +5,8 @@ ghost use Rattle.shred_stages.specs.Moves.{HasSlots};
 ghost use Rattle.shred_stages.specs.Seats.{StageIsSeated, refusal_of};
 ghost use Rattle.shred_stages.specs.Packs.{ArePlaced};
 ghost use Rattle.shred_stages.specs.Lending.{first_told};
-ghost use Rattle.shred_stages.specs.Away.{standing, systems_in, AreIn, IsLoaded, IsHome, AreHome, ComeHome, IsPutBack, ArePutBack};
+ghost use Rattle.shred_stages.specs.Away.{standing, systems_in, AreIn, IsLoaded, IsHome, AreHome, ComeHome};
+ghost use Rattle.shred_stages.specs.Away.{IsPutBack, ArePutBack};
 ghost use Rattle.shred_stages.specs.Free.{AreFree};
 ghost use Rattle.shred_stages.specs.Loading.{AreLoaded};
 

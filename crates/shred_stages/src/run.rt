@@ -2,7 +2,8 @@
 ghost use Rattle.std.specs.Prelude.{◌≡◌, IfErr};
 ghost use Rattle.std.specs.Option.{option_or};
 ghost use Rattle.shred_stages.specs.Runs.{Turn, GroupRuns, StageRuns, StagesRun};
-ghost use Rattle.shred_stages.specs.Seats.{IsSeated, AreSeated, StageIsSeated, StagesAreSeated, SeatsKept, state_of, refusal_of, stop_of};
+ghost use Rattle.shred_stages.specs.Seats.{IsSeated, AreSeated, StageIsSeated, StagesAreSeated, SeatsKept, state_of};
+ghost use Rattle.shred_stages.specs.Seats.{refusal_of, stop_of};
 
 use crate::turn::{Staged, run_system};
 use crate::{Stop, System, SystemId};

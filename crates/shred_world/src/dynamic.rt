@@ -1,5 +1,6 @@
 //! Bundles whose ids are told by a value.
-ghost use Rattle.std.specs.Prelude.{◌≡◌, Bool, Option, Some, None, List, [], ◌∷◌, OnOk, OnErr, IfOk, IfErr, IsSome, is_ok};
+ghost use Rattle.std.specs.Prelude.{◌≡◌, Bool, Option, Some, None, List, [], ◌∷◌, OnOk, OnErr, IfOk, IfErr, IsSome};
+ghost use Rattle.std.specs.Prelude.{is_ok};
 ghost use Rattle.std.specs.Option.{option_and_then};
 ghost use Rattle.shred_world.specs.declared.resource_id.ResourceId.{ResourceId as Id};
 ghost use Rattle.shred_world.specs.Worlds.{Slots};

@@ -1,5 +1,6 @@
 //! A table of kinds whose values are walked in order of registration.
-ghost use Rattle.std.specs.Prelude.{◌≡◌, ◌==◌, true, false, ℕ, List, [], ◌∷◌, Some, None, OnOk, OnErr, IfNone, IfSome, IsSome, is_some, unwrap_or, option_copied, if◌then◌else◌};
+ghost use Rattle.std.specs.Prelude.{◌≡◌, ◌==◌, true, false, ℕ, List, [], ◌∷◌, Some, None, OnOk, OnErr, IfNone};
+ghost use Rattle.std.specs.Prelude.{IfSome, IsSome, is_some, unwrap_or, option_copied, if◌then◌else◌};
 ghost use Rattle.std.specs.Option.{option_copied_mut};
 ghost use Rattle.std.specs.List.{list_any};
 ghost use Rattle.std.specs.Borrow.{sem};

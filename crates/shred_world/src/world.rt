@@ -1,9 +1,11 @@
 //! A finite map from resource ids to values.
-ghost use Rattle.std.specs.Prelude.{◌≡◌, ◌≢◌, ◌&&◌, OnOk, OnErr, IfOk, IfErr, Some, None, option_copied, is_some, IsSome, IfSome, IfNone, OnSome, unwrap_or, ℕ, MatchOption, is_ok};
+ghost use Rattle.std.specs.Prelude.{◌≡◌, ◌≢◌, ◌&&◌, OnOk, OnErr, IfOk, IfErr, Some, None, option_copied, is_some};
+ghost use Rattle.std.specs.Prelude.{IsSome, IfSome, IfNone, OnSome, unwrap_or, ℕ, MatchOption, is_ok};
 ghost use Rattle.std.specs.Option.{option_copied_mut};
 ghost use Rattle.std.specs.Borrow.{sem};
 ghost use Rattle.std.specs.FinMap as map;
-ghost use Rattle.shred_world.specs.Worlds.{value_at, resource_at, resource_or, HasKind, IsThereOr, PutsUnless, IsLeastFrom};
+ghost use Rattle.shred_world.specs.Worlds.{value_at, resource_at, resource_or, HasKind, IsThereOr, PutsUnless};
+ghost use Rattle.shred_world.specs.Worlds.{IsLeastFrom};
 ghost use Rattle.shred_world.specs.Bundles.{holding_of, DefaultsTo};
 ghost use Rattle.shred_world.specs.Execs.{ChangesTwo, ChangesBy, CallsWithBundle, CallableWithBundle, IsExecError};
 ghost use Rattle.shred_world.specs.ResourceIds.{id_of};

@@ -2,8 +2,10 @@
 ghost use Rattle.std.specs.Prelude.{◌≡◌, Some, None, refl};
 ghost use Rattle.std.proofs.Common.{rules};
 ghost use Rattle.specs_layouts.specs.DropLemmas.{dropped-parts, drops-none, drops-append};
-ghost use Rattle.simulation.specs.Values.{value_has_part, value_has_room, value_drops, value-parts, value-none, value-append};
-ghost use Rattle.simulation.specs.declared.values.Value.TheVariants.{EntitiesValue, TableValue, PositionValue, VelocityValue};
+ghost use Rattle.simulation.specs.Values.{value_has_part, value_has_room, value_drops, value-parts, value-none};
+ghost use Rattle.simulation.specs.Values.{value-append};
+ghost use Rattle.simulation.specs.declared.values.Value.TheVariants.{EntitiesValue, TableValue, PositionValue};
+ghost use Rattle.simulation.specs.declared.values.Value.TheVariants.{VelocityValue};
 
 use shred_world::{MetaTable, Resource};
 use specs_entity::{EntitiesRes, Entity};

@@ -4,11 +4,11 @@ use Rattle.std.specs.Prelude.{IfSome}
 use Rattle.std.specs.FinSet as fin
 use Rattle.std.specs.Ordering.{nat_cmp}
 use Rattle.std.specs.List.{All, AllByRecursion, IsDistinct, list_any, range_with_len}
-use Rattle.std.proofs.lemmas.List.Elements.{All-map, All-weaker, filter_passes}
+use Rattle.std.proofs.lemmas.List.Elements.{All-map, All-weaker}
 use Rattle.std.proofs.lemmas.List.Folds.{list_any_none}
 use Rattle.std.proofs.lemmas.Bool.{true≢false}
 use Rattle.hibitset_sets.specs.Walk.{walk, is_pending}
-use Rattle.hibitset_sets.proofs.CallerLemmas.{any-walk, contains-without, walk-without}
+use Rattle.hibitset_sets.proofs.CallerLemmas.{any-walk, contains-without, members-walked, walk-without}
 use Rattle.specs_entity.specs.Life.{Life, LifeAt, first_life}
 use Rattle.specs_entity.specs.Births.{Births, CanKill, all_deleted, all_living, entity_at, indices_of, living, persistent_at}
 use Rattle.specs_entity.specs.Layout.{AreBirths}
@@ -58,11 +58,6 @@ walk-distinct : (p : ℕ → Bool) → IsDistinct eqb (walk p)
 unfolding walk
 walk-distinct p = filtered-distinct 16777216 0 p
 
--- a walk comes to members alone
-walk-members : (p : ℕ → Bool) → All (λ i. p i ≡ true) (walk p)
-unfolding walk
-walk-members p = filter_passes p (range_with_len 0 16777216)
-
 -- ---- accepted deletions
 
 indices-at : (births : Births) (indices : List ℕ) → indices_of (map (entity_at births) indices) ≡ indices
@@ -85,7 +80,7 @@ deleted-killable births kept =
           All-map (λ (e : LifeAt). living births e.id ≡ Some e.generation) (entity_at births) indices
           (All-weaker (λ i. fin.contains births.deletions i ≡ true) (λ i. living births i ≡ Some (entity_at births i).generation)
           (λ i is. some-or (living births i) (unwrap_or (persistent_at births i) first_life) (kept.deletions i is))
-          indices (walk-members (fin.contains births.deletions)));
+          indices (members-walked (fin.contains births.deletions)));
       apart = subst (IsDistinct eqb) (sym (deleted-indices births)) (walk-distinct (fin.contains births.deletions));
     }
 
@@ -102,7 +97,7 @@ living-killable births =
           All-map (λ (e : LifeAt). living births e.id ≡ Some e.generation) (entity_at births) indices
           (All-weaker (λ i. is_some (living births i) ≡ true) (λ i. living births i ≡ Some (entity_at births i).generation)
           (λ i is. some-is (living births i) (unwrap_or (persistent_at births i) first_life) is)
-          indices (walk-members (λ index. is_some (living births index))));
+          indices (members-walked (λ index. is_some (living births index))));
       apart = subst (IsDistinct eqb) (sym (indices-at births indices)) (walk-distinct (λ index. is_some (living births index)));
     }
 
@@ -122,5 +117,5 @@ walked-deletions births kept index = elim (bool-cases (fin.contains births.delet
       list_any_none (λ other. eqb index other) (walk (fin.contains births.deletions))
       (All-weaker (λ i. fin.contains births.deletions i ≡ true) (λ i. eqb index i ≡ false)
       (λ i member. not-equal index i (λ same. true≢false (sym member ∙ ap (fin.contains births.deletions) (sym same) ∙ out)))
-      (walk (fin.contains births.deletions)) (walk-members (fin.contains births.deletions))) ∙ sym out
+      (walk (fin.contains births.deletions)) (members-walked (fin.contains births.deletions))) ∙ sym out
 ]

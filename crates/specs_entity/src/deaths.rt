@@ -16,7 +16,8 @@ use hibitset::{AtomicBitSet, BitSetLike};
 use std::alloc::AllocError;
 
 impl EntitiesRes {
-    ghost use Rattle.specs_entity.specs.Births.{Continues, living, all_buried, all_settled, all_deleted, all_living, merged};
+    ghost use Rattle.specs_entity.specs.Births.{Continues, living, all_buried, all_settled, all_deleted, all_living};
+    ghost use Rattle.specs_entity.specs.Births.{merged};
     ghost use Rattle.specs_entity.specs.Births.{RefusesKill, LivesBut, is_named};
 
     /// Lets all entities of a list die, in its order. After its test it takes no memory.

@@ -1,7 +1,8 @@
 //! A channel of events.
 ghost use Rattle.std.specs.Prelude.{◌≡◌, ◌≢◌, ℕ, ◌∷◌, ◌+◌, ◌-◌, ◌<◌, ◌≤◌, ◌++◌, [], OnOk, OnErr, IfOk, IsOk};
 ghost use Rattle.std.specs.Prelude.{length, max, map, is_ok, if◌then◌else◌};
-ghost use Rattle.specs_events.specs.Channels.{with_event, with_room, with_reader, after_read, let_go, since, has_readers};
+ghost use Rattle.specs_events.specs.Channels.{with_event, with_room, with_reader, after_read, let_go, since};
+ghost use Rattle.specs_events.specs.Channels.{has_readers};
 ghost use Rattle.specs_events.specs.Channels.{least_of, IsChannel, CaughtUp, log_of};
 
 use std::alloc::{AllocError, Global};

@@ -2,7 +2,8 @@
 ghost use Rattle.std.specs.Prelude.{◌≡◌, ◌≢◌, ◌<◌, ◌^◌, [], Some, IfNone, IfSome, IsSome, IsTrue, ◌↔◌, false};
 ghost use Rattle.std.specs.Result.{result_err};
 ghost use Rattle.specs_world.specs.Resources.{held};
-ghost use Rattle.specs_lazy.specs.Queues.{waiting, NoneWaits, NoneBelow, TakesUnder, TakesFirst, TakesNext, RunsNext, MayBeLeft};
+ghost use Rattle.specs_lazy.specs.Queues.{waiting, NoneWaits, NoneBelow, TakesUnder, TakesFirst, TakesNext, RunsNext};
+ghost use Rattle.specs_lazy.specs.Queues.{MayBeLeft};
 
 use crate::job::Job;
 use crate::lazy::LazyUpdate;

@@ -3,7 +3,8 @@ ghost use Rattle.std.specs.Prelude.{[], length, OnOk};
 ghost use Rattle.std.specs.FinMap as map;
 ghost use Rattle.shred_world.specs.Worlds.{AreDistinct};
 ghost use Rattle.specs_layouts.specs.Drops.{ids_of};
-ghost use Rattle.specs_world.specs.Dropping.{LeavesOthers, LeavesOtherKinds, SlotDrops, HasRoomAt, HaveRoom, Rests, DropsIn};
+ghost use Rattle.specs_world.specs.Dropping.{LeavesOthers, LeavesOtherKinds, SlotDrops, HasRoomAt, HaveRoom, Rests};
+ghost use Rattle.specs_world.specs.Dropping.{DropsIn};
 
 use shred_world::{ResourceId, World};
 use specs_entity::Entity;

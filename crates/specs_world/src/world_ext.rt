@@ -7,9 +7,11 @@ ghost use Rattle.shred_world.specs.Worlds.{Slots};
 ghost use Rattle.specs_entity.specs.Births.{IsAlive, Births, allocated, deleted, newborn, none_born};
 ghost use Rattle.specs_entity.specs.declared.errors.Error.TheVariants as refusal;
 ghost use Rattle.specs_layouts.specs.Parts.{HasNone};
-ghost use Rattle.specs_world.specs.Resources.{Allocates, AllocatesAll, Place, place, held, Becomes, IsNew, Registers, IsPersistent};
+ghost use Rattle.specs_world.specs.Resources.{Allocates, AllocatesAll, Place, place, held, Becomes, IsNew, Registers};
+ghost use Rattle.specs_world.specs.Resources.{IsPersistent};
 ghost use Rattle.specs_world.specs.Resources.{RefusesBirthIn, RefusesBirthsIn, DeletesLater, IsTakenOut};
-ghost use Rattle.specs_world.specs.Dropping.{Rests, DeletesIn, DeletesAll, MergesIn, DropsComponents, RefusesDeletion, RefusesMerge};
+ghost use Rattle.specs_world.specs.Dropping.{Rests, DeletesIn, DeletesAll, MergesIn, DropsComponents};
+ghost use Rattle.specs_world.specs.Dropping.{RefusesDeletion, RefusesMerge};
 ghost use Rattle.specs_world.specs.Lending.{LendsIn};
 ghost use Rattle.specs_world.specs.Inserting.{PutsPart, KeepsStorage, RefusesPart, AcceptsPart};
 

@@ -1,7 +1,9 @@
 //! The lists of commands of a document.
 ghost use Rattle.std.specs.Prelude.{◌≡◌, [], All, map, option_map, option_and_then};
 ghost use Rattle.serde_json.specs.View.{view};
-ghost use Rattle.scene_draft.specs.Drafts.{each, part_under, parts_from, command_under, only_member, command_from, command_list_from, commands_from, put_from, take_from, known_kind, read_or};
+ghost use Rattle.scene_draft.specs.Drafts.{each, part_under, parts_from, command_under, only_member, command_from};
+ghost use Rattle.scene_draft.specs.Drafts.{command_list_from, commands_from, put_from, take_from, known_kind};
+ghost use Rattle.scene_draft.specs.Drafts.{read_or};
 ghost use Rattle.scene_draft.specs.DraftViews.{seen, plain_part, plain_asked, plain_list, IsKnownDraft, AreApart};
 ghost use Rattle.scene_draft.specs.ShapeWords.{items_seen, members_seen, Reads, IsAsked};
 

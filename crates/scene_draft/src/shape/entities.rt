@@ -1,7 +1,8 @@
 //! The entities and globals of a document, read by the rules.
 ghost use Rattle.std.specs.Prelude.{[], map, All, length, option_and_then};
 ghost use Rattle.serde_json.specs.View.{view};
-ghost use Rattle.scene_draft.specs.Drafts.{each, part_under, parts_from, entity_from, entities_from, global_under, globals_from, read_or};
+ghost use Rattle.scene_draft.specs.Drafts.{each, part_under, parts_from, entity_from, entities_from, global_under};
+ghost use Rattle.scene_draft.specs.Drafts.{globals_from, read_or};
 ghost use Rattle.scene_draft.specs.DraftViews.{seen, named, plain_entity, IsPlaced};
 ghost use Rattle.scene_draft.specs.ShapeWords.{items_seen, members_seen, Reads, IsPart, IsEntity};
 

@@ -2,7 +2,8 @@
 ghost use Rattle.std.specs.Prelude.{[], All, map, option_map, option_and_then};
 ghost use Rattle.std.specs.Prelude.{◌≡◌};
 ghost use Rattle.serde_json.specs.View.{view};
-ghost use Rattle.scene_draft.specs.Drafts.{each, keys_within, entry_keys, entry_from, entries_from, facts_in_shape, system, read_or};
+ghost use Rattle.scene_draft.specs.Drafts.{each, keys_within, entry_keys, entry_from, entries_from, facts_in_shape};
+ghost use Rattle.scene_draft.specs.Drafts.{system, read_or};
 ghost use Rattle.scene_draft.specs.DraftViews.{seen, config_seen, facts_of, plain_system, plain_draft};
 ghost use Rattle.scene_draft.specs.ShapeWords.{items_seen, members_seen, entry_in, Reads, IsRuled, IsEntry};
 

@@ -1,5 +1,6 @@
 //! The fields of an object, each as what was found under its key.
-ghost use Rattle.std.specs.Prelude.{◌≡◌, ◌^◌, [], true, false, nat_lt, if◌then◌else◌, option_and_then, option_map, codes, MatchOption};
+ghost use Rattle.std.specs.Prelude.{◌≡◌, ◌^◌, [], true, false, nat_lt, if◌then◌else◌, option_and_then, option_map};
+ghost use Rattle.std.specs.Prelude.{codes, MatchOption};
 ghost use Rattle.serde_json.specs.Find.{as_str, as_bool};
 ghost use Rattle.scene_rules.specs.Parts.{is_among};
 ghost use Rattle.scene_draft.specs.Drafts.{keys_within, whole, whole_32, read_or, is_true, names_from, each};
