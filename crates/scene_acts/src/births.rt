@@ -203,7 +203,8 @@ fn give_parts<R: Rules>(
     alloc: Global,
 ) -> Result<(), AllocError>
     requires within { index < 16777216 }
-    requires known { All (λ entry. is_among entry.0 R.columns.part_names ≡ true) (map (plain_entry R.part_of) parts.now) }
+    requires known { All (λ entry. is_among entry.0 R.columns.part_names ≡ true)
+        (map (plain_entry R.part_of) parts.now) }
     requires apart { AllPairs (λ one other. bytes_eq one.0 other.0 ≡ false) (map (plain_entry R.part_of) parts.now) }
     ensures { OnOk result (GivesParts (kinds_of ⟦<R::Value as SceneValue<R::Data>>⟧.places R.part_of R.columns)
         (roll_of (kinds_of ⟦<R::Value as SceneValue<R::Data>>⟧.places R.part_of R.columns) (seen_of world.old)) index
@@ -224,7 +225,8 @@ fn settle<R: Rules>(
     alloc: Global,
 ) -> Result<(), AllocError>
     requires within { entity.id < 16777216 }
-    requires known { All (λ entry. is_among entry.0 R.columns.part_names ≡ true) (map (plain_entry R.part_of) parts.now) }
+    requires known { All (λ entry. is_among entry.0 R.columns.part_names ≡ true)
+        (map (plain_entry R.part_of) parts.now) }
     requires apart { AllPairs (λ one other. bytes_eq one.0 other.0 ≡ false) (map (plain_entry R.part_of) parts.now) }
     ensures { OnOk result (Settles (kinds_of ⟦<R::Value as SceneValue<R::Data>>⟧.places R.part_of R.columns)
         entity (map (plain_entry R.part_of) parts.now) (seen_of world.old) (seen_of world.new)) }
@@ -248,7 +250,8 @@ pub fn spawn_entity<R: Rules>(
     alloc: Global,
 ) -> Result<bool, FrameRefusal>
     requires may { MayAct (kinds_of ⟦<R::Value as SceneValue<R::Data>>⟧.places R.part_of R.columns) world.old }
-    requires known { All (λ entry. is_among entry.0 R.columns.part_names ≡ true) (map (plain_entry R.part_of) parts.now) }
+    requires known { All (λ entry. is_among entry.0 R.columns.part_names ≡ true)
+        (map (plain_entry R.part_of) parts.now) }
     requires apart { AllPairs (λ one other. bytes_eq one.0 other.0 ≡ false) (map (plain_entry R.part_of) parts.now) }
     ensures acts { IfOk result (λ done. Acts
         (kinds_of ⟦<R::Value as SceneValue<R::Data>>⟧.places R.part_of R.columns)

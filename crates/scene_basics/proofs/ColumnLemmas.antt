@@ -16,7 +16,8 @@ use Rattle.specs_layouts.specs.Masked.{Agrees}
 use Rattle.specs_layouts.specs.Parts.{Puts, HasNone}
 use Rattle.scene_rules.specs.Parts.{Name}
 use Rattle.scene_world.specs.Changes.{but_at}
-use Rattle.scene_turns.specs.Putting.{named_in, part_read, AreReadAt, PutsIn, Registers}
+use Rattle.scene_turns.specs.Putting.{named_in, part_read, each_there, AreReadAt, PutsIn, Registers}
+use Rattle.scene_turns.proofs.CallerLemmas.{each-same, each-none, each-mapped}
 use Rattle.scene_basics.specs.Names.{hp_kind, owner_kind, pos_kind, vel_kind}
 use Rattle.scene_basics.specs.Numbers.{counting, referring, part_of}
 use Rattle.scene_basics.specs.Values.{Numbers, Owners, whole_at, owner_at}
@@ -139,18 +140,16 @@ module _ (w with_hp with_owners with_pos later : Slots Value) (one : HasNumbers 
 
 -- ---- columns that are read at once
 
--- made from what was made is made from each
-mapped-twice : {A B C : Type 0} (f : B → C) (g : A → B) (h : A → C) → ((a : A) → f (g a) ≡ h a) → (items : List A) → map f (map g items) ≡ map h items
-mapped-twice f g h same [] = refl
-mapped-twice f g h same (a ∷ items) = ap (λ first. first ∷ map f (map g items)) (same a) ∙ ap (λ rest. h a ∷ rest) (mapped-twice f g h same items)
-
 -- under a kind of numbers nobody is named, and what is found is what stands there
-pub numbers-read : (kind : Name) (numbers : Numbers) (entities : List (ℕ × ℕ)) (found : List (Option Datum)) → bytes_eq kind owner_kind ≡ false → found ≡ map (λ entity. option_map (λ (whole : Whole). DatumWhole whole.0) (whole_at numbers entity.1)) entities
-    → AreReadAt part_of (basic_columns.stored kind (NumbersValue numbers)) entities found
+pub numbers-read : (kind : Name) (numbers : Numbers) (entities : List (ℕ × ℕ)) (found : List (ℕ × Option Datum)) → bytes_eq kind owner_kind ≡ false
+    → each_there (λ datum. datum) found ≡ each_there (λ index. option_map (λ (whole : Whole). DatumWhole whole.0) (whole_at numbers index)) entities → AreReadAt part_of (basic_columns.stored kind (NumbersValue numbers)) entities found
 numbers-read kind numbers entities found apart are = record {
   nobody = λ index. ap (λ b. named_in (cond b (owner_column (NumbersValue numbers) index) (number_column (NumbersValue numbers) index))) apart ∙ none (whole_at numbers index);
-  read = ap (map (option_map part_of)) are ∙ mapped-twice (option_map part_of) (λ entity. option_map (λ (whole : Whole). DatumWhole whole.0) (whole_at numbers entity.1)) _
-      (λ entity. same (whole_at numbers entity.1) ∙ ap (λ b. option_map (part_read []) (cond b (owner_column (NumbersValue numbers) entity.1) (number_column (NumbersValue numbers) entity.1))) (sym apart)) entities;
+  read =
+      each-mapped part_of (λ datum. datum) found ∙ ap (map (λ (one : ℕ × Datum). (one.0, part_of one.1))) are
+      ∙ sym (each-mapped part_of (λ index. option_map (λ (whole : Whole). DatumWhole whole.0) (whole_at numbers index)) entities)
+      ∙ each-same _ (λ index. option_map (part_read []) (basic_columns.stored kind (NumbersValue numbers) index))
+      (λ index. same (whole_at numbers index) ∙ ap (λ b. option_map (part_read []) (cond b (owner_column (NumbersValue numbers) index) (number_column (NumbersValue numbers) index))) (sym apart)) entities;
 }
   where
     none : (o : Option Whole) → named_in (option_map whole_stored o) ≡ []
@@ -171,9 +170,9 @@ no-owners kind owners is agree none index =
     by (Some owner) e = absurd (false≢true (sym (ap (λ members. set.contains members index) none ∙ set.contains-empty nat_cmp index) ∙ agree index ∙ ap is_some e))
 
 -- so nothing is found there
-pub nothing-read : (kind : Name) (owners : Owners) (entities : List (ℕ × ℕ)) (found : List (Option Datum)) → ((index : ℕ) → basic_columns.stored kind (OwnersValue owners) index ≡ None) → found ≡ map (λ entity. None) entities
+pub nothing-read : (kind : Name) (owners : Owners) (entities : List (ℕ × ℕ)) (found : List (ℕ × Option Datum)) → ((index : ℕ) → basic_columns.stored kind (OwnersValue owners) index ≡ None) → found ≡ []
     → AreReadAt part_of (basic_columns.stored kind (OwnersValue owners)) entities found
 nothing-read kind owners entities found none are = record {
   nobody = λ index. ap named_in (none index);
-  read = ap (map (option_map part_of)) are ∙ mapped-twice (option_map part_of) (λ (entity : ℕ × ℕ). None) _ (λ entity. sym (ap (option_map (part_read [])) (none entity.1))) entities;
+  read = ap (each_there (option_map part_of)) are ∙ sym (each-none _ (λ index. ap (option_map (part_read [])) (none index)) entities);
 }

@@ -1,6 +1,6 @@
 //! The parts of the four kinds in the values of a world.
 ghost use Rattle.std.specs.Prelude.{◌≡◌, ◌<◌, ◌++◌, [], length, map, None, IfOk, OnOk, OnErr, option_map};
-ghost use Rattle.scene_turns.specs.Putting.{named_in, part_read, PutsIn, TakesOut, SameColumn, Registers};
+ghost use Rattle.scene_turns.specs.Putting.{named_in, part_read, each_there, PutsIn, TakesOut, SameColumn, Registers};
 ghost use Rattle.scene_basics.specs.declared.data.Datum.TheVariants.{Whole as DatumWhole};
 ghost use Rattle.scene_basics.specs.Values.{whole_at};
 ghost use Rattle.scene_basics.specs.Numbers.{counting, referring, part_of};
@@ -187,32 +187,21 @@ pub(crate) fn number_datum(value: &Value, index: u32, ids: &[u64]) -> Option<Dat
     number_at(numbers, index)
 }
 
-/// The numbers at the indices of these entities, each of which stands behind the id of its entity. Errors: want of memory.
+/// The numbers at the indices of these entities, each behind the id behind which its entity stands. Errors: want of memory.
 pub(crate) fn numbers_each(
     numbers: &MaskedStorage<Whole>,
     entities: &[(u64, u32)],
     alloc: Global,
-) -> Result<Vec<Option<Datum>>, AllocError>
-    ensures { IfOk result (λ found. found.items
-        ≡ map (λ entity. option_map (λ whole. DatumWhole whole.0) (whole_at numbers.now entity.1)) entities.now) }
+) -> Result<Vec<(u64, Option<Datum>)>, AllocError>
+    ensures { IfOk result (λ found. each_there (λ datum. datum) found.items
+        ≡ each_there (λ index. option_map (λ whole. DatumWhole whole.0) (whole_at numbers.now index)) entities.now) }
 {
-    let mut found = Vec::with_capacity(alloc, entities.len())?;
+    let mut found = Vec::new(alloc);
     for entity in entities {
-        found.push(number_at(numbers, entity.1))?;
-    }
-    Ok(found)
-}
-
-/// Nothing for each of these entities. Errors: want of memory.
-pub(crate) fn nothing_each(
-    entities: &[(u64, u32)],
-    alloc: Global,
-) -> Result<Vec<Option<Datum>>, AllocError>
-    ensures { IfOk result (λ found. found.items ≡ map (λ _. None) entities.now) }
-{
-    let mut found = Vec::with_capacity(alloc, entities.len())?;
-    for _ in entities {
-        found.push(None)?;
+        let datum = number_at(numbers, entity.1);
+        if datum.is_some() {
+            found.push((entity.0, datum))?;
+        }
     }
     Ok(found)
 }

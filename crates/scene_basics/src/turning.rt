@@ -9,8 +9,8 @@ ghost use Rattle.scene_basics.specs.WorldLaws.{law-of_book};
 use crate::adding::{add_to, global_of};
 use crate::asking::ask_all;
 use crate::columns::{
-    nothing_each, number_datum, numbers_each, owner_datum, part_id, push_owner, put_number,
-    put_owner, register_all, take_number, take_owner,
+    number_datum, numbers_each, owner_datum, part_id, push_owner, put_number, put_owner,
+    register_all, take_number, take_owner,
 };
 use crate::data::{Ask, BasicSystem, Datum, Gain, HP, OWNER, POS, VEL};
 use crate::rules::Basics;
@@ -110,15 +110,14 @@ impl Rules for Basics {
         kind: &str,
         entities: &[(u64, u32)],
         alloc: Global,
-    ) -> Result<Option<Vec<Option<Datum>>>, AllocError> {
+    ) -> Result<Option<Vec<(u64, Option<Datum>)>>, AllocError> {
         match value {
             Value::NumbersValue(numbers) if kind != OWNER => {
                 let data = numbers_each(numbers, entities, alloc)?;
                 Ok(Some(data))
             }
             Value::OwnersValue(owners) if kind == OWNER && owners.mask().is_empty() => {
-                let data = nothing_each(entities, alloc)?;
-                Ok(Some(data))
+                Ok(Some(Vec::new(alloc)))
             }
             _ => Ok(None),
         }

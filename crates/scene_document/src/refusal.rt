@@ -159,7 +159,8 @@ fn lacks_one<G: Drop>(
     globals: &[Option<(usize, G)>],
     wanted: &[&'static str],
 ) -> bool
-    ensures { result ≡ list_any (λ name. not (list_any (stands_for (texts names.now) name.now) globals.now)) wanted.now }
+    ensures { result ≡ list_any (λ name. not (list_any (stands_for (texts names.now) name.now) globals.now))
+        wanted.now }
 {
     wanted.iter().any(|name| !is_given(names, globals, *name))
 }
@@ -197,7 +198,8 @@ fn entry_lacks_global<G: Drop, S: Drop>(
     globals: &[Option<(usize, G)>],
     entry: &EntryDraft<'_, S>,
 ) -> bool
-    ensures { result ≡ entry_that (λ accessor. lacks_declared (texts names.now) globals.now (access_of accessor)) entry.now }
+    ensures { result ≡ entry_that (λ accessor. lacks_declared (texts names.now) globals.now (access_of accessor))
+        entry.now }
 {
     let EntryDraft::System(system) = entry else {
         return false;
@@ -214,7 +216,8 @@ fn one_lacks_global<G: Drop, S: Drop>(
     globals: &[Option<(usize, G)>],
     entries: &[EntryDraft<'_, S>],
 ) -> bool
-    ensures { result ≡ list_any (entry_that (λ accessor. lacks_declared (texts names.now) globals.now (access_of accessor))) entries.now }
+    ensures { result ≡ list_any (entry_that (λ accessor. lacks_declared (texts names.now) globals.now
+        (access_of accessor))) entries.now }
 {
     entries
         .iter()

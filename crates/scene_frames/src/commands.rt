@@ -210,7 +210,8 @@ fn act_out<R: Rules>(
 where
     R::Value: Drop,
     requires may { MayAct (kinds_of ⟦<R::Value as SceneValue<R::Data>>⟧.places R.part_of R.columns) world.old }
-    requires none { NoneGone (plain_of (kinds_of ⟦<R::Value as SceneValue<R::Data>>⟧.places R.part_of R.columns) (seen_of world.old)) }
+    requires none { NoneGone (plain_of (kinds_of ⟦<R::Value as SceneValue<R::Data>>⟧.places R.part_of R.columns)
+        (seen_of world.old)) }
     requires ascend { PlacesAscend places.now }
     requires given { All (IsLawful (R.book rules.now)) (plain_commands R.part_of given.now) }
     requires lawful { All (λ queue. All (IsLawful (R.book rules.now)) (plain_commands R.part_of (waiting queue)))
@@ -271,7 +272,8 @@ pub fn run_commands<R: Rules>(
 where
     R::Value: Drop,
     requires may { MayAct (kinds_of ⟦<R::Value as SceneValue<R::Data>>⟧.places R.part_of R.columns) world.old }
-    requires none { NoneGone (plain_of (kinds_of ⟦<R::Value as SceneValue<R::Data>>⟧.places R.part_of R.columns) (seen_of world.old)) }
+    requires none { NoneGone (plain_of (kinds_of ⟦<R::Value as SceneValue<R::Data>>⟧.places R.part_of R.columns)
+        (seen_of world.old)) }
     requires ascend { PlacesAscend places.now }
     requires given { All (IsLawful (R.book rules.now)) (plain_commands R.part_of given.now) }
     requires lawful { All (λ place. All (IsLawful (R.book rules.now))

@@ -1,7 +1,8 @@
 -- Lemmas on what is kept of a world: of who lives, of the columns of kinds, and of the scene.
 use Rattle.std.proofs.Common.{◌≡◌, ◌<◌, ◌+◌, ℕ, zero, suc, take, get_or, Bool, true, false, cond, eqb, ◌||◌, List, [], ◌∷◌, ◌++◌, append_assoc, append-nil, map, length, All, Option, Some, None, IsSome, is_some, option_map, refl, ap, sym, subst, ◌∙◌, arith}
 use Rattle.std.specs.Prelude.{option_and_then, slice_get}
-use Rattle.std.specs.List.{list_any}
+use Rattle.std.specs.List.{list_any, cons_option}
+use Rattle.std.specs.Map.{lookup}
 use Rattle.std.specs.List.Sorted.{IsPermutation}
 use Rattle.std.proofs.lemmas.List.Sorted.{All-permutation, list_any-IsPermutation, IsPermutation-map}
 use Rattle.std.specs.Global.{Vec}
@@ -31,12 +32,14 @@ use Rattle.scene_world.specs.Stored.{Stored, part_under, part_with}
 use Rattle.scene_world.specs.Rolls.{Roll, IsRoll, id_at, index_of, ids_in, ref_to, reference, part_in, is_life}
 use Rattle.scene_world.specs.Standing.{Sight, Kinds, roll_of, column_of, value_of, plain_of, IsSceneWorld}
 use Rattle.scene_world.proofs.CallerLemmas.{id-at-index, lives-index, ids-ascend, index-of-id}
-use Rattle.scene_turns.specs.Putting.{named_in, part_read, AreReadAt}
-use Rattle.scene_kept.specs.Keeping.{Keeping, kept_at, Enters}
+use Rattle.scene_turns.specs.Putting.{named_in, part_read, each_there, AreReadAt}
+use Rattle.scene_turns.proofs.CallerLemmas.{each-same}
+use Rattle.scene_kept.specs.Keeping.{Keeping, kept_at, present, entries_of}
+use Rattle.scene_kept.proofs.CallerLemmas.{get_made, same_key, same-is, same-itself}
 use Rattle.scene_kept.specs.declared.columns.KeptScene.{KeptScene}
 use Rattle.scene_snapshot.specs.KeptScenes.{kept_datum, kept_part, kept_scene}
 use Rattle.scene_snapshot.proofs.KeptTextLemmas.{kept-scene-is}
-use Rattle.scene_keeping.specs.Taken.{AreMarkedBy, AreMarkersOf, IsAmong, ArePairs, HasIdsOf, IsWanted, AreWanted, part_at, AreOfPairs, IsColumnOf, AreColumnsOf}
+use Rattle.scene_keeping.specs.Taken.{AreMarkedBy, AreMarkersOf, IsAmong, ArePairs, HasIdsOf, IsWanted, part_at, AreOfPairs, IsColumnOf, AreColumnsOf}
 use Rattle.scene_keeping.proofs.PlaceLemmas.{by-name, keys-ascend, keys-there}
 
 -- ---- references
@@ -191,133 +194,72 @@ module _ (roll : Roll) (is : IsRoll roll) where
       let at : id_at roll index.0 ≡ Some id = id-at-index roll id index.0 index.1 in
       among pairs id index.0 at are.each (are.all index.0 (ap is_some at))
 
--- what holds of each of some numbers holds of one among them
-one-of : (P : ℕ → Type 0) (numbers : List ℕ) (number : ℕ) → All P numbers → IsAmong numbers number → P number
-one-of P [] number each some = absurd (false≢true some)
-one-of P (one ∷ numbers) number each some = choose (one-of P numbers number (All-tail P one numbers each)) (eqb number one) refl some
-  where
-    choose : (IsAmong numbers number → P number) → (b : Bool) → eqb number one ≡ b → (b || list_any (eqb number) numbers) ≡ true → P number
-    choose later true same some = subst P (sym (eqb-true number one same)) (All-head P one numbers each)
-    choose later false apart some = later some
-
 -- ---- what is wanted of ids
 
--- of an id that is entered, and of one of which nothing is
-abbrev pub Steps : {D G : Type 0} → ℕ → Option D → (before after : Keeping D G) → Type 0
-Steps id None before after = after ≡ before
-Steps id (Some datum) before after = Enters before id datum after
+-- what is made of what slots have of an id
+lookup-mapped : {D X : Type 0} (f : D → X) (id : ℕ) (slots : List (ℕ × Option D)) → option_map f (lookup (same_key id) (present slots)) ≡ lookup (same_key id) (each_there (option_map f) slots)
+lookup-mapped f id [] = refl
+lookup-mapped f id ((other, None) ∷ slots) = lookup-mapped f id slots
+lookup-mapped f id ((other, Some datum) ∷ slots) = by (same_key id other)
+  where
+    by : (b : Bool) → option_map f (cond b (Some datum) (lookup (same_key id) (present slots))) ≡ cond b (Some (f datum)) (lookup (same_key id) (each_there (option_map f) slots))
+    by true = refl
+    by false = lookup-mapped f id slots
 
-module _ {D G X : Type 0} (part_of : D → X) (want : ℕ → Option X) where
-  -- at first nothing is kept
-  pub none-wanted : (kept : Keeping D G) → kept.entries ≡ finite.empty → AreWanted part_of want [] kept
-  none-wanted kept none = record {
-    sound = λ id some. absurd (false≢true (sym (ap is_some (ap (λ m. finite.get m id) none ∙ finite.get-empty nat_cmp id)) ∙ some));
-    each = All-nil (IsWanted part_of want kept);
-  }
-
-  -- what is kept is wanted, so it is of an id of which nothing is wanted
-  nothing-wanted : (kept : Keeping D G) → ((id : ℕ) → IsSome (kept_at kept id) → IsWanted part_of want kept id) → (id : ℕ) → None ≡ want id → IsWanted part_of want kept id
-  nothing-wanted kept sound id none = by (kept_at kept id) refl
+-- where what is read at the index of each pair is wanted of its id
+module _ {X : Type 0} (read : ℕ → Option X) (want : ℕ → Option X) (id : ℕ) where
+  -- of an id of which nothing is wanted nothing is read
+  unwanted : None ≡ want id → (pairs : List (ℕ × ℕ)) → All (λ pair. read pair.1 ≡ want pair.0) pairs → lookup (same_key id) (each_there read pairs) ≡ None
+  unwanted none [] each = refl
+  unwanted none (pair ∷ pairs) each = by (unwanted none pairs (All-tail (λ one. read one.1 ≡ want one.0) pair pairs each)) (read pair.1) refl (same_key id pair.0) refl
     where
-      by : (o : Option D) → kept_at kept id ≡ o → IsWanted part_of want kept id
-      by None e = ap (option_map part_of) e ∙ none
-      by (Some datum) e = sound id (ap is_some e)
+      by : lookup (same_key id) (each_there read pairs) ≡ None → (o : Option X) → read pair.1 ≡ o → (b : Bool) → same_key id pair.0 ≡ b → lookup (same_key id) (cons_option (option_map (λ x. (pair.0, x)) o) (each_there read pairs)) ≡ None
+      by later None e b is = later
+      by later (Some x) e true is = absurd (false≢true (ap is_some (none ∙ ap want (same-is id pair.0 is) ∙ sym (All-head (λ one. read one.1 ≡ want one.0) pair pairs each) ∙ e)))
+      by later (Some x) e false is = ap (λ b. cond b (Some x) (lookup (same_key id) (each_there read pairs))) is ∙ later
 
-  module _ (id : ℕ) (datum : D) (before after : Keeping D G) (enters : Enters before id datum after) (wanted : Some (part_of datum) ≡ want id) where
-    found-after : (one : ℕ) (b : Bool) → eqb id one ≡ b → kept_at after one ≡ cond b (Some datum) (kept_at before one)
-    found-after one b is =
-        ap (λ m. finite.get m one) enters.entries ∙ finite.get-insert nat_cmp_total before.entries id datum one
-        ∙ ap (λ b. cond b (Some datum) (kept_at before one)) (is_eq-nat_cmp one id ∙ is)
-
-    -- of the id that was entered, and of each of which it was before
-    wanted-after : (one : ℕ) → (eqb id one ≡ false → IsWanted part_of want before one) → IsWanted part_of want after one
-    wanted-after one was = by (eqb id one) refl was
-      where
-        by : (b : Bool) → eqb id one ≡ b → (b ≡ false → IsWanted part_of want before one) → IsWanted part_of want after one
-        by true same was = ap (option_map part_of) (found-after one true same) ∙ wanted ∙ ap want (eqb-true id one same)
-        by false apart was = ap (option_map part_of) (found-after one false apart) ∙ was refl
-
-    entered-wanted : (ids : List ℕ) → AreWanted part_of want ids before → AreWanted part_of want (ids ++ id ∷ []) after
-    entered-wanted ids are = record {
-      sound = λ one some. wanted-after one (λ apart. are.sound one (sym (ap is_some (found-after one false apart)) ∙ some));
-      each = All-push (IsWanted part_of want after) ids id (All-weaker (IsWanted part_of want before) (IsWanted part_of want after) (λ one was. wanted-after one (λ apart. was)) ids are.each)
-          (ap (option_map part_of) (found-after id true (eq-eqb id id refl)) ∙ wanted);
-    }
-
-  -- so it is of one id more
-  pub next-wanted : (ids : List ℕ) (id : ℕ) (found : Option D) (before after : Keeping D G) → option_map part_of found ≡ want id → Steps id found before after → AreWanted part_of want ids before → AreWanted part_of want (ids ++ id ∷ []) after
-  next-wanted ids id None before after none same are = subst (AreWanted part_of want (ids ++ id ∷ [])) (sym same) (record {
-    sound = are.sound;
-    each = All-push (IsWanted part_of want before) ids id are.each (nothing-wanted before are.sound id none);
-  })
-  next-wanted ids id (Some datum) before after wanted enters are = entered-wanted id datum before after enters wanted ids are
-
-  -- and of every id, where nothing is wanted of others
-  pub all-wanted : (ids : List ℕ) (kept : Keeping D G) → AreWanted part_of want ids kept → ((id : ℕ) → IsSome (want id) → IsAmong ids id) → (id : ℕ) → IsWanted part_of want kept id
-  all-wanted ids kept are others id = by (want id) refl
+  -- and of one among them what is wanted
+  wanted : (x : X) → want id ≡ Some x → (pairs : List (ℕ × ℕ)) → All (λ pair. read pair.1 ≡ want pair.0) pairs → IsAmong (map (λ pair. pair.0) pairs) id → lookup (same_key id) (each_there read pairs) ≡ Some x
+  wanted x some [] each among_them = absurd (false≢true among_them)
+  wanted x some (pair ∷ pairs) each among_them = by (wanted x some pairs (All-tail (λ one. read one.1 ≡ want one.0) pair pairs each)) (eqb id pair.0) refl (read pair.1) refl
     where
-      by : (o : Option X) → want id ≡ o → IsWanted part_of want kept id
-      by None none = nothing-wanted kept are.sound id (sym none)
-      by (Some x) some = one-of (IsWanted part_of want kept) ids id are.each (others id (ap is_some some))
+      rest : List (ℕ × X)
+      rest = each_there read pairs
 
--- ---- a column that is filled
+      unlike : eqb id pair.0 ≡ false → (b : Bool) → same_key id pair.0 ≡ b → same_key id pair.0 ≡ false
+      unlike apart true is = absurd (false≢true (sym apart ∙ eq-eqb id pair.0 (same-is id pair.0 is)))
+      unlike apart false is = is
 
-module _ {D : Type 0} (pairs : List (ℕ × ℕ)) (part_of : D → Part) (want : ℕ → Option Part) where
-  -- of the pairs so far what is wanted is kept, and what is found for those that are left is wanted of them
-  pub record Filling (left : List (ℕ × ℕ)) (rest : List (Option D)) (column : Keeping D Unit) : Type 0 where
-    pub done : List ℕ
-    pub all : done ++ map (λ pair. pair.0) left ≡ map (λ pair. pair.0) pairs
-    pub same : map (option_map part_of) rest ≡ map (λ pair. want pair.0) left
-    pub wanted : AreWanted part_of want done column
+      by : (IsAmong (map (λ one. one.0) pairs) id → lookup (same_key id) rest ≡ Some x) → (b : Bool) → eqb id pair.0 ≡ b → (o : Option X) → read pair.1 ≡ o
+          → lookup (same_key id) (cons_option (option_map (λ x. (pair.0, x)) o) rest) ≡ Some x
+      by later true same o e =
+          let here : o ≡ Some x = sym e ∙ All-head (λ one. read one.1 ≡ want one.0) pair pairs each ∙ ap want (sym (eqb-true id pair.0 same)) ∙ some in
+          let found : same_key id pair.0 ≡ true = ap (same_key id) (sym (eqb-true id pair.0 same)) ∙ same-itself id in
+          ap (λ (one : Option X). lookup (same_key id) (cons_option (option_map (λ x. (pair.0, x)) one) rest)) here ∙ ap (λ b. cond b (Some x) (lookup (same_key id) rest)) found
+      by later false apart None e = later (sym (ap (λ b. b || list_any (eqb id) (map (λ one. one.0) pairs)) apart) ∙ among_them)
+      by later false apart (Some y) e =
+          ap (λ b. cond b (Some y) (lookup (same_key id) rest)) (unlike apart (same_key id pair.0) refl)
+          ∙ later (sym (ap (λ b. b || list_any (eqb id) (map (λ one. one.0) pairs)) apart) ∙ among_them)
 
-  pub filling-first : (left : List (ℕ × ℕ)) (rest found : List (Option D)) (column : Keeping D Unit) → left ≡ pairs → rest ≡ found → map (option_map part_of) found ≡ map (λ pair. want pair.0) pairs → column.entries ≡ finite.empty → Filling left rest column
-  filling-first left rest found column at here same none = record {
-    done = [];
-    all = ap (map (λ pair. pair.0)) at;
-    same = ap (map (option_map part_of)) here ∙ same ∙ sym (ap (map (λ pair. want pair.0)) at);
-    wanted = none-wanted part_of want column none;
-  }
-
-  module _ (left : List (ℕ × ℕ)) (rest : List (Option D)) (before : Keeping D Unit) (filling : Filling left rest before) where
-    pub filling-next : (pair : ℕ × ℕ) (later : List (ℕ × ℕ)) (found : Option D) (others : List (Option D)) (after : Keeping D Unit) → left ≡ pair ∷ later → rest ≡ found ∷ others → Steps pair.0 found before after → Filling later others after
-    filling-next pair later found others after at here steps =
-        let both : option_map part_of found ∷ map (option_map part_of) others ≡ want pair.0 ∷ map (λ one. want one.0) later = sym (ap (map (option_map part_of)) here) ∙ filling.same ∙ ap (map (λ one. want one.0)) at in
-        let one : option_map part_of found ≡ want pair.0 = cc in
-        let same : map (option_map part_of) others ≡ map (λ one. want one.0) later = cc in
-        record {
-          done = filling.done ++ pair.0 ∷ [];
-          all = append_assoc filling.done (pair.0 ∷ []) (map (λ one. one.0) later) ∙ sym (ap (λ list. filling.done ++ map (λ one. one.0) list) at) ∙ filling.all;
-          same = same;
-          wanted = next-wanted part_of want filling.done pair.0 found before after one steps filling.wanted;
-        }
-
-    -- where nothing is found any more no pair is left
-    pub filling-even : length rest ≡ 0 → length left ≡ 0
-    filling-even none = sym (length-map left (λ pair. want pair.0)) ∙ sym (ap length filling.same) ∙ length-map rest (option_map part_of) ∙ none
-
-    pub filling-last : length left ≡ 0 → ((id : ℕ) → IsSome (want id) → IsAmong (map (λ pair. pair.0) pairs) id) → (id : ℕ) → IsWanted part_of want before id
-    filling-last none others =
-        let left_none : left ≡ [] = no_items left none in
-        let all : filling.done ≡ map (λ pair. pair.0) pairs = sym (append-nil filling.done) ∙ sym (ap (λ list. filling.done ++ map (λ pair. pair.0) list) left_none) ∙ filling.all in
-        all-wanted part_of want filling.done before filling.wanted (λ id some. ap (λ ids. list_any (eqb id) ids) all ∙ others id some)
+-- slots in which stands what is read at the indices of pairs are kept as what is wanted, where nothing is wanted of others
+pub filled-wanted : {D G X : Type 0} (part_of : D → X) (read : ℕ → Option X) (want : ℕ → Option X) (slots : List (ℕ × Option D)) (pairs : List (ℕ × ℕ)) → each_there (option_map part_of) slots ≡ each_there read pairs
+    → All (λ pair. read pair.1 ≡ want pair.0) pairs → ((id : ℕ) → IsSome (want id) → IsAmong (map (λ pair. pair.0) pairs) id) → (kept : Keeping D G) → kept.entries ≡ entries_of slots → (id : ℕ) → IsWanted part_of want kept id
+filled-wanted {X = X} part_of read want slots pairs same each others kept are id =
+    ap (λ m. option_map part_of (finite.get m id)) are ∙ ap (option_map part_of) (get_made (present slots) id) ∙ lookup-mapped part_of id slots ∙ ap (lookup (same_key id)) same ∙ by (want id) refl
+  where
+    by : (o : Option X) → want id ≡ o → lookup (same_key id) (each_there read pairs) ≡ want id
+    by None none = unwanted read want id (sym none) pairs each ∙ sym none
+    by (Some x) some = wanted read want id x some pairs each (others id (ap is_some some)) ∙ sym some
 
 -- ---- columns
 
 module _ {V D : Type 0} (kinds : Kinds V) (part_of : D → Part) (w : Sight V) where
-  -- the parts at the indices of who lives are those under their ids
+  -- the part at the index of each who lives is that under its id
   parts-known : IsRoll (roll_of kinds w) → (kind : Name) (pairs : List (ℕ × ℕ)) → All (λ pair. id_at (roll_of kinds w) pair.1 ≡ Some pair.0) pairs
-      → map (λ pair. part_at kinds w pair.1 kind) pairs ≡ map (λ pair. part_in (roll_of kinds w) (column_of kinds w kind) pair.0) pairs
-  parts-known is kind [] each = refl
-  parts-known is kind (pair ∷ pairs) each =
-      let at : index_of (roll_of kinds w) pair.0 ≡ Some pair.1 = index-of-id (roll_of kinds w) is pair.0 pair.1 (All-head (λ pair. id_at (roll_of kinds w) pair.1 ≡ Some pair.0) pair pairs each) in
-      let one : part_at kinds w pair.1 kind ≡ part_in (roll_of kinds w) (column_of kinds w kind) pair.0 = sym (ap (option_and_then (λ index. part_at kinds w index kind)) at) in
-      let others = parts-known is kind pairs (All-tail (λ pair. id_at (roll_of kinds w) pair.1 ≡ Some pair.0) pair pairs each) in
-      ap (λ first. first ∷ map (λ pair. part_at kinds w pair.1 kind) pairs) one ∙ ap (λ rest. part_in (roll_of kinds w) (column_of kinds w kind) pair.0 ∷ rest) others
-
-  -- so the data at these indices are what is wanted of the ids
-  pub data-wanted : IsRoll (roll_of kinds w) → (kind : Name) (pairs : List (ℕ × ℕ)) (found : List (Option D)) → ArePairs (roll_of kinds w) pairs → AreOfPairs kinds part_of w kind pairs found
-      → map (option_map part_of) found ≡ map (λ pair. part_in (roll_of kinds w) (column_of kinds w kind) pair.0) pairs
-  data-wanted is kind pairs found are of = of ∙ parts-known is kind pairs are.each
+      → All (λ pair. part_at kinds w pair.1 kind ≡ part_in (roll_of kinds w) (column_of kinds w kind) pair.0) pairs
+  parts-known is kind pairs each =
+      All-weaker (λ pair. id_at (roll_of kinds w) pair.1 ≡ Some pair.0) (λ pair. part_at kinds w pair.1 kind ≡ part_in (roll_of kinds w) (column_of kinds w kind) pair.0)
+      (λ pair at. sym (ap (option_and_then (λ index. part_at kinds w index kind)) (index-of-id (roll_of kinds w) is pair.0 pair.1 at))) pairs each
 
   -- and nothing is wanted of others
   pub others-unwanted : IsRoll (roll_of kinds w) → (kind : Name) (pairs : List (ℕ × ℕ)) → ArePairs (roll_of kinds w) pairs → (id : ℕ) → IsSome (part_in (roll_of kinds w) (column_of kinds w kind) id) → IsAmong (map (λ pair. pair.0) pairs) id
@@ -326,6 +268,12 @@ module _ {V D : Type 0} (kinds : Kinds V) (part_of : D → Part) (w : Sight V) w
       by : (o : Option ℕ) → IsSome (option_and_then (λ index. part_at kinds w index kind) o) → IsSome o
       by None none = none
       by (Some index) there = refl
+
+  -- so slots in which these parts stand are kept as the column
+  pub column-filled : IsRoll (roll_of kinds w) → (kind : Name) (pairs : List (ℕ × ℕ)) (slots : List (ℕ × Option D)) → ArePairs (roll_of kinds w) pairs → AreOfPairs kinds part_of w kind pairs slots
+      → (column : Keeping D Unit) → column.entries ≡ entries_of slots → IsColumnOf kinds part_of w kind column
+  column-filled is kind pairs slots pairs_are of column are =
+      filled-wanted part_of (λ index. part_at kinds w index kind) (part_in (roll_of kinds w) (column_of kinds w kind)) slots pairs of (parts-known is kind pairs pairs_are.each) (others-unwanted is kind pairs pairs_are) column are
 
   -- where nothing stands for a kind, nothing is kept
   pub bare-column : (kind : Name) (column : Keeping D Unit) → w (kinds.part_id kind) ≡ None → column.entries ≡ finite.empty → IsColumnOf kinds part_of w kind column
@@ -337,18 +285,14 @@ module _ {V D : Type 0} (kinds : Kinds V) (part_of : D → Part) (w : Sight V) w
       by (Some index) = sym (ap (λ held. option_map (part_under (ref_to (roll_of kinds w))) (option_and_then (λ v. kinds.stored kind v index) held)) none)
 
   -- data that were read at once, of parts that name nobody, are the parts
-  pub read-at-once : (kind : Name) (value : V) → Some value ≡ w (kinds.part_id kind) → (pairs : List (ℕ × ℕ)) (found : List (Option D)) → AreReadAt part_of (kinds.stored kind value) pairs found → AreOfPairs kinds part_of w kind pairs found
-  read-at-once kind value there pairs found are = are.read ∙ by pairs
+  pub read-at-once : (kind : Name) (value : V) → Some value ≡ w (kinds.part_id kind) → (pairs : List (ℕ × ℕ)) (found : List (ℕ × Option D)) → AreReadAt part_of (kinds.stored kind value) pairs found → AreOfPairs kinds part_of w kind pairs found
+  read-at-once kind value there pairs found are = are.read ∙ each-same (λ index. option_map (part_read []) (kinds.stored kind value index)) (λ index. part_at kinds w index kind) one pairs
     where
       one : (index : ℕ) → option_map (part_read []) (kinds.stored kind value index) ≡ part_at kinds w index kind
       one index =
           read-part (roll_of kinds w) (kinds.stored kind value index) [] (ap (map (λ entity. (roll_of kinds w).marker entity.id)) (are.nobody index))
           (λ some is. subst (λ named. All (RefLives (ids_in (roll_of kinds w))) (map (ref_to (roll_of kinds w)) named)) (sym (are.nobody index) ∙ ap named_in is) (All-nil (RefLives (ids_in (roll_of kinds w)))))
           ∙ ap (λ held. option_map (part_under (ref_to (roll_of kinds w))) (option_and_then (λ v. kinds.stored kind v index) held)) there
-
-      by : (pairs : List (ℕ × ℕ)) → map (λ pair. option_map (part_read []) (kinds.stored kind value pair.1)) pairs ≡ map (λ pair. part_at kinds w pair.1 kind) pairs
-      by [] = refl
-      by (pair ∷ pairs) = ap (λ first. first ∷ map (λ pair. option_map (part_read []) (kinds.stored kind value pair.1)) pairs) (one pair.1) ∙ ap (λ rest. part_at kinds w pair.1 kind ∷ rest) (by pairs)
 
   -- a column more
   pub more-columns : (names : List Name) (columns : List (Keeping D Unit)) (kind : Name) (column : Keeping D Unit) → AreColumnsOf kinds part_of w names columns → IsColumnOf kinds part_of w kind column
@@ -393,6 +337,22 @@ has-ids roll kept wanted id = sym (some-map (λ (u : Unit). u) (kept_at kept id)
     some-map : {A B : Type 0} (f : A → B) (o : Option A) → is_some (option_map f o) ≡ is_some o
     some-map f None = refl
     some-map f (Some a) = refl
+
+-- so slots with the ids of pairs are kept as those of who lives
+pub ids-filled : {G : Type 0} (roll : Roll) → IsRoll roll → (pairs : List (ℕ × ℕ)) → ArePairs roll pairs → (slots : List (ℕ × Option (Unit {0}))) → slots ≡ map (λ pair. (pair.0, Some tt)) pairs
+    → (kept : Keeping Unit G) → kept.entries ≡ entries_of slots → HasIdsOf roll kept
+ids-filled roll is pairs are slots of kept made =
+    has-ids roll kept (filled-wanted (λ (u : Unit {0}). u) (λ _. Some tt) (λ id. option_map (λ _. tt) (index_of roll id)) slots pairs (ap (each_there (option_map (λ (u : Unit {0}). u))) of ∙ each pairs)
+    (All-weaker (λ pair. id_at roll pair.1 ≡ Some pair.0) (λ pair. Some tt ≡ option_map (λ _. tt) (index_of roll pair.0)) (λ pair at. sym (ap (option_map (λ _. tt)) (index-of-id roll is pair.0 pair.1 at))) pairs are.each)
+    (λ id some. known-among roll is pairs are id (known (index_of roll id) some)) kept made)
+  where
+    each : (pairs : List (ℕ × ℕ)) → each_there (option_map (λ (u : Unit {0}). u)) (map (λ pair. (pair.0, Some tt)) pairs) ≡ each_there (λ _. Some tt) pairs
+    each [] = refl
+    each (pair ∷ pairs) = ap (λ rest. (pair.0, tt) ∷ rest) (each pairs)
+
+    known : (o : Option ℕ) → IsSome (option_map {U = Unit {0}} (λ _. tt) o) → IsSome o
+    known None some = some
+    known (Some index) some = refl
 
 -- what is kept is the scene that is seen, where its next id, its entities and its globals are
 pub keeps-scene : {V D G : Type 0} (kinds : Kinds V) (part_of : D → Part) (global_of : G → Json) (book : Book) (w : Sight V) → kinds.part_names ≡ book.part_names → kinds.global_names ≡ book.global_names

@@ -10,6 +10,7 @@ use Rattle.scene_rules.specs.Parts.{Name, Part}
 use Rattle.scene_world.specs.Stored.{part_under}
 use Rattle.scene_world.specs.Rolls.{Roll, id_at, index_of, ref_to, part_in}
 use Rattle.scene_world.specs.Standing.{Sight, Kinds, roll_of, column_of}
+use Rattle.scene_turns.specs.Putting.{each_there}
 use Rattle.scene_kept.specs.Keeping.{Keeping, kept_at}
 
 -- these are the ids with which the indices of entities are marked
@@ -39,23 +40,14 @@ module _ {D G X : Type 0} (part_of : D → X) (want : ℕ → Option X) where
   abbrev pub IsWanted : Keeping D G → ℕ → Type 0
   IsWanted kept id = option_map part_of (kept_at kept id) ≡ want id
 
-  -- what is wanted of each of some ids is kept, and nothing that isn't wanted
-  pub record AreWanted (ids : List ℕ) (kept : Keeping D G) : Type 0 where
-    pub sound : (id : ℕ) → IsSome (kept_at kept id) → IsWanted kept id
-    pub each : All (IsWanted kept) ids
-
--- where data are what is wanted of the ids beside which they stand, and nothing is wanted of others, they are kept
-abbrev pub IsFilledBy : {D : Type 0} → List (ℕ × ℕ) → List (Option D) → Keeping D Unit → Type 0
-IsFilledBy {D} pairs found column = (part_of : D → Part) (want : ℕ → Option Part) → map (option_map part_of) found ≡ map (λ pair. want pair.0) pairs → ((id : ℕ) → IsSome (want id) → IsAmong (map (λ pair. pair.0) pairs) id) → (id : ℕ) → IsWanted part_of want column id
-
 -- the part of a kind at an index, where each entity that it names is a reference to its id
 abbrev pub part_at : {V : Type 0} → Kinds V → Sight V → ℕ → Name → Option Part
 part_at kinds w index kind = option_map (part_under (ref_to (roll_of kinds w))) (column_of kinds w kind index)
 
 module _ {V D : Type 0} (kinds : Kinds V) (part_of : D → Part) (w : Sight V) where
-  -- these are the data of a kind at the indices of pairs
-  abbrev pub AreOfPairs : Name → List (ℕ × ℕ) → List (Option D) → Type 0
-  AreOfPairs kind pairs found = map (option_map part_of) found ≡ map (λ pair. part_at kinds w pair.1 kind) pairs
+  -- these are the data of a kind at the indices of pairs, each behind the id of its pair
+  abbrev pub AreOfPairs : Name → List (ℕ × ℕ) → List (ℕ × Option D) → Type 0
+  AreOfPairs kind pairs found = each_there (option_map part_of) found ≡ each_there (λ index. part_at kinds w index kind) pairs
 
   -- the column of a kind is kept
   abbrev pub IsColumnOf : Name → Keeping D Unit → Type 0

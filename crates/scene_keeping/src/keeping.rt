@@ -6,7 +6,7 @@ ghost use Rattle.scene_world.specs.Standing.{roll_of, plain_of, IsSceneWorld};
 ghost use Rattle.scene_turns.specs.Places.{kinds_of};
 ghost use Rattle.scene_acts.specs.Acts.{seen_of};
 ghost use Rattle.scene_snapshot.specs.KeptScenes.{kept_scene};
-ghost use Rattle.scene_keeping.specs.Taken.{ArePairs, HasIdsOf, IsFilledBy, IsColumnOf, AreColumnsOf};
+ghost use Rattle.scene_keeping.specs.Taken.{ArePairs, HasIdsOf, IsColumnOf, AreColumnsOf};
 
 use crate::taking::{data_at, globals_in, next_in, pairs_in};
 use scene_kept::{Kept, KeptScene};
@@ -39,7 +39,9 @@ pub fn keep_scene<R: Rules>(
     Ok(KeptScene { living, columns })
 }
 
-/// The ids of the living, kept, with the next id and the globals. Errors: want of memory.
+/// The ids of the living, kept, with the next id and the globals.
+///
+/// Errors: want of memory, and where the ids of the pairs don't rise.
 fn keep_ids<R: Rules, G: Drop>(
     rules: &R,
     world: &World<R::Value>,
@@ -57,15 +59,11 @@ fn keep_ids<R: Rules, G: Drop>(
     ensures ids { IfOk result (HasIdsOf (roll_of (kinds_of ⟦<R::Value as SceneValue<R::Data>>⟧.places R.part_of
         R.columns) (seen_of world.now))) }
 {
-    let mut kept = Kept::new(alloc, next, globals);
-    kept.make_room(pairs.len())?;
+    let mut slots = Vec::with_capacity(alloc, pairs.len())?;
     for pair in pairs {
-        match kept.enter(pair.0, ()) {
-            Ok(_) => {}
-            Err(_) => return Err(AllocError),
-        }
+        slots.push((pair.0, Some(())))?;
     }
-    Ok(kept)
+    Kept::of_slots(next, globals, slots).ok_or(AllocError)
 }
 
 /// The data of the living, kept in a column for each of these kinds. Errors: want of memory.
@@ -91,7 +89,9 @@ fn keep_columns<R: Rules>(
     Ok(columns)
 }
 
-/// The data of the living under a kind, kept. Errors: want of memory.
+/// The data of the living under a kind, kept.
+///
+/// Errors: want of memory, and where the ids of the pairs don't rise.
 fn keep_column<R: Rules>(
     rules: &R,
     world: &World<R::Value>,
@@ -110,30 +110,9 @@ fn keep_column<R: Rules>(
     let Some(value) = world.get_raw(R::part_id(kind)) else {
         return Ok(Kept::new(alloc, 0, ()));
     };
-    let found = match R::get_each(value, kind, pairs, alloc)? {
+    let slots = match R::get_each(value, kind, pairs, alloc)? {
         Some(found) => found,
         None => data_at(rules, world, kind, value, pairs, alloc)?,
     };
-    column_of(pairs, found, alloc)
-}
-
-/// A column in which each of these data that is there stands under the id at its place. Errors: want of memory.
-fn column_of<D: Drop>(
-    pairs: &[(u64, u32)],
-    found: Vec<Option<D>>,
-    alloc: Global,
-) -> Result<Kept<D, ()>, AllocError>
-    ensures { IfOk result (IsFilledBy pairs.now found.items) }
-{
-    let mut column = Kept::new(alloc, 0, ());
-    column.make_room(found.iter().filter(|datum| datum.is_some()).count())?;
-    for (pair, datum) in pairs.iter().zip(found) {
-        if let Some(datum) = datum {
-            match column.enter(pair.0, datum) {
-                Ok(_) => {}
-                Err(_) => return Err(AllocError),
-            }
-        }
-    }
-    Ok(column)
+    Kept::of_slots(0, (), slots).ok_or(AllocError)
 }

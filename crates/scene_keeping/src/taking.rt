@@ -114,7 +114,8 @@ fn datum_at<R: Rules>(
     R::get(value, kind, index, &ids, alloc)
 }
 
-/// The data of a kind at the indices of these pairs, each if there is one, by what stands for the parts of that kind.
+/// The data of a kind at the indices of these pairs, by what stands for the parts of that kind: each behind the id of its
+/// pair.
 ///
 /// Errors: want of memory.
 pub(crate) fn data_at<R: Rules>(
@@ -124,7 +125,7 @@ pub(crate) fn data_at<R: Rules>(
     value: &R::Value,
     pairs: &[(u64, u32)],
     alloc: Global,
-) -> Result<Vec<Option<R::Data>>, AllocError>
+) -> Result<Vec<(u64, Option<R::Data>)>, AllocError>
     requires stands { IsSceneWorld (kinds_of ⟦<R::Value as SceneValue<R::Data>>⟧.places R.part_of R.columns)
         (R.book rules.now) (seen_of world.now) }
     requires known { is_among kind.now R.columns.part_names ≡ true }
@@ -133,10 +134,13 @@ pub(crate) fn data_at<R: Rules>(
         (kinds_of ⟦<R::Value as SceneValue<R::Data>>⟧.places R.part_of R.columns) R.part_of (seen_of world.now) kind.now
         pairs.now found.items) }
 {
-    let mut found = Vec::with_capacity(alloc, pairs.len())?;
+    let mut found = Vec::new(alloc);
     let mut named = Vec::new(alloc);
     for pair in pairs {
-        found.push(datum_at(rules, world, kind, value, pair.1, &mut named, alloc)?)?;
+        let datum = datum_at(rules, world, kind, value, pair.1, &mut named, alloc)?;
+        if datum.is_some() {
+            found.push((pair.0, datum))?;
+        }
     }
     Ok(found)
 }

@@ -23,7 +23,7 @@ module _ {X : Type 0} where
   find_at (e ∷ es) q = ap (cond (same_key q e.0) (Some e.1)) (find_at es q)
 
   -- what the map that the entries make has at an id
-  get_made : (es : List (ℕ × X)) (q : ℕ) → get (from_entries {R = nat_cmp} es) q ≡ lookup (same_key q) es
+  pub get_made : (es : List (ℕ × X)) (q : ℕ) → get (from_entries {R = nat_cmp} es) q ≡ lookup (same_key q) es
   get_made es q = get-from_entries nat_cmp_total es q ∙ find_at es q
 
   -- what is put before all of a list stands first

@@ -1,16 +1,16 @@
 -- What a search among slots in the order of their ids finds, and what an edit at that place leaves.
-use Rattle.std.proofs.Common.{◌≡◌, ℕ, zero, suc, ◌+◌, ◌-◌, ◌<◌, ◌≤◌, Bool, true, false, cond, List, [], ◌∷◌, length, get_or, set, insert, None, Some, Result, Ok, Err, IfOk, IfErr, inl, inr, refl, sym, ap, subst, ◌∙◌, arith}
+use Rattle.std.proofs.Common.{◌≡◌, ℕ, zero, suc, ◌+◌, ◌-◌, ◌<◌, ◌≤◌, ltb, Bool, true, false, cond, List, [], ◌∷◌, length, get_or, set, insert, None, Some, Result, Ok, Err, IfOk, IfErr, inl, inr, refl, sym, ap, subst, ◌∙◌, arith}
 use Rattle.std.specs.declared.cmp.Ordering.TheVariants.{Less, Greater}
 use Rattle.std.specs.Ordering.{is_eq, is_lt, ordering_reverse}
-use Rattle.std.specs.List.{AllByRecursion, HoldsAt}
+use Rattle.std.specs.List.{AllByRecursion, AllPairs, HoldsAt, AllAdjacentBelow, IsAllAdjacentAnswer}
 use Rattle.std.specs.List.Sorted.{IsSearchInRange, IsBinarySearchResult, IsNonDecreasingBy, IsStrictlySortedBy}
 use Rattle.std.specs.Ordering.{ordering_index}
 use Rattle.std.specs.Map.{lookup, keys_of}
 use Rattle.std.proofs.Math.ListN.{get_or-map}
-use Rattle.std.proofs.lemmas.Bool.{cases_lt, false≢true}
+use Rattle.std.proofs.lemmas.Bool.{cases_lt, false≢true, lt-ltb, ltb-true}
 use Rattle.std.proofs.lemmas.List.Sorted.{searchable_from_sorted}
 use Rattle.std.proofs.lemmas.Map.{lookup-none}
-use Rattle.std.proofs.lemmas.Map.Keys.{Less-from_sorted, IsDistinct-from_sorted}
+use Rattle.std.proofs.lemmas.Map.Keys.{Less-from_sorted, IsDistinct-from_sorted, sorted_from_all_adjacent}
 use Rattle.std.proofs.lemmas.Map.Entries.{length-keys_of, none_past_head}
 use Rattle.std.proofs.lemmas.Map.Lookups.{exact_unsigned}
 use Rattle.std.specs.Cmp.{nat_cmp_total, ranked, nat_cmp_is}
@@ -181,3 +181,25 @@ module _ {X : Type 0} where
     in_range = omega arith;
     parted = (λ j d low high. let last = past d (omega (arith, high)) in let under = below_last slots sorted j d high in less_first (get_or slots j d).0 id (omega (arith, last, under)), λ j d low high. absurd (omega (arith, low, high)));
   }
+
+-- ---- slots whose ids rise
+
+module _ {X : Type 0} where
+  -- where each id is below the next, they rise
+  sorted-rising : (slots : List (ℕ × X)) → AllAdjacentBelow (λ one other. true ≡ ltb one.0 other.0) slots (length slots) → AreSorted slots
+  unfolding IsStrictlySortedBy
+  sorted-rising [] rise = tt
+  sorted-rising (slot ∷ slots) rise =
+      let id : ℕ × X → ℕ = λ one. one.0 in
+      sorted_from_all_adjacent nat_cmp_total (keys_of (slot ∷ slots)) slot.0 (λ k below.
+      let within : k + 1 < length (slot ∷ slots) = omega (arith, below, length-keys_of (slot ∷ slots)) in
+      ap (λ one. nat_cmp one (get_or (keys_of (slot ∷ slots)) (k + 1) slot.0)) (get_or-map id (slot ∷ slots) k slot)
+      ∙ ap (nat_cmp (get_or (slot ∷ slots) k slot).0) (get_or-map id (slot ∷ slots) (k + 1) slot)
+      ∙ less_first (get_or (slot ∷ slots) k slot).0 (get_or (slot ∷ slots) (k + 1) slot).0 (ltb-true _ _ (sym (rise k slot within))))
+
+  -- what a look at each id and the next tells
+  pub rise-told : (slots : List (ℕ × X)) (told : Bool) → IsAllAdjacentAnswer (λ one other b. b ≡ ltb one.0 other.0) slots told
+      → (told ≡ true → AreSorted slots) × (told ≡ false → ¬ (AllPairs (λ one other. one.0 < other.0) slots))
+  rise-told slots true rise = (λ yes. sorted-rising slots rise, λ no. absurd (false≢true (sym no)))
+  rise-told [] false (k, within, _) = absurd (omega (arith, within))
+  rise-told (slot ∷ slots) false (k, within, apart) = (λ yes. absurd (false≢true yes), λ no below. false≢true (apart slot ∙ lt-ltb _ _ (below k (k + 1) slot (omega arith) within)))

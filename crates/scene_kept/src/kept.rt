@@ -1,9 +1,10 @@
 //! What is kept of a scene, entity by entity.
 ghost use Rattle.std.specs.Prelude.{◌≡◌, ◌<◌, ◌≤◌, ◌+◌, IsSome, IsOk, IfOk, IfErr, OnOk, OnErr, All, option_copied};
+ghost use Rattle.std.specs.Prelude.{AllPairs, IfSome};
 ghost use Rattle.std.specs.FinMap as map;
 ghost use Rattle.scene_kept.specs.Keeping.{kept_at, present, Enters, LeavesOut};
 
-use crate::places::{Slot, leave, place_of, put};
+use crate::places::{Slot, leave, place_of, put, rise};
 use std::alloc::{AllocError, AllocFailed, Global};
 use std::marker::Model;
 use std::mem;
@@ -45,13 +46,31 @@ impl<P, G> Model for Kept<P, G> {
 }
 
 impl<P, G> Kept<P, G> {
+    ghost use Rattle.std.specs.Prelude.{◌-◌, vec_len, vec_capacity};
+    ghost use Rattle.scene_kept.specs.Keeping.{entries_of};
+    ghost use Rattle.scene_kept.specs.Places.{AreSorted};
+
     /// Nothing is kept yet of any entity, and no change was made. Takes no memory.
     pub fn new(alloc: Global, next: u64, globals: G) -> Kept<P, G>
         ensures { result ≡ record { next = next; entries = map.empty; globals = globals; changes = 0; room = 0 } }
     {
+        Kept::with_slots(next, globals, Vec::new(alloc))
+    }
+
+    /// What stands in these slots. No change was made.
+    fn with_slots(next: u64, globals: G, slots: Vec<Slot<P>>) -> Kept<P, G>
+        requires sorted { AreSorted slots.items }
+        ensures { result ≡ record {
+          next = next;
+          entries = entries_of slots.items;
+          globals = globals;
+          changes = 0;
+          room = vec_capacity slots - vec_len slots;
+        } }
+    {
         Kept {
             next,
-            slots: Vec::new(alloc),
+            slots,
             guess: 0,
             gaps: 0,
             globals,
@@ -126,6 +145,31 @@ impl<P, G> Kept<P, G> {
     {
         self.next = next;
         mem::replace(&mut self.globals, globals)
+    }
+}
+
+impl<P: Drop, G: Drop> Kept<P, G> {
+    ghost use Rattle.std.specs.Prelude.{◌-◌, vec_len, vec_capacity};
+    ghost use Rattle.scene_kept.specs.Keeping.{entries_of};
+
+    /// What stands in these slots, each of which has what is kept of its id, or nothing. They become its own: it takes no
+    /// memory. No change was made.
+    ///
+    /// `None` where their ids don't rise.
+    pub fn of_slots(next: u64, globals: G, slots: Vec<Slot<P>>) -> Option<Kept<P, G>>
+        ensures some { IfSome result (λ kept. kept ≡ record {
+          next = next;
+          entries = entries_of slots.items;
+          globals = globals;
+          changes = 0;
+          room = vec_capacity slots - vec_len slots;
+        }) }
+        ensures rise { AllPairs (λ one other. one.0 < other.0) slots.items → IsSome result }
+    {
+        if !rise(&slots) {
+            return None;
+        }
+        Some(Kept::with_slots(next, globals, slots))
     }
 }
 

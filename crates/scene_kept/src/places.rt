@@ -1,6 +1,6 @@
 //! Slots in the order of their ids.
 ghost use Rattle.std.specs.Prelude.{◌≡◌, ◌<◌, ◌≤◌, ◌-◌, ◌+◌, true, length, insert, IsSome, IfOk, IfErr, OnOk, OnErr};
-ghost use Rattle.std.specs.Prelude.{IsOk};
+ghost use Rattle.std.specs.Prelude.{IsOk, false, AllPairs};
 ghost use Rattle.std.specs.Prelude.{vec_len, vec_capacity};
 ghost use Rattle.std.specs.FinMap as map;
 ghost use Rattle.scene_kept.specs.Keeping.{entries_of};
@@ -20,6 +20,14 @@ fn is_past<P>(slots: &[Slot<P>], id: u64) -> bool
         Some(last) => last.0 < id,
         None => true,
     }
+}
+
+/// Whether the ids of the slots rise.
+pub(crate) fn rise<P>(slots: &[Slot<P>]) -> bool
+    ensures yes { result ≡ true → AreSorted slots.now }
+    ensures no { result ≡ false → ¬ (AllPairs (λ one other. one.0 < other.0) slots.now) }
+{
+    slots.is_sorted_by(|one, next| one.0 < next.0)
 }
 
 /// Where the slot of an id stands, or would stand, by halving.

@@ -34,8 +34,8 @@ pub fn a_printed_scene_is_read_again<R: DocumentRules>(rules: &R)
         → commands_from (R.book rules.now) commands ≡ Some lists → (draft : Draft)
         × (draft_from (R.book rules.now) (document_json (R.book rules.now) scene systems frames commands) ≡ Some draft)
         × (first_scene draft ≡ scene) × HasCourse entries asked lists draft }
-    ensures text { (indices : ℕ) (scene : PlainScene) (text : List ℕ) (draft : Draft) → CanBeRead (R.book rules.now) scene
-        → ReadsBack text (scene_json (R.book rules.now) scene)
+    ensures text { (indices : ℕ) (scene : PlainScene) (text : List ℕ) (draft : Draft)
+        → CanBeRead (R.book rules.now) scene → ReadsBack text (scene_json (R.book rules.now) scene)
         → document_of (R.book rules.now) indices text ≡ Ok draft → first_scene draft ≡ scene }
 {}
 
@@ -72,14 +72,14 @@ where
         R.declared R.sense R.does) R.book scene.now }
     requires book { ReadsAlike (R.book rules) (R.book (rules_of scene.now)) }
     requires limits { AreLimits limits }
-    ensures same { IfOk result (λ again. (shown_of (kinds_of ⟦<R::Value as SceneValue<R::Data>>⟧.places R.part_of R.columns)
-        R.part_of R.global_of (placed_as (λ placed. placed.position) (λ placed. placed.system) R.kind_of R.config_of
+    ensures same { IfOk result (λ again. (shown_of (kinds_of ⟦<R::Value as SceneValue<R::Data>>⟧.places R.part_of
+        R.columns) R.part_of R.global_of (placed_as (λ placed. placed.position) (λ placed. placed.system) R.kind_of R.config_of
         R.declared R.sense R.does) R.book again).scene
         ≡ (shown_of (kinds_of ⟦<R::Value as SceneValue<R::Data>>⟧.places R.part_of R.columns)
         R.part_of R.global_of (placed_as (λ placed. placed.position) (λ placed. placed.system) R.kind_of R.config_of
         R.declared R.sense R.does) R.book scene.now).scene) }
-    ensures ready { IfOk result (λ again. IsReady (kinds_of ⟦<R::Value as SceneValue<R::Data>>⟧.places R.part_of R.columns)
-        R.part_of R.global_of (placed_as (λ placed. placed.position) (λ placed. placed.system) R.kind_of R.config_of
+    ensures ready { IfOk result (λ again. IsReady (kinds_of ⟦<R::Value as SceneValue<R::Data>>⟧.places R.part_of
+        R.columns) R.part_of R.global_of (placed_as (λ placed. placed.position) (λ placed. placed.system) R.kind_of R.config_of
         R.declared R.sense R.does) R.book again) }
     ensures rules { IfOk result (λ again. rules_of again ≡ rules) }
     ensures err { IfErr result (IsNoDocument (R.book (rules_of scene.now)) (bounds_of limits)

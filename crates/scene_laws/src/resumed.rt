@@ -88,7 +88,8 @@ where
     R::System: Send + Sync,
     requires { AreLimits limits }
     ensures rules { IfOk result (λ done. done.rules ≡ rules) }
-    ensures done { IfOk result (λ done. IsFinished (R.book rules) limits (view document.now) done.report done.text.items) }
+    ensures done { IfOk result (λ done. IsFinished (R.book rules) limits (view document.now) done.report
+        done.text.items) }
 {
     let mut scene = match Scene::load(rt.alloc(), rules, limits, document) {
         Ok(scene) => scene,
@@ -147,8 +148,8 @@ fn read_back(alloc: Global, text: &[u8]) -> Result<Value, ResumeError>
 /// What rules are held to: each system that they know declares what they know, and their kinds of part and their
 /// globals stand in rising order.
 fn rules_are_lawful<R: Rules>(rules: &R)
-    ensures declares { (kind : Name) (config : Json) (facts : Facts) → (R.book rules.now).system kind config ≡ known facts
-        → DeclaresKnown (R.book rules.now) facts.access }
+    ensures declares { (kind : Name) (config : Json) (facts : Facts)
+        → (R.book rules.now).system kind config ≡ known facts → DeclaresKnown (R.book rules.now) facts.access }
     ensures kinds { Ascend (R.book rules.now).part_names }
     ensures globals { Ascend (R.book rules.now).global_names }
 {}
@@ -177,7 +178,8 @@ where
     R::Global: Send + Sync,
     R::System: Send + Sync,
     requires { AreLimits limits }
-    ensures whole { IfOk result (λ texts. (report : Report) × IsFinished (R.book rules) limits (view whole.now) report texts.0.items) }
+    ensures whole { IfOk result (λ texts. (report : Report)
+        × IsFinished (R.book rules) limits (view whole.now) report texts.0.items) }
     ensures same { IfOk result (λ texts. OneOutcome (R.book rules)
         → GoesOn (R.book rules) limits.indices (view whole.now) (view first.now) (view rest.systems) (view rest.frames) (view rest.commands)
         → texts.0.items ≡ texts.1.items) }

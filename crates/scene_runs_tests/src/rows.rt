@@ -62,6 +62,13 @@ const ONE_INDEX: Limits = Limits {
     commands: 1_048_576,
 };
 
+/// One birth for each index.
+const ONE_BIRTH: Limits = Limits {
+    indices: 16_777_216,
+    generation: 1,
+    commands: 1_048_576,
+};
+
 /// One command a frame.
 const ONE_COMMAND: Limits = Limits {
     indices: 16_777_216,
@@ -69,7 +76,7 @@ const ONE_COMMAND: Limits = Limits {
     commands: 1,
 };
 
-pub const ROWS: [Row; 33] = [
+pub const ROWS: [Row; 37] = [
     Row {
         name: "no frames: ids and kinds ascend",
         rules: Under::Drifting,
@@ -291,6 +298,42 @@ pub const ROWS: [Row; 33] = [
         told: Told::Refused(1, 2, Cause::Commands),
         skips: &[],
         text: "{\"entities\":[{\"id\":0,\"parts\":{\"pos\":4}}],\"globals\":{},\"next\":1}",
+    },
+    Row {
+        name: "each index is in use, and one more is born",
+        rules: Under::Drifting,
+        limits: TWO_BIRTHS,
+        document: "{\"next\":2,\"entities\":[{\"id\":0,\"parts\":{}},{\"id\":1,\"parts\":{}}],\"frames\":1,\"commands\":[[{\"spawn\":{}}]]",
+        told: Told::Refused(0, 1, Cause::Indices),
+        skips: &[],
+        text: "{\"entities\":[{\"id\":0,\"parts\":{}},{\"id\":1,\"parts\":{}}],\"globals\":{},\"next\":2}",
+    },
+    Row {
+        name: "more entities than indices, and one more is born",
+        rules: Under::Drifting,
+        limits: TWO_BIRTHS,
+        document: "{\"next\":3,\"entities\":[{\"id\":0,\"parts\":{}},{\"id\":1,\"parts\":{}},{\"id\":2,\"parts\":{}}],\"frames\":1,\"commands\":[[{\"spawn\":{}}]]",
+        told: Told::NoDocument(DocRefusal::TooManyEntities),
+        skips: &[],
+        text: "",
+    },
+    Row {
+        name: "the index of one who dies has no birth left in the same frame",
+        rules: Under::Drifting,
+        limits: ONE_BIRTH,
+        document: "{\"next\":1,\"entities\":[{\"id\":0,\"parts\":{}}],\"frames\":1,\"commands\":[[{\"kill\":0},{\"spawn\":{}}]]",
+        told: Told::Refused(0, 1, Cause::Generations),
+        skips: &[],
+        text: "{\"entities\":[{\"id\":0,\"parts\":{}}],\"globals\":{},\"next\":1}",
+    },
+    Row {
+        name: "more commands than the limit in the first frame",
+        rules: Under::Drifting,
+        limits: ONE_COMMAND,
+        document: "{\"next\":0,\"entities\":[],\"frames\":1,\"commands\":[[{\"spawn\":{}},{\"spawn\":{}}]]",
+        told: Told::Refused(0, 1, Cause::Commands),
+        skips: &[],
+        text: "{\"entities\":[],\"globals\":{},\"next\":0}",
     },
     Row {
         name: "a reference to nobody",

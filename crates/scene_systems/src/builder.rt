@@ -32,7 +32,8 @@ impl<R: Rules> Model for SceneDispatcherBuilder<R> {
     ghost use Rattle.scene_turns.specs.Turns.{placed_as};
     ghost use Rattle.scene_systems.specs.Held.{drafting_in, AreHeld};
 
-    ghost Value = { Drafting (PlacedSystem R R.Value R.Data R.Global R.System) (PlacedSystem R R.Value R.Data R.Global R.System) };
+    ghost Value = { Drafting (PlacedSystem R R.Value R.Data R.Global R.System)
+        (PlacedSystem R R.Value R.Data R.Global R.System) };
 
     ghost view = { λ b. drafting_in (λ local. local.placed) b.builder };
 

@@ -38,7 +38,8 @@ impl<R: Rules> Model for SceneDispatcher<R> {
     ghost use Rattle.scene_systems.specs.Held.{dispatching_in, AreHeld};
     ghost use Rattle.std.specs.Prelude.{map};
 
-    ghost Value = { Dispatching (PlacedSystem R R.Value R.Data R.Global R.System) (PlacedSystem R R.Value R.Data R.Global R.System) };
+    ghost Value = { Dispatching (PlacedSystem R R.Value R.Data R.Global R.System)
+        (PlacedSystem R R.Value R.Data R.Global R.System) };
 
     ghost view = { λ d. dispatching_in (λ local. local.placed) d.dispatcher };
 

@@ -133,6 +133,39 @@ pub fn is_accepted<H: AllocGlobal + Threads + Wait + Sync>(
     is_told(rt, document, 0, text, "") && run_reaches(rt, document, None, text)
 }
 
+/// Whether the program refuses a document by this name with each number of workers and in each store. One that isn't closed
+/// by a brace is left as it is.
+///
+/// Errors: want of memory.
+fn refuses_the_same<H: AllocGlobal + Threads + Wait + Sync>(
+    rt: &H,
+    document: &str,
+    refusal: DocRefusal,
+) -> Result<bool, AllocError> {
+    let Some(open) = document.strip_suffix("}") else {
+        return Ok(true);
+    };
+    let mut same = true;
+    for workers in WORKERS {
+        for store in STORES {
+            let placed = format!(in rt.alloc();
+                "{open},\"workers\":{workers},\"store\":\"{store}\"}}"
+            )?;
+            same = program_tells(rt, placed.as_str(), 1, "", line_of(refusal)) && same;
+        }
+    }
+    Ok(same)
+}
+
+/// Whether the document is refused by this name, by a run and by the program, as it is and with any workers and store.
+pub fn is_refused_anyhow<H: AllocGlobal + Threads + Wait + Sync>(
+    rt: &H,
+    document: &str,
+    refusal: DocRefusal,
+) -> bool {
+    is_refused(rt, document, refusal) && refuses_the_same(rt, document, refusal) == Ok(true)
+}
+
 /// Whether the document is refused by this name, by a run and by the program.
 pub fn is_refused<H: AllocGlobal + Threads + Wait + Sync>(
     rt: &H,

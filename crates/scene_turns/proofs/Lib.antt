@@ -3,3 +3,4 @@ pub mod ChainLemmas
 pub mod PlacedLemmas
 pub mod WriteLemmas
 pub mod CallerLemmas
+pub mod EachLemmas

@@ -1,5 +1,5 @@
 -- Parts that are put in at an index and taken out there, and storages of parts that are registered.
-use Rattle.std.specs.Prelude.{◌≡◌, ℕ, true, false, List, [], map, Option, Some, None, IsSome, option_map}
+use Rattle.std.specs.Prelude.{◌≡◌, ℕ, true, false, List, [], map, Option, Some, None, IsSome, option_map, filter_map}
 use Rattle.std.specs.Option.{option_map_or}
 use Rattle.std.specs.FinMap as slots
 use Rattle.shred_world.specs.declared.resource_id.ResourceId.{ResourceId}
@@ -25,10 +25,14 @@ pub record StoresAs (part : Part) (named : List LifeAt) (stored : Stored) : Type
 abbrev pub part_read : List ℕ → Stored → Part
 part_read ids stored = part_with stored.written (map (λ id. living id) ids)
 
+-- what is read of items, behind the number of each of which something is read
+abbrev pub each_there : {X Y : Type 0} → (X → Option Y) → List (ℕ × X) → List (ℕ × Y)
+each_there read items = filter_map (λ item. option_map (λ y. (item.0, y)) (read item.1)) items
+
 -- no part names an entity, and the parts that were found are those at indices, each of which stands behind an id
-pub record AreReadAt {D : Type 0} (part_of : D → Part) (stored : ℕ → Option Stored) (entities : List (ℕ × ℕ)) (found : List (Option D)) : Type 0 where
+pub record AreReadAt {D : Type 0} (part_of : D → Part) (stored : ℕ → Option Stored) (entities : List (ℕ × ℕ)) (found : List (ℕ × Option D)) : Type 0 where
   pub nobody : (index : ℕ) → named_in (stored index) ≡ []
-  pub read : map (option_map part_of) found ≡ map (λ entity. option_map (part_read []) (stored entity.1)) entities
+  pub read : each_there (option_map part_of) found ≡ each_there (λ index. option_map (part_read []) (stored index)) entities
 
 module _ {V : Type 0} (stored : V → ℕ → Option Stored) where
   -- a part is stored at an index, and at each other what was there

@@ -120,13 +120,15 @@ pub trait Rules: DocumentRules {
     /// The parts at the indices of these entities, each of which stands behind the id of its entity, where no part of the kind
     /// can refer to an entity: so a whole column is read by one call. None by default, and of a kind whose parts may refer.
     ///
+    /// A part stands behind its entity's id too, in the order of the entities. An id with nothing behind it may be left out.
+    ///
     /// Errors: want of memory.
     fn get_each(
         _value: &Self::Value,
         _kind: &str,
         _entities: &[(u64, u32)],
         _alloc: Global,
-    ) -> Result<Option<Vec<Option<Self::Data>>>, AllocError>
+    ) -> Result<Option<Vec<(u64, Option<Self::Data>)>>, AllocError>
         ensures { IfOk result (λ read. IfSome read (λ found. AreReadAt Self.part_of
             (columns.stored _kind.now _value.now) _entities.now found.items)) }
     {

@@ -1,5 +1,5 @@
 use Rattle.scene_kept.proofs.KeptLemmas.{sorted-none}
 use Rattle.scene_kept.proofs.kept.Kept.new.Goals as goal
 
-pub invariant_of-result : goal.invariant_of-result
-invariant_of-result g c = sorted-none c.new.result.items c.new.ensures.items
+pub with_slots-requires : goal.with_slots-requires
+with_slots-requires g c = record { sorted = sorted-none c.new.result.items c.new.ensures.items }
