@@ -20,6 +20,6 @@ pub use scene_rules::{
     Accessor, Command, DocRefusal, DocumentRules, FrameRefusal, NotQueued, Queue, ReadError,
     Report, RunningTime, Skip, Skips, Text,
 };
-pub use scene_stores::Store;
-pub use scene_turns::{Rules, SceneValue};
+pub use scene_stores::{AnyStore, SceneMarker, SceneMarkerAllocator, SceneStorage, Store};
+pub use scene_turns::{QueueValue, Rules, SceneValue};
 pub use shred_stages::Stop;

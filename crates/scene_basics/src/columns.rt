@@ -198,9 +198,8 @@ pub(crate) fn numbers_each(
 {
     let mut found = Vec::new(alloc);
     for entity in entities {
-        let datum = number_at(numbers, entity.1);
-        if datum.is_some() {
-            found.push((entity.0, datum))?;
+        if let Some(datum) = number_at(numbers, entity.1) {
+            found.push((entity.0, Some(datum)))?;
         }
     }
     Ok(found)

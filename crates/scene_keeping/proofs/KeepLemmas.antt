@@ -1,6 +1,7 @@
 -- Lemmas on what is kept of a world: of who lives, of the columns of kinds, and of the scene.
-use Rattle.std.proofs.Common.{◌≡◌, ◌<◌, ◌+◌, ℕ, zero, suc, take, get_or, Bool, true, false, cond, eqb, ◌||◌, List, [], ◌∷◌, ◌++◌, append_assoc, append-nil, map, length, All, Option, Some, None, IsSome, is_some, option_map, refl, ap, sym, subst, ◌∙◌, arith}
+use Rattle.std.proofs.Common.{◌≡◌, ◌<◌, ◌+◌, ℕ, zero, suc, take, get_or, Bool, true, false, cond, eqb, ◌||◌, List, [], ◌∷◌, ◌++◌, append_assoc, append-nil, map, length, All, Option, Some, None, IsSome, IfSome, is_some, option_map, Result, Ok, Err, IfOk, refl, ap, sym, subst, ◌∙◌, arith}
 use Rattle.std.specs.Prelude.{option_and_then, slice_get}
+use Rattle.std.specs.Result.{result_ok}
 use Rattle.std.specs.List.{list_any, cons_option}
 use Rattle.std.specs.Map.{lookup}
 use Rattle.std.specs.List.Sorted.{IsPermutation}
@@ -8,7 +9,6 @@ use Rattle.std.proofs.lemmas.List.Sorted.{All-permutation, list_any-IsPermutatio
 use Rattle.std.specs.Global.{Vec}
 use Rattle.std.specs.Ordering.{nat_cmp}
 use Rattle.std.specs.FinMap as finite
-use Rattle.std.specs.Cmp.{nat_cmp_total}
 use Rattle.std.proofs.lemmas.Bool.{false≢true, eqb-true, eq-eqb}
 use Rattle.std.proofs.lemmas.List.Elements.{All-nil, All-head, All-tail, All-push, All-weaker}
 use Rattle.std.proofs.lemmas.List.{length-map, map-append, take_more}
@@ -25,7 +25,7 @@ use Rattle.scene_rules.specs.Parts.{Json, Name, Part, is_among, place_of, name_a
 use Rattle.scene_rules.specs.Rulebook.{Book}
 use Rattle.scene_rules.specs.Scenes.{RefLives}
 use Rattle.scene_rules.specs.Slots.{filled}
-use Rattle.scene_rules.proofs.CallerLemmas.{is_eq-nat_cmp, same-ids, no_items}
+use Rattle.scene_rules.proofs.CallerLemmas.{same-ids}
 use Rattle.scene_rules.proofs.NameLemmas.{place_of-bound, place_of-name}
 use Rattle.scene_draft.proofs.CallerLemmas.{is_some-place_of}
 use Rattle.scene_world.specs.Stored.{Stored, part_under, part_with}
@@ -200,11 +200,12 @@ module _ (roll : Roll) (is : IsRoll roll) where
 lookup-mapped : {D X : Type 0} (f : D → X) (id : ℕ) (slots : List (ℕ × Option D)) → option_map f (lookup (same_key id) (present slots)) ≡ lookup (same_key id) (each_there (option_map f) slots)
 lookup-mapped f id [] = refl
 lookup-mapped f id ((other, None) ∷ slots) = lookup-mapped f id slots
-lookup-mapped f id ((other, Some datum) ∷ slots) = by (same_key id other)
+lookup-mapped f id ((other, Some datum) ∷ slots) = by (lookup-mapped f id slots) (same_key id other)
   where
-    by : (b : Bool) → option_map f (cond b (Some datum) (lookup (same_key id) (present slots))) ≡ cond b (Some (f datum)) (lookup (same_key id) (each_there (option_map f) slots))
-    by true = refl
-    by false = lookup-mapped f id slots
+    by : option_map f (lookup (same_key id) (present slots)) ≡ lookup (same_key id) (each_there (option_map f) slots) → (b : Bool)
+        → option_map f (cond b (Some datum) (lookup (same_key id) (present slots))) ≡ cond b (Some (f datum)) (lookup (same_key id) (each_there (option_map f) slots))
+    by later true = refl
+    by later false = later
 
 -- where what is read at the index of each pair is wanted of its id
 module _ {X : Type 0} (read : ℕ → Option X) (want : ℕ → Option X) (id : ℕ) where
@@ -250,6 +251,11 @@ filled-wanted {X = X} part_of read want slots pairs same each others kept are id
     by : (o : Option X) → want id ≡ o → lookup (same_key id) (each_there read pairs) ≡ want id
     by None none = unwanted read want id (sym none) pairs each ∙ sym none
     by (Some x) some = wanted read want id x some pairs each (others id (ap is_some some)) ∙ sym some
+
+-- what holds of what is there holds of what is answered for it
+pub when-there : {K E : Type 0} (there : Option K) (answer : Result K E) (P Q : K → Type 0) → there ≡ result_ok answer → IfSome there P → ((k : K) → P k → Q k) → IfOk answer Q
+when-there there (Ok k) P Q is has leads = leads k (subst (λ o. IfSome o P) is has)
+when-there there (Err e) P Q is has leads = tt
 
 -- ---- columns
 

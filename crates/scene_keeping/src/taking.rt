@@ -137,9 +137,8 @@ pub(crate) fn data_at<R: Rules>(
     let mut found = Vec::new(alloc);
     let mut named = Vec::new(alloc);
     for pair in pairs {
-        let datum = datum_at(rules, world, kind, value, pair.1, &mut named, alloc)?;
-        if datum.is_some() {
-            found.push((pair.0, datum))?;
+        if let Some(datum) = datum_at(rules, world, kind, value, pair.1, &mut named, alloc)? {
+            found.push((pair.0, Some(datum)))?;
         }
     }
     Ok(found)

@@ -182,3 +182,67 @@ fn thirds(alloc: Global) -> Result<usize, AllocError> {
 fn a_third_of_a_thousand_stays(rt: HostRuntime) {
     assert!(rt; thirds(rt.alloc()) == Ok(334));
 }
+
+/// Slots, and what is kept of them, where they are taken.
+struct SlotRow {
+    name: &'static str,
+    slots: &'static [(u64, Option<u32>)],
+    kept: Option<&'static [(u64, u32)]>,
+}
+
+const SLOTS: [SlotRow; 5] = [
+    SlotRow {
+        name: "no slots",
+        slots: &[],
+        kept: Some(&[]),
+    },
+    SlotRow {
+        name: "ids that rise, of which one has nothing",
+        slots: &[(1, Some(10)), (3, None), (4, Some(40)), (9, Some(90))],
+        kept: Some(&[(1, 10), (4, 40), (9, 90)]),
+    },
+    SlotRow {
+        name: "an id that stands twice",
+        slots: &[(1, Some(10)), (3, Some(30)), (3, Some(33))],
+        kept: None,
+    },
+    SlotRow {
+        name: "an id twice, of which the first has nothing",
+        slots: &[(3, None), (3, Some(33))],
+        kept: None,
+    },
+    SlotRow {
+        name: "ids that fall at the end",
+        slots: &[(1, Some(10)), (5, Some(50)), (4, Some(40))],
+        kept: None,
+    },
+];
+
+/// Whether a row of slots holds: what is kept of them has its next id, no change, each entry, and takes one entry more.
+fn takes(alloc: Global, row: &SlotRow) -> Result<bool, AllocError> {
+    let mut slots = Vec::new(alloc);
+    for slot in row.slots {
+        slots.push(*slot)?;
+    }
+    let (made, wanted) = (Kept::of_slots(7, (), slots), row.kept);
+    match (made, wanted) {
+        (Some(mut kept), Some(entries)) => {
+            let began = kept.next() == 7 && kept.changes() == 0 && is_kept(&kept, entries);
+            let more = answers(&mut kept, Enter(2, 20))?;
+            Ok(began && more && kept.changes() == 1)
+        }
+        (None, None) => Ok(true),
+        _ => Ok(false),
+    }
+}
+
+#[test]
+fn slots_are_kept_where_their_ids_rise(rt: HostRuntime) {
+    let mut wrong = None;
+    for row in &SLOTS {
+        if !matches!(takes(rt.alloc(), row), Ok(true)) {
+            wrong = Some(row.name);
+        }
+    }
+    assert_eq!(rt; wrong, None);
+}

@@ -24,11 +24,12 @@ module _ {X Y : Type 0} where
   -- what is made of what is read
   pub each-mapped : {Z : Type 0} (f : Y → Z) (read : X → Option Y) (items : List (ℕ × X)) → each_there (λ x. option_map f (read x)) items ≡ map (λ one. (one.0, f one.1)) (each_there read items)
   each-mapped f read [] = refl
-  each-mapped f read (item ∷ items) = by (read item.1)
+  each-mapped f read (item ∷ items) = by (each-mapped f read items) (read item.1)
     where
-      by : (o : Option Y) → cons_option (option_map (λ y. (item.0, y)) (option_map f o)) (each_there (λ x. option_map f (read x)) items) ≡ map (λ one. (one.0, f one.1)) (cons_option (option_map (λ y. (item.0, y)) o) (each_there read items))
-      by None = each-mapped f read items
-      by (Some y) = ap (λ rest. (item.0, f y) ∷ rest) (each-mapped f read items)
+      by : each_there (λ x. option_map f (read x)) items ≡ map (λ one. (one.0, f one.1)) (each_there read items) → (o : Option Y)
+          → cons_option (option_map (λ y. (item.0, y)) (option_map f o)) (each_there (λ x. option_map f (read x)) items) ≡ map (λ one. (one.0, f one.1)) (cons_option (option_map (λ y. (item.0, y)) o) (each_there read items))
+      by later None = later
+      by later (Some y) = ap (λ rest. (item.0, f y) ∷ rest) later
 
 module _ {X Y Z : Type 0} (made : X → Option Z) (read : Y → Option Z) (done : List (ℕ × X)) (items : List (ℕ × Y)) (place : ℕ) (d : ℕ × Y) (within : place < length items) (so_far : each_there made done ≡ each_there read (take place items)) where
   front : each_there read (take (place + 1) items) ≡ each_there read (take place items) ++ each_there read (get_or items place d ∷ [])

@@ -111,8 +111,8 @@ pub trait Rules: DocumentRules {
 
     /// Whether no part of a kind refers to an entity, as far as the rules can tell at once: so nobody has to look for gone
     /// references there. They can't by default.
-    fn names_nobody(_value: &Self::Value, _kind: &str) -> bool
-        ensures { result ≡ true → (index : ℕ) → named_in (columns.stored _kind.now _value.now index) ≡ [] }
+    fn names_nobody(value: &Self::Value, kind: &str) -> bool
+        ensures { result ≡ true → (index : ℕ) → named_in (columns.stored kind.now value.now index) ≡ [] }
     {
         false
     }
@@ -124,13 +124,13 @@ pub trait Rules: DocumentRules {
     ///
     /// Errors: want of memory.
     fn get_each(
-        _value: &Self::Value,
-        _kind: &str,
-        _entities: &[(u64, u32)],
-        _alloc: Global,
+        value: &Self::Value,
+        kind: &str,
+        entities: &[(u64, u32)],
+        alloc: Global,
     ) -> Result<Option<Vec<(u64, Option<Self::Data>)>>, AllocError>
         ensures { IfOk result (λ read. IfSome read (λ found. AreReadAt Self.part_of
-            (columns.stored _kind.now _value.now) _entities.now found.items)) }
+            (columns.stored kind.now value.now) entities.now found.items)) }
     {
         Ok(None)
     }
