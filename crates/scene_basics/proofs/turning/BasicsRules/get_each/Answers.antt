@@ -14,9 +14,8 @@ returns-in_ok-data-in-NumbersValue c =
     subst (λ (value : Value). AreReadAt part_of (basic_columns.stored c.args.kind.now value) c.args.entities.now c.in_ok-data-in-NumbersValue.data.items) (sym c.in-NumbersValue.is)
     (numbers-read c.args.kind.now c.in-NumbersValue.numbers c.args.entities.now c.in_ok-data-in-NumbersValue.data.items (false_from_ne_true (bytes_eq c.args.kind.now owner_kind) (λ on. false≢true (sym (ap not on) ∙ sym c.ne.ensures ∙ c.if-ne.true))) c.in_ok-data-in-NumbersValue.ensures)
 
-pub returns-in_ok-data-in-OwnersValue : goal.returns-in_ok-data-in-OwnersValue
-returns-in_ok-data-in-OwnersValue c =
-    subst (λ (value : Value). AreReadAt part_of (basic_columns.stored c.args.kind.now value) c.args.entities.now c.in_ok-data-in-OwnersValue.data.items) (sym c.in-OwnersValue.is)
-    (nothing-read c.args.kind.now c.in-OwnersValue.owners c.args.entities.now c.in_ok-data-in-OwnersValue.data.items
-    (no-owners c.args.kind.now c.in-OwnersValue.owners (sym c.eq.ensures ∙ c.if-eq.true) c.mask.ensures.agrees (sym (ap (λ mask. mask.members) c.mask.ensures.value) ∙ c.is_empty.ensures.0 c.if-is_empty.true))
-    c.in_ok-data-in-OwnersValue.ensures)
+pub returns-in-OwnersValue : goal.returns-in-OwnersValue
+returns-in-OwnersValue c =
+    subst (λ (value : Value). AreReadAt part_of (basic_columns.stored c.args.kind.now value) c.args.entities.now c.new.result.items) (sym c.in-OwnersValue.is)
+    (nothing-read c.args.kind.now c.in-OwnersValue.owners c.args.entities.now c.new.result.items
+    (no-owners c.args.kind.now c.in-OwnersValue.owners (sym c.eq.ensures ∙ c.if-eq.true) c.mask.ensures.agrees (sym (ap (λ mask. mask.members) c.mask.ensures.value) ∙ c.is_empty.ensures.0 c.if-is_empty.true)) c.new.ensures.items)
