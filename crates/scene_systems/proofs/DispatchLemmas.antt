@@ -87,8 +87,8 @@ module _ {V P B L : Type 0} (kinds : Kinds V) (meets : P → Holding V → Optio
       staged-run before.staging.planning.stages before w (Some (id.0, stop)) after w_after none
       (subst (λ r. StagesRun (WorkMeets meets batch_meets) before.staging.planning.stages (record { systems = before.staging.systems; held = w }) r (record { systems = after.systems; held = w_after })) told runs)
   staged-end before w (Err (Local place stop)) after w_after none runs = runs
-  staged-end before w (Err Memory) after w_after none runs = (runs.done, staged-run _ before w None after w_after none runs.ran)
-  staged-end before w (Err Threads) after w_after none runs = (runs.done, staged-run _ before w None after w_after none runs.ran)
+  staged-end before w (Err Memory) after w_after none same = (0, staged-run [] before w None after w_after none (refl, same))
+  staged-end before w (Err Threads) after w_after none same = (0, staged-run [] before w None after w_after none (refl, same))
 
   -- the local systems have run behind the staged ones
   pub record LocalsEnd (before between : Dispatching (Work P B) L) (w_between : Holding V) (refused : Option (ℕ × Stop)) (left : List L) (w_after : Holding V) : Type 0 where

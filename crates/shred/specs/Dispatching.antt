@@ -66,7 +66,7 @@ module _ {V S L A : Type 0} (meets : S → Holding V → Option Stop → S → H
     pub staged : DispatchesStaged before w staged_result between w_between
     pub then_locals : ThenLocals between w_between staged_result result after w_after
 
-  -- the staged systems run on threads: as on one thread, or, for want of memory or of a thread, in whole stages; with less than 2 workers as on one
+  -- the staged systems run on threads: as on one thread, or, for want of memory or of a thread, not at all; with less than 2 workers as on one
   pub record DispatchesOnThreads (before : Dispatching S L) (w : Holding V) (result : Result A DispatchError) (after : Dispatching S L) (w_after : Holding V) : Type 0 where
     pub runs : RunsApart meets before.staging w result after.staging w_after
     pub alone : before.workers < 2 → Runs meets before.staging w result after.staging w_after

@@ -9,6 +9,7 @@ pub mod Asyncs
 pub mod Places
 pub mod Lendings
 pub mod Batches
+pub mod Multis
 pub mod Waits
 pub mod Numbers
 pub mod Nothing

@@ -119,8 +119,8 @@ impl<V: Drop, S: System<V> + Drop, L: RunNow<V> + Drop> Dispatcher<V, S, L> {
     ///
     /// A system that refuses ends its group; the stage's other groups run to their ends, and no later stage runs.
     ///
-    /// Errors: `System`, with the first refusal in the order of the plan; `Memory` and `Threads`, where there was no memory for a
-    /// stage or a thread of it couldn't be started: the earlier stages ran, and no system of that stage or of a later one did.
+    /// Errors: `System`, with the first refusal in the order of the plan; `Memory` and `Threads`, where there was no memory for what the
+    /// stages are run with or for a worker, or a thread couldn't be started: no system ran, and all is as it was.
     pub fn dispatch_par<R: AllocGlobal + Threads + Wait + Sync>(
         &mut self,
         rt: &R,

@@ -4,6 +4,7 @@ ghost use Rattle.std.specs.Option.{option_map};
 ghost use Rattle.shred_stages.specs.Views.{Leaves};
 ghost use Rattle.shred_stages.specs.Seats.{stop_of, refusal_of};
 ghost use Rattle.shred.specs.Batches.{TimesRun, RunsAsPlanned};
+ghost use Rattle.shred.specs.Multis.{controller_of};
 
 use crate::{
     BatchAccessor, BatchController, MultiDispatchController, RunningTime, StagesBuilder, Stop,
@@ -22,7 +23,7 @@ pub struct MultiDispatcher<C> {
 impl<C> MultiDispatcher<C> {
     /// The dispatcher of a controller.
     pub fn new(controller: C) -> MultiDispatcher<C>
-        ensures { result.controller ≡ controller }
+        ensures { controller_of result ≡ controller }
     {
         MultiDispatcher { controller }
     }
@@ -52,16 +53,16 @@ fn run_times<V: Drop, S: System<V> + Drop, H: AllocGlobal, W: Holder<V>>(
 
 impl<V, S, C: MultiDispatchController<V>> BatchController<V, S> for MultiDispatcher<C> {
     ghost meets = { λ meets before staging w refused after staging_after w_after. RunsAsPlanned C.plans meets
-        before.controller staging w refused after.controller staging_after w_after };
+        (controller_of before) staging w refused (controller_of after) staging_after w_after };
 
-    ghost read_list = { λ multi. C.read_list multi.controller };
+    ghost read_list = { λ multi. C.read_list (controller_of multi) };
 
-    ghost write_list = { λ multi. C.write_list multi.controller };
+    ghost write_list = { λ multi. C.write_list (controller_of multi) };
 
     ghost said_time = { λ _. 3 };
 
-    ghost sets_up = { λ before accepted w after w_after. C.sets_up before.controller accepted w after.controller
-        w_after };
+    ghost sets_up = { λ before accepted w after w_after. C.sets_up (controller_of before) accepted w
+        (controller_of after) w_after };
 
     fn run<H: AllocGlobal, W: Holder<V>>(
         &mut self,

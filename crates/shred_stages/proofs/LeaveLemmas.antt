@@ -59,7 +59,8 @@ module _ {V S : Type 0} (meets : S → Holding V → Option Stop → S → Holdi
       by None m = absurd m
       by (Some system) m = step-leaves one.reads one.writes system before.held refused left after.held m
 
-  same-held : (before after : State V S) → after ≡ before → Leaves before.held after.held
+  -- where nothing changed
+  pub same-held : (before after : State V S) → after ≡ before → Leaves before.held after.held
   same-held before after e = leaves-to before.held before.held after.held (leaves-itself before.held) (ap (λ s. s.held) e)
 
   group-leaves : (group : Group ResourceId) (before : State V S) (refused : Option (ℕ × Stop)) (after : State V S) → GroupRuns meets group before refused after → Leaves before.held after.held

@@ -15,3 +15,4 @@ pub mod Ends
 pub mod Orders
 pub mod Changes
 pub mod Touring
+pub mod ViewParts

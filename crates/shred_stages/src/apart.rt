@@ -1,5 +1,5 @@
 //! Runs of stages on threads: the groups of a stage apart from one another.
-ghost use Rattle.std.specs.Prelude.{◌≡◌, ◌<◌, ◌≤◌, [], None, length, vec_capacity, IfOk, OnOk, OnErr, IfNone, IfSome};
+ghost use Rattle.std.specs.Prelude.{◌≡◌, ◌≤◌, [], None, length, vec_capacity, IfOk, OnOk, OnErr, IfNone, IfSome};
 ghost use Rattle.std.specs.List.{All};
 ghost use Rattle.shred_world.specs.Bundles.{holding_of};
 ghost use Rattle.shred_stages.specs.Runs.{StagesRun};
@@ -136,7 +136,6 @@ pub(crate) fn run_apart<
     staged: &mut Vec<Staged<V, S>>,
     berths: &mut Vec<Berth<V, S>>,
 ) -> Result<(), DispatchError>
-    requires some { 0 < length berths.old.items }
     requires free { All AreFree berths.old.items }
     requires seated { StagesAreSeated berths.old.items staged.old.items }
     ensures ends { EndsAs S.meets berths.old.items (state_of staged.old.items (holding_of world.old)) result

@@ -11,10 +11,10 @@ pub enum DispatchError {
     /// A local system refused, by its place among them from 0.
     #[error("local system {0}: {1}")]
     Local(usize, Stop),
-    /// There was no memory for a stage: no system of it ran.
+    /// There was no memory for what the stages are run with or for a worker: no system ran.
     #[error("out of memory for a stage")]
     Memory,
-    /// A thread couldn't be started for a stage: no system of it ran.
+    /// A thread couldn't be started for a worker: no system ran.
     #[error("no thread for a stage")]
     Threads,
 }

@@ -2,6 +2,7 @@
 ghost use Rattle.std.specs.Prelude.{◌≡◌, IfOk};
 ghost use Rattle.shred_world.specs.declared.resource_id.ResourceId.{ResourceId as Id};
 ghost use Rattle.shred_stages.specs.Views.{FitsSeat};
+ghost use Rattle.shred_stages.specs.ViewParts.{world_of, reads_of, writes_of, seat_of};
 ghost use Rattle.shred_stages.specs.Moves.{IsSeat, HasSlots, left_of, moved_to};
 
 use crate::seat::seat_for;
@@ -36,10 +37,10 @@ impl<'w, V, W: Holder<V>> View<'w, V, W> {
         seat: World<V>,
     ) -> View<'w, V, W>
         requires seated { FitsSeat writes.now seat }
-        ensures world { result.world.now ≡ world.entry.now }
-        ensures reads { result.reads.now ≡ reads.entry.now }
-        ensures writes { result.writes.now ≡ writes.entry.now }
-        ensures seat { result.seat ≡ seat }
+        ensures world { (world_of result).now ≡ world.entry.now }
+        ensures reads { (reads_of result).now ≡ reads.entry.now }
+        ensures writes { (writes_of result).now ≡ writes.entry.now }
+        ensures seat { seat_of result ≡ seat }
     {
         View {
             world,
@@ -51,7 +52,7 @@ impl<'w, V, W: Holder<V>> View<'w, V, W> {
 
     /// The seat of the view, with the values that come back.
     pub fn into_seat(self) -> World<V>
-        ensures { result ≡ self.entry.seat }
+        ensures { result ≡ seat_of self.entry }
     {
         let View {
             world: _,

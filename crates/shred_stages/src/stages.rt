@@ -239,7 +239,7 @@ impl<V: Drop, S: System<V> + Drop> StagesBuilder<V, S> {
     /// With fewer than 2 workers, or where no stage has 2 groups, all runs on the caller's thread, as `execute_seq` runs it.
     ///
     /// Errors: as `execute_seq`; `Memory` and `Threads`, where there was no memory for what the groups are run with or for a worker, or a thread couldn't be started:
-    /// no system ran.
+    /// no system ran, and all is as it was.
     pub fn execute<R: AllocGlobal + Threads + Wait + Sync>(
         &mut self,
         rt: &R,

@@ -25,7 +25,10 @@ pub struct View<'w, V, W> {
 }
 
 impl<V, W: Holder<V>> Holder<V> for View<'_, V, W> {
-    ghost slots = { λ view. view_slots view.reads.now view.writes.now (W.slots view.world.now) view.seat };
+    ghost use Rattle.shred_stages.specs.ViewParts.{world_of, reads_of, writes_of, seat_of};
+
+    ghost slots = { λ view. view_slots (reads_of view).now (writes_of view).now (W.slots (world_of view).now)
+        (seat_of view) };
 
     fn value(&self, id: ResourceId) -> Option<&V> {
         if is_among(id, self.writes) {

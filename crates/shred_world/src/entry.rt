@@ -1,7 +1,7 @@
 //! A place under a resource type's id, at which a resource stands or can be put.
-ghost use Rattle.std.specs.Prelude.{◌≡◌, IfOk, IfErr};
+ghost use Rattle.std.specs.Prelude.{◌≡◌, false, is_some, IfOk, IfErr};
 ghost use Rattle.std.specs.Borrow.{sem};
-ghost use Rattle.shred_world.specs.Worlds.{resource_or, HasKind, IsThereOr};
+ghost use Rattle.shred_world.specs.Worlds.{value_at, resource_or, HasKind, IsThereOr};
 ghost use Rattle.shred_world.specs.ResourceIds.{id_of};
 ghost use Rattle.shred_world.specs.Lending.{LendsInserted};
 
@@ -37,7 +37,7 @@ impl<'a, V, R: Resource<V> + Drop> Entry<'a, V, R> {
     /// Errors: want of memory, which leaves the world as it was.
     pub fn or_insert_with<F: FnOnce() -> R + Drop>(self, make: F) -> Result<&'a mut R, AllocError>
         requires kind { HasKind R.part self.world.now (id_of R.kind_number 0) }
-        requires callable { F.IsAlwaysCallable make }
+        requires callable { is_some (value_at self.world.now (id_of R.kind_number 0)) ≡ false → F.pre make }
         ensures* writes_back { sem 𝓛 (LendsInserted V.row R.row R.wrapped self.entry.world
             (id_of R.kind_number 0) result) }
         ensures value { IfOk result (λ lent.

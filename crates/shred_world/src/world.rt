@@ -1,6 +1,6 @@
 //! A finite map from resource ids to values.
 ghost use Rattle.std.specs.Prelude.{◌≡◌, ◌≢◌, ◌&&◌, OnOk, OnErr, IfOk, IfErr, Some, None, option_copied, is_some};
-ghost use Rattle.std.specs.Prelude.{IsSome, IfSome, IfNone, OnSome, unwrap_or, ℕ, MatchOption, is_ok};
+ghost use Rattle.std.specs.Prelude.{IsSome, IfSome, IfNone, OnSome, unwrap_or, ℕ, MatchOption, is_ok, false};
 ghost use Rattle.std.specs.Option.{option_copied_mut};
 ghost use Rattle.std.specs.Borrow.{sem};
 ghost use Rattle.std.specs.FinMap as map;
@@ -382,7 +382,7 @@ impl<V> World<V> {
         make: F,
     ) -> Result<&mut R, AllocError>
         requires kind { HasKind R.part self.old (id_of R.kind_number 0) }
-        requires callable { F.IsAlwaysCallable make }
+        requires callable { is_some (value_at self.old (id_of R.kind_number 0)) ≡ false → F.pre make }
         ensures* writes_back { sem 𝓛 (LendsInserted V.row R.row R.wrapped self.entry (id_of R.kind_number 0) result) }
         ensures value { IfOk result (λ lent. IsThereOr (F.post make) R.part self.old (id_of R.kind_number 0) lent.now) }
     {
@@ -395,14 +395,13 @@ impl<V> World<V> {
         &mut self,
         make: F,
     ) -> Result<(), AllocError>
-        requires callable { F.IsAlwaysCallable make }
+        requires callable { is_some (value_at self.old (id_of R.kind_number 0)) ≡ false → F.pre make }
         ensures ok { OnOk result (DefaultsTo (F.post make) R.wrapped (id_of R.kind_number 0) self.old self.new) }
         ensures err { OnErr result (self.new ≡ self.old) }
     {
-        if self.has_value::<R>() {
-            return Ok(());
+        if !self.has_value::<R>() {
+            self.insert_absent(ResourceId::new::<V, R>(), make())?;
         }
-        self.insert_absent(ResourceId::new::<V, R>(), make())?;
         Ok(())
     }
 

@@ -10,7 +10,7 @@ returns-clause-ends g c =
     let ran = c.tour_manned-tour in
     let back = c.disembark-outcome in
     tour-ends g.S.System.meets ran.result.1 c.in-Ok.tour ran.result.0 c.args.berths.now.items c.args.staged.now.items back.new.staged.items c.args.world.now back.new.world (refusal_of back.result) c.answer.result
-    c.requires.some c.in-Ok.ensures.ok c.answer.ensures.told c.answer.ensures.wanted ran.ensures.ran ran.ensures.still back.ensures.world back.ensures.staged back.ensures.told
+    c.in-Ok.ensures.ok c.answer.ensures.told c.answer.ensures.wanted ran.ensures.ran ran.ensures.still back.ensures.world back.ensures.staged back.ensures.told
 
 pub returns-clause-seats : goal.returns-clause-seats
 returns-clause-seats g c =

@@ -1,25 +1,18 @@
-use Rattle.std.proofs.Common.{◌≡◌, ◌≤◌, ◌<◌, List, length, sym, ap, subst, ◌∙◌, rules}
+use Rattle.std.proofs.Common.{◌≡◌, List, length, sym, ap, subst, ◌∙◌}
 use Rattle.std.specs.List.{All}
 use Rattle.std.specs.Prelude.{map}
 use Rattle.shred_world.specs.Bundles.{holding_of}
 use Rattle.shred_world.specs.declared.resource_id.ResourceId.{ResourceId}
-use Rattle.shred_plan.specs.Plan.{Stage, most_groups}
+use Rattle.shred_plan.specs.Plan.{Stage}
 use Rattle.shred_stages.specs.Free.{AreFree}
 use Rattle.shred_stages.specs.Runs.{State}
 use Rattle.shred_stages.specs.Seats.{StagesAreSeated}
 use Rattle.shred_stages.proofs.FreeLemmas.{planned-free}
 use Rattle.shred_stages.specs.Orders.{RunsInAnyOrder}
 use Rattle.shred_stages.specs.Staging.{Staging}
-use Rattle.shred_stages.proofs.EndLemmas.{ends-at-once, ends-leave, some-stage}
+use Rattle.shred_stages.proofs.EndLemmas.{ends-leave}
 use Rattle.shred_stages.proofs.PlanLemmas.{ends-in-any-order}
 use Rattle.shred_stages.proofs.stages.StagesBuilder.execute.Goals as goal
-
-pub run_apart-requires-clause-some : goal.run_apart-requires-clause-some
-run_apart-requires-clause-some g c κs within =
-    let kept : c.make_ready.new.berths.items ≡ c.self.inside.planner.stages = c.in-Ok.ensures.ok ∙ c.stages-stages.ensures in
-    let few : c.min-workers.result ≤ most_groups c.self.inside.planner.stages = search rules in
-    let P : List (Stage ResourceId) → Type 0 = λ stages. 0 < length stages in
-    subst P (sym kept) (some-stage c.self.inside.planner.stages c.min-workers.result few c.if-workers-lt2.false)
 
 pub run_apart-requires-clause-free : goal.run_apart-requires-clause-free
 run_apart-requires-clause-free g c κs within =
@@ -48,8 +41,5 @@ returns-clause-any_order g c =
 
 pub returns-in_default-clause-runs : goal.returns-in_default-clause-runs
 returns-in_default-clause-runs g c =
-    let few : c.min-workers.result ≤ most_groups c.self.inside.planner.stages = search rules in
-    let P : Staging g.row.S.Denot → Type 0 = λ staging. 0 < length staging.planning.stages in
-    let some : 0 < length c.args.self.now.planning.stages = subst P c.self.view_is (some-stage c.self.inside.planner.stages c.min-workers.result few c.if-workers-lt2.false) in
     let state : Staging g.row.S.Denot → State g.row.V.Denot g.row.S.Denot = λ staging. record { systems = staging.systems; held = holding_of c.args.world.now } in
-    ends-at-once g.S.System.meets c.args.self.now.planning.stages (state c.args.self.now) _ some (ap state c.self.view_is)
+    ap state c.self.view_is
