@@ -78,7 +78,9 @@ pub trait GenericWriteStorage: GenericReadStorage {
             × (Self.births after ≡ Self.births self.old))) }
         ensures value { IfOk result (λ part. UnwrapsOrElse
             (Self.parts self.old entity.id) Self.Component.is_default part.now) }
-        ensures absent { IsErrOf result lending.Absent ↔ ¬ (IsAlive (Self.births self.old) entity) };
+        ensures absent { IsErrOf result lending.Absent ↔ ¬ (IsAlive (Self.births self.old) entity) }
+        ensures succeeds { HasPart (Self.births self.old) (Self.parts self.old) entity → emits self.old ≡ false
+            → IsOk result };
 
     /// Puts `part` at an entity, and answers the part that it had.
     ///
@@ -167,6 +169,8 @@ fn lend_or_put<T: Component + Default>(
     ensures* writes_back { sem 𝓛 (lends_or T.row T.Storage.row T.Storage.UnprotectedStorage store.entry id result) }
     ensures value { IfOk result (λ lent. UnwrapsOrElse (T.Storage.part_at store.old.inner id) T.is_default lent.now) }
     ensures refused { IfErr result (λ refused. refused ≡ lending.Memory) }
+    ensures succeeds { IsSome (T.Storage.part_at store.old.inner id) → T.Storage.emits store.old.inner ≡ false
+        → IsOk result }
 {
     if store.contains(id) {
         let place = store.get_mut(id)?;

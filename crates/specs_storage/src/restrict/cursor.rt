@@ -142,6 +142,7 @@ impl<'a, T: Component, R: Join> PairCursor<'a, T, R> {
         ensures part { IfOk result (λ part. (index : ℕ) → index_of self.old ≡ Some index
             → T.Storage.part_at (store_of self.old).now.inner index ≡ Some part.now) }
         ensures succeeds { T.Storage.emits (store_of self.old).now.inner ≡ false → IsOk result }
+        ensures within_room { T.Storage.has_room (store_of self.old).now.inner 1 → IsOk result }
     {
         let Some(place) = self.index else {
             unreachable!()
@@ -182,6 +183,9 @@ impl<'a, T: Component, R: Join> PairCursor<'a, T, R> {
         ensures absent { IsErrOf result lending.Absent
             ↔ ¬ (HasPart (entities_of self.old).now (T.Storage.part_at (store_of self.old).now.inner) entity) }
         ensures succeeds { T.Storage.emits (store_of self.old).now.inner ≡ false
+            → HasPart (entities_of self.old).now (T.Storage.part_at (store_of self.old).now.inner) entity
+            → IsOk result }
+        ensures within_room { T.Storage.has_room (store_of self.old).now.inner 1
             → HasPart (entities_of self.old).now (T.Storage.part_at (store_of self.old).now.inner) entity
             → IsOk result }
     {

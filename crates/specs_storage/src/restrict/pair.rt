@@ -24,12 +24,26 @@ pub struct PairedStorage<'a, T: Component, R> {
 }
 
 /// A storage with an index that has a part, for reading and writing by one caller.
-#[derive(Drop)]
 pub struct PairedStorageMut<'a, T: Component> {
     pub(crate) entities: &'a EntitiesRes,
     pub(crate) store: &'a mut MaskedStorage<T>,
     pub(crate) index: Index,
     ghost there: { IsSome (T.Storage.part_at store.now.inner index) },
+}
+
+impl<T: Component> Drop for PairedStorageMut<'_, T> {
+    ghost use Rattle.specs_storage.specs.PairedMut.{store_of};
+
+    /// Leaves the storage as it is.
+    fn drop(self)
+        ensures { self.exit.1.0.now ≡ (store_of self.entry).now }
+    {
+        let PairedStorageMut {
+            entities: _,
+            store: _,
+            index: _,
+        } = self;
+    }
 }
 
 impl<'a, T: Component, R> PairedStorage<'a, T, R> {
@@ -84,6 +98,7 @@ impl<'a, T: Component> PairedStorageMut<'a, T> {
         ensures value { IfOk result (λ part. T.Storage.part_at (store_of self.old).now.inner (index_of self.old)
             ≡ Some part.now) }
         ensures succeeds { T.Storage.emits (store_of self.old).now.inner ≡ false → IsOk result }
+        ensures within_room { T.Storage.has_room (store_of self.old).now.inner 1 → IsOk result }
     {
         let index = self.index;
         self.store.get_mut(index)
@@ -99,6 +114,9 @@ impl<'a, T: Component> PairedStorageMut<'a, T> {
         ensures absent { IsErrOf result lending.Absent
             ↔ ¬ (HasPart (entities_of self.old).now (T.Storage.part_at (store_of self.old).now.inner) entity) }
         ensures succeeds { T.Storage.emits (store_of self.old).now.inner ≡ false
+            → HasPart (entities_of self.old).now (T.Storage.part_at (store_of self.old).now.inner) entity
+            → IsOk result }
+        ensures within_room { T.Storage.has_room (store_of self.old).now.inner 1
             → HasPart (entities_of self.old).now (T.Storage.part_at (store_of self.old).now.inner) entity
             → IsOk result }
     {
@@ -146,6 +164,7 @@ pub(crate) fn lend_at<T: Component>(
     ensures value { IfOk result (λ part. T.Storage.part_at store.old.inner index ≡ Some part.now) }
     ensures memory { IfErr result (λ refusal. refusal ≡ lending.Memory) }
     ensures succeeds { T.Storage.emits store.old.inner ≡ false → IsOk result }
+    ensures within_room { T.Storage.has_room store.old.inner 1 → IsOk result }
 {
     let part = store.get_mut(index)?;
     Ok(part)
