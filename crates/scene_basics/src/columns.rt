@@ -196,7 +196,7 @@ pub(crate) fn numbers_each(
     ensures { IfOk result (λ found. each_there (λ datum. datum) found.items
         ≡ each_there (λ index. option_map (λ whole. DatumWhole whole.0) (whole_at numbers.now index)) entities.now) }
 {
-    let mut found = Vec::new(alloc);
+    let mut found = Vec::with_capacity(alloc, entities.len())?;
     for entity in entities {
         if let Some(datum) = number_at(numbers, entity.1) {
             found.push((entity.0, Some(datum)))?;
