@@ -25,20 +25,15 @@ use Rattle.shred.specs.Dispatching.{Dispatching, DispatchesInAnyOrder}
 use Rattle.shred_tests.specs.declared.chores.Chore.{Chore}
 use Rattle.shred_tests.specs.declared.chores.Chore.TheVariants.{Moving, Scoring, Hastening}
 use Rattle.shred_tests.specs.declared.values.Value.{Value}
-use Rattle.shred_tests.specs.declared.values.Value.TheVariants.{NumberValue, SpeedValue, ScoreValue, Idle}
+use Rattle.shred_tests.specs.declared.values.Value.TheVariants.{NumberValue, SpeedValue, ScoreValue}
 use Rattle.shred_tests.specs.Chores.{number_id, speed_id, score_id, sum_of, Moves, Scores, Hastens, Does, ChoreMeets}
 use Rattle.shred_tests.specs.Threes.{moving, scoring, hastening, three_staged, IsThree, Turned}
+use Rattle.shred_tests.specs.Values.{count_of}
 
-abbrev count_of : Value → ℕ
-count_of (NumberValue number) = number.0
-count_of (SpeedValue speed) = speed.0
-count_of (ScoreValue score) = score.0
-count_of Idle = 0
-
-abbrev Staged : Type 0
+abbrev pub Staged : Type 0
 Staged = Work Chore (Batched Chore NoBatch)
 
-moves-held : (w w_after left : Holding Value) → Moves (cut (speed_id ∷ []) (number_id ∷ []) w) left
+pub moves-held : (w w_after left : Holding Value) → Moves (cut (speed_id ∷ []) (number_id ∷ []) w) left
     → ((changes : List (ResourceId × Value)) → left ≡ with_values changes (cut (speed_id ∷ []) (number_id ∷ []) w) → w_after ≡ with_values changes w) → Moves w w_after
 moves-held w w_after left does lifts = record {
   number = does.number;
@@ -70,13 +65,13 @@ module _ (batch_meets : Batched Chore NoBatch → Holding Value → Option Stop 
   meets = WorkMeets ChoreMeets batch_meets
 
   -- what one of them did to what it was lent
-  record Did (chore : Chore) (one : Placing ResourceId) (before after : State Value Staged) : Type 0 where
+  pub record Did (chore : Chore) (one : Placing ResourceId) (before after : State Value Staged) : Type 0 where
     pub systems : after.systems ≡ slice_set before.systems one.number (System chore)
     pub left : Holding Value
     pub does : Does chore (cut one.reads one.writes before.held) left
     pub lifts : (changes : List (ResourceId × Value)) → left ≡ with_values changes (cut one.reads one.writes before.held) → after.held ≡ with_values changes before.held
 
-  did : (chore : Chore) (one : Placing ResourceId) (before after : State Value Staged) → slice_get before.systems one.number ≡ Some (System chore) → Turn meets one before None after → Did chore one before after
+  pub did : (chore : Chore) (one : Placing ResourceId) (before after : State Value Staged) → slice_get before.systems one.number ≡ Some (System chore) → Turn meets one before None after → Did chore one before after
   did chore one before after there turn =
       let t = turn-of meets one before after None turn in
       let is : t.system ≡ System chore = same_Some t.system (System chore) (sym t.there ∙ there) in
@@ -90,7 +85,7 @@ module _ (batch_meets : Batched Chore NoBatch → Holding Value → Option Stop 
       }
 
   -- the same of what is held
-  moves : (before after : State Value Staged) → Did Moving moving before after → Moves before.held after.held
+  pub moves : (before after : State Value Staged) → Did Moving moving before after → Moves before.held after.held
   moves before after d = moves-held before.held after.held d.left d.does d.lifts
 
   scores : (before after : State Value Staged) → Did Scoring scoring before after → Scores before.held after.held

@@ -16,7 +16,7 @@ use std::sync::Wait;
 use std::thread::Threads;
 
 /// What the three systems stand in.
-type Staged = Work<Chore, Batch<Value, Chore, NoBatch>>;
+pub type Staged = Work<Chore, Batch<Value, Chore, NoBatch>>;
 
 /// A dispatcher of the three systems, for a number of workers.
 pub fn three(alloc: Global, workers: usize) -> Result<Dispatcher<Value, Staged, NoLocal>, AddError>

@@ -1,4 +1,7 @@
-//! What three systems with relations leave, with any number of workers.
+//! What three systems with relations leave, and one of them, with any number of workers.
+use crate::apart::systems_under_two_numbers_commute;
+use crate::chores::Chore;
+use crate::ones::{one, turn_one};
 use crate::threes::{move_alone, three, turn, turn_in_either_order};
 use crate::values::{Kinds, Value, kinds_in, put_kinds};
 use shred::{Stop, World};
@@ -42,6 +45,30 @@ fn three_systems_leave_the_same_with_any_number_of_workers(rt: HostRuntime) {
             Ok((left, left)),
             "{workers} workers"
         );
+    }
+}
+
+/// What a dispatch of one system leaves.
+fn left_by_one<R: AllocGlobal + Threads + Wait + Sync>(
+    rt: &R,
+    workers: usize,
+) -> Result<Kinds, AllocError> {
+    let mut world = world_of_three(rt.alloc())?;
+    let Ok(mut dispatcher) = one(rt.alloc(), workers) else {
+        return Err(AllocError);
+    };
+    match turn_one(rt, &mut dispatcher, &mut world) {
+        Ok(()) => Ok(kinds_in(&world)),
+        Err(_) => Err(AllocError),
+    }
+}
+
+#[test]
+fn one_system_leaves_the_same_with_any_number_of_workers(rt: HostRuntime) {
+    systems_under_two_numbers_commute::<Value, Chore>();
+    for workers in [0, 2] {
+        let left = left_by_one(&rt, workers);
+        assert_eq!(rt; left, Ok((Some(8), Some(3), Some(1))), "{workers} workers");
     }
 }
 
