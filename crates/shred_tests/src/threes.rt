@@ -51,6 +51,21 @@ pub fn turn<R: AllocGlobal + Threads + Wait + Sync>(
     dispatcher.dispatch(rt, world)
 }
 
+/// Dispatches the three systems on the caller's thread: accepted, it made of the world what they make of it one after the
+/// other.
+///
+/// Errors: those of `dispatch_seq`.
+pub fn turn_here<H: AllocGlobal>(
+    rt: &H,
+    dispatcher: &mut Dispatcher<Value, Staged, NoLocal>,
+    world: &mut World<Value>,
+) -> Result<(), DispatchError>
+    requires three { IsThree dispatcher.old }
+    ensures turned { OnOk result (Turned (holding_of world.old) (holding_of world.new)) }
+{
+    dispatcher.dispatch_seq(rt, world)
+}
+
 /// Dispatches the three systems: accepted, two of them may as well have run the other way round, and the world would be
 /// this one.
 ///
