@@ -1,1 +1,3 @@
+pub mod BundledLemmas
+pub mod OneLemmas
 pub mod ThreeLemmas

@@ -10,10 +10,10 @@ use Rattle.shred_stages.specs.declared.stop.Stop.{Stop}
 use Rattle.shred_stages.specs.declared.error.DispatchError.{DispatchError}
 use Rattle.shred_stages.specs.Views.{cut, error_of}
 use Rattle.shred_stages.specs.Changes.{with_values}
-use Rattle.shred_stages.specs.Runs.{Step, State, Turn}
-use Rattle.shred_stages.specs.Staging.{Staging}
+use Rattle.shred_stages.specs.Runs.{Step, State, Turn, StagesRun}
+use Rattle.shred_stages.specs.Staging.{Staging, Runs}
 use Rattle.shred_stages.specs.Orders.{SameUpToOrder, RunsUpToOrder, RunsInAnyOrder, TakeTurns}
-use Rattle.shred_stages.proofs.CallerLemmas.{lent-owned, lent-read, same-itself, same-turned, step-lifted, turn-of, turns-in-any-order}
+use Rattle.shred_stages.proofs.CallerLemmas.{lent-owned, lent-read, same-itself, same-turned, stages-turns, step-lifted, turn-of, turns-in-any-order, turns-in-order}
 use Rattle.shred.specs.declared.work.Work.{Work}
 use Rattle.shred.specs.declared.work.Work.TheVariants.{System}
 use Rattle.shred.specs.declared.nothing.NoBatch.{NoBatch}
@@ -25,20 +25,15 @@ use Rattle.shred.specs.Dispatching.{Dispatching, DispatchesInAnyOrder}
 use Rattle.shred_tests.specs.declared.chores.Chore.{Chore}
 use Rattle.shred_tests.specs.declared.chores.Chore.TheVariants.{Moving, Scoring, Hastening}
 use Rattle.shred_tests.specs.declared.values.Value.{Value}
-use Rattle.shred_tests.specs.declared.values.Value.TheVariants.{NumberValue, SpeedValue, ScoreValue, Idle}
+use Rattle.shred_tests.specs.declared.values.Value.TheVariants.{NumberValue, SpeedValue, ScoreValue}
 use Rattle.shred_tests.specs.Chores.{number_id, speed_id, score_id, sum_of, Moves, Scores, Hastens, Does, ChoreMeets}
 use Rattle.shred_tests.specs.Threes.{moving, scoring, hastening, three_staged, IsThree, Turned}
+use Rattle.shred_tests.specs.Values.{count_of}
 
-abbrev count_of : Value → ℕ
-count_of (NumberValue number) = number.0
-count_of (SpeedValue speed) = speed.0
-count_of (ScoreValue score) = score.0
-count_of Idle = 0
-
-abbrev Staged : Type 0
+abbrev pub Staged : Type 0
 Staged = Work Chore (Batched Chore NoBatch)
 
-moves-held : (w w_after left : Holding Value) → Moves (cut (speed_id ∷ []) (number_id ∷ []) w) left
+pub moves-held : (w w_after left : Holding Value) → Moves (cut (speed_id ∷ []) (number_id ∷ []) w) left
     → ((changes : List (ResourceId × Value)) → left ≡ with_values changes (cut (speed_id ∷ []) (number_id ∷ []) w) → w_after ≡ with_values changes w) → Moves w w_after
 moves-held w w_after left does lifts = record {
   number = does.number;
@@ -70,13 +65,13 @@ module _ (batch_meets : Batched Chore NoBatch → Holding Value → Option Stop 
   meets = WorkMeets ChoreMeets batch_meets
 
   -- what one of them did to what it was lent
-  record Did (chore : Chore) (one : Placing ResourceId) (before after : State Value Staged) : Type 0 where
+  pub record Did (chore : Chore) (one : Placing ResourceId) (before after : State Value Staged) : Type 0 where
     pub systems : after.systems ≡ slice_set before.systems one.number (System chore)
     pub left : Holding Value
     pub does : Does chore (cut one.reads one.writes before.held) left
     pub lifts : (changes : List (ResourceId × Value)) → left ≡ with_values changes (cut one.reads one.writes before.held) → after.held ≡ with_values changes before.held
 
-  did : (chore : Chore) (one : Placing ResourceId) (before after : State Value Staged) → slice_get before.systems one.number ≡ Some (System chore) → Turn meets one before None after → Did chore one before after
+  pub did : (chore : Chore) (one : Placing ResourceId) (before after : State Value Staged) → slice_get before.systems one.number ≡ Some (System chore) → Turn meets one before None after → Did chore one before after
   did chore one before after there turn =
       let t = turn-of meets one before after None turn in
       let is : t.system ≡ System chore = same_Some t.system (System chore) (sym t.there ∙ there) in
@@ -90,7 +85,7 @@ module _ (batch_meets : Batched Chore NoBatch → Holding Value → Option Stop 
       }
 
   -- the same of what is held
-  moves : (before after : State Value Staged) → Did Moving moving before after → Moves before.held after.held
+  pub moves : (before after : State Value Staged) → Did Moving moving before after → Moves before.held after.held
   moves before after d = moves-held before.held after.held d.left d.does d.lifts
 
   scores : (before after : State Value Staged) → Did Scoring scoring before after → Scores before.held after.held
@@ -151,13 +146,21 @@ module _ (batch_meets : Batched Chore NoBatch → Holding Value → Option Stop 
       let P : Staging Staged → Type 0 = λ staging. RunsUpToOrder meets (plan_order staging.planning.stages) (record { systems = before.systems; held = w }) (record { systems = after.systems; held = w_after }) in
       turns-in-any-order meets (moving ∷ scoring ∷ hastening ∷ []) list _ _ (subst P three runs) alike
 
+  -- a run of the plan, stage by stage
+  pub runs-turn : (before after : Staging Staged) (w w_after : Holding Value) (result : Result Unit DispatchError) → before ≡ three_staged → Runs meets before w result after w_after → OnOk result (Turned w w_after)
+  runs-turn before after w w_after (Err error) three runs = tt
+  runs-turn before after w w_after (Ok a) three (refused, told, runs) =
+      let P : Staging Staged → Option (ℕ × Stop) → Type 0 = λ staging refused. StagesRun meets staging.planning.stages (record { systems = before.systems; held = w }) refused (record { systems = after.systems; held = w_after }) in
+      turns-turn _ _ (ap (λ staging. staging.systems) three) (stages-turns meets three_staged.planning.stages _ _ (subst (λ staging. P staging None) three (subst (P before) told runs)))
+
   module _ (local_meets : NoLocal → Holding Value → Option Stop → NoLocal → Holding Value → Type 0) where
     pub dispatch-turns : (before after : Dispatching Staged NoLocal) (w w_after : Holding Value) (result : Result Unit DispatchError) → IsThree before
         → DispatchesInAnyOrder meets local_meets before w result after w_after → OnOk result (Turned w w_after)
     dispatch-turns before after w w_after (Err error) three did = tt
     dispatch-turns before after w w_after (Ok a) three did =
-        let turns = runs-along (moving ∷ scoring ∷ hastening ∷ []) in-order before.staging after.staging w did.w_between (Ok tt) three.staging did.steps in
+        let Q : Staging Staged → Type 0 = λ staging. RunsUpToOrder meets (plan_order staging.planning.stages) (record { systems = before.staging.systems; held = w }) (record { systems = after.staging.systems; held = did.w_between }) in
+        let turns = turns-in-order meets (moving ∷ scoring ∷ hastening ∷ []) _ _ (subst Q three.staging did.steps) in
         let P : List NoLocal → Type 0 = λ locals. LocalsRun local_meets 0 locals did.w_between None after.locals w_after in
         let none = subst P three.locals did.locals in
-        let Q : Holding Value → Type 0 = λ held. Turned w held in
-        subst Q (sym none.2) (turns-turn _ _ (ap (λ staging. staging.systems) three.staging) turns)
+        let R : Holding Value → Type 0 = λ held. Turned w held in
+        subst R (sym none.2) (turns-turn _ _ (ap (λ staging. staging.systems) three.staging) turns)

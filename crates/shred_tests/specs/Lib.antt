@@ -1,3 +1,5 @@
 pub mod Bundled
 pub mod Chores
+pub mod Ones
 pub mod Threes
+pub mod Values

@@ -1,8 +1,10 @@
 //! A system that is made of a bundle and a change of it. It is written for every bundle, and its contract is proved from
 //! what the trait of bundles says alone.
-ghost use Rattle.std.specs.Prelude.{◌≡◌, ◌⊎◌, None};
+ghost use Rattle.std.specs.Prelude.{◌≡◌, ◌⊎◌, None, IfOk, OnOk};
+ghost use Rattle.shred_world.specs.Bundles.{holding_of};
 ghost use Rattle.shred_stages.specs.Views.{error_of};
 ghost use Rattle.shred_tests.specs.Bundled.{IsWanting, ChangesBundle, IsFetched};
+ghost use Rattle.shred_tests.specs.Chores.{Moves};
 
 use crate::values::{Number, Speed, Value};
 use shred::{
@@ -109,13 +111,16 @@ impl Change<Value, Advanced> for Advance {
     }
 }
 
-/// Adds the speed to the number of a world, by a system that is made of its bundle.
+/// Adds the speed to the number of a world, by a system that is made of its bundle: where that doesn't refuse, the number
+/// gained the speed.
 ///
 /// Errors: want of memory.
 pub fn run_advance<H: AllocGlobal>(
     rt: &H,
     world: &mut World<Value>,
-) -> Result<Result<(), Stop>, AllocError> {
+) -> Result<Result<(), Stop>, AllocError>
+    ensures { IfOk result (λ outcome. OnOk outcome (Moves (holding_of world.old) (holding_of world.new))) }
+{
     let mut system: Bundled<Advanced, Advance> = Bundled::new(Advance);
     run_alone(rt, &mut system, world)
 }

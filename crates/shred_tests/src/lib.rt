@@ -1,6 +1,7 @@
 //! Rows and examples of use of `shred` and the crates below it, which no contract says.
 #![tactic(auto)]
 
+pub mod apart;
 #[cfg(test)]
 mod asyncs;
 #[cfg(test)]
@@ -15,6 +16,7 @@ pub mod chores;
 mod crews;
 #[cfg(test)]
 mod dispatches;
+pub mod ones;
 #[cfg(test)]
 mod plans;
 #[cfg(test)]

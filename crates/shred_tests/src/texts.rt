@@ -1,5 +1,5 @@
 //! The texts of errors.
-use shred::{AsyncError, DispatchError, Stop, SystemId};
+use shred::{AsyncError, DispatchError, ExecError, Missing, ResourceId, Stop, SystemId};
 use std::test::Fail;
 
 #[test]
@@ -15,6 +15,17 @@ fn refusals_are_told_by_texts(rt: HostRuntime) -> Result<(), Fail> {
     let told = format!(in rt.alloc(); "{memory}; {lost}")?;
     let wanted =
         "out of memory for a stage; a thread couldn't be started: systems and world are lost";
+    assert_eq!(rt; told.as_str(), wanted);
+    let missing = Missing {
+        id: ResourceId {
+            kind: 2,
+            dynamic: 7,
+        },
+    };
+    let (refused, wanting) = (ExecError::Memory, ExecError::Missing(missing));
+    let told = format!(in rt.alloc(); "{missing}; {refused}; {wanting}")?;
+    let wanted =
+        "no resource of kind 2 under number 7; out of memory; no resource of kind 2 under number 7";
     assert_eq!(rt; told.as_str(), wanted);
     Ok(())
 }

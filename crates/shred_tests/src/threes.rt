@@ -16,7 +16,7 @@ use std::sync::Wait;
 use std::thread::Threads;
 
 /// What the three systems stand in.
-type Staged = Work<Chore, Batch<Value, Chore, NoBatch>>;
+pub type Staged = Work<Chore, Batch<Value, Chore, NoBatch>>;
 
 /// A dispatcher of the three systems, for a number of workers.
 pub fn three(alloc: Global, workers: usize) -> Result<Dispatcher<Value, Staged, NoLocal>, AddError>
@@ -49,6 +49,21 @@ pub fn turn<R: AllocGlobal + Threads + Wait + Sync>(
     ensures turned { OnOk result (Turned (holding_of world.old) (holding_of world.new)) }
 {
     dispatcher.dispatch(rt, world)
+}
+
+/// Dispatches the three systems on the caller's thread: accepted, it made of the world what they make of it one after the
+/// other.
+///
+/// Errors: those of `dispatch_seq`.
+pub fn turn_here<H: AllocGlobal>(
+    rt: &H,
+    dispatcher: &mut Dispatcher<Value, Staged, NoLocal>,
+    world: &mut World<Value>,
+) -> Result<(), DispatchError>
+    requires three { IsThree dispatcher.old }
+    ensures turned { OnOk result (Turned (holding_of world.old) (holding_of world.new)) }
+{
+    dispatcher.dispatch_seq(rt, world)
 }
 
 /// Dispatches the three systems: accepted, two of them may as well have run the other way round, and the world would be

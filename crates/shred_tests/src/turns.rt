@@ -1,5 +1,8 @@
-//! What three systems with relations leave, with any number of workers.
-use crate::threes::{move_alone, three, turn, turn_in_either_order};
+//! What three systems with relations leave, and one of them, with any number of workers.
+use crate::apart::systems_under_two_numbers_commute;
+use crate::chores::Chore;
+use crate::ones::{one, turn_one};
+use crate::threes::{move_alone, three, turn, turn_here, turn_in_either_order};
 use crate::values::{Kinds, Value, kinds_in, put_kinds};
 use shred::{Stop, World};
 use std::alloc::{AllocError, Global};
@@ -13,24 +16,29 @@ fn world_of_three(alloc: Global) -> Result<World<Value>, AllocError> {
     Ok(world)
 }
 
-/// What a dispatch of the three systems leaves, and what one on threads alone.
+/// What a dispatch of the three systems leaves, what one on threads alone, and what one on the caller's thread.
 fn left_by_three<R: AllocGlobal + Threads + Wait + Sync>(
     rt: &R,
     workers: usize,
-) -> Result<(Kinds, Kinds), AllocError> {
+) -> Result<(Kinds, Kinds, Kinds), AllocError> {
     let mut world = world_of_three(rt.alloc())?;
     let mut other = world_of_three(rt.alloc())?;
-    let (Ok(mut first), Ok(mut second)) = (three(rt.alloc(), workers), three(rt.alloc(), workers))
-    else {
-        return Err(AllocError);
-    };
-    let (Ok(()), Ok(())) = (
-        turn(rt, &mut first, &mut world),
-        turn_in_either_order(rt, &mut second, &mut other),
+    let mut third = world_of_three(rt.alloc())?;
+    let (Ok(mut first), Ok(mut second), Ok(mut here)) = (
+        three(rt.alloc(), workers),
+        three(rt.alloc(), workers),
+        three(rt.alloc(), workers),
     ) else {
         return Err(AllocError);
     };
-    Ok((kinds_in(&world), kinds_in(&other)))
+    let (Ok(()), Ok(()), Ok(())) = (
+        turn(rt, &mut first, &mut world),
+        turn_in_either_order(rt, &mut second, &mut other),
+        turn_here(rt, &mut here, &mut third),
+    ) else {
+        return Err(AllocError);
+    };
+    Ok((kinds_in(&world), kinds_in(&other), kinds_in(&third)))
 }
 
 #[test]
@@ -39,9 +47,33 @@ fn three_systems_leave_the_same_with_any_number_of_workers(rt: HostRuntime) {
     for workers in [0, 1, 2, 8] {
         assert_eq!(rt;
             left_by_three(&rt, workers),
-            Ok((left, left)),
+            Ok((left, left, left)),
             "{workers} workers"
         );
+    }
+}
+
+/// What a dispatch of one system leaves.
+fn left_by_one<R: AllocGlobal + Threads + Wait + Sync>(
+    rt: &R,
+    workers: usize,
+) -> Result<Kinds, AllocError> {
+    let mut world = world_of_three(rt.alloc())?;
+    let Ok(mut dispatcher) = one(rt.alloc(), workers) else {
+        return Err(AllocError);
+    };
+    match turn_one(rt, &mut dispatcher, &mut world) {
+        Ok(()) => Ok(kinds_in(&world)),
+        Err(_) => Err(AllocError),
+    }
+}
+
+#[test]
+fn one_system_leaves_the_same_with_any_number_of_workers(rt: HostRuntime) {
+    systems_under_two_numbers_commute::<Value, Chore>();
+    for workers in [0, 2] {
+        let left = left_by_one(&rt, workers);
+        assert_eq!(rt; left, Ok((Some(8), Some(3), Some(1))), "{workers} workers");
     }
 }
 

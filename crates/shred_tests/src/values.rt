@@ -1,7 +1,9 @@
 //! The values of the tests: numbers of three kinds, and a value of none of them.
 ghost use Rattle.std.specs.Prelude.{◌≡◌, Some, None, refl};
 ghost use Rattle.std.proofs.Common.{rules};
+ghost use Rattle.shred_world.specs.ResourceIds.{id_of};
 ghost use Rattle.shred_tests.specs.declared.values.Value.TheVariants.{NumberValue, SpeedValue, ScoreValue, Idle};
+ghost use Rattle.shred_tests.specs.Values.{count_of, raised_by};
 
 use shred_world::{Holder, Resource, ResourceId, World};
 use std::alloc::{AllocError, Global};
@@ -151,7 +153,9 @@ impl Resource<Value> for Score {
 }
 
 /// What a value counts, of whatever kind it is.
-pub(crate) fn count_in(value: &Value) -> u64 {
+pub(crate) fn count_in(value: &Value) -> u64
+    ensures { result ≡ count_of value.now }
+{
     match value {
         Value::NumberValue(Number(count)) => *count,
         Value::SpeedValue(Speed(count)) => *count,
@@ -161,7 +165,9 @@ pub(crate) fn count_in(value: &Value) -> u64 {
 }
 
 /// The value, raised by an amount.
-pub(crate) fn raised(value: Value, amount: u64) -> Value {
+pub(crate) fn raised(value: Value, amount: u64) -> Value
+    ensures { result ≡ raised_by value amount }
+{
     match value {
         Value::NumberValue(Number(count)) => Value::NumberValue(Number(count.wrapping_add(amount))),
         Value::SpeedValue(Speed(count)) => Value::SpeedValue(Speed(count.wrapping_add(amount))),
@@ -172,7 +178,7 @@ pub(crate) fn raised(value: Value, amount: u64) -> Value {
 
 /// The id of a number under a dynamic number.
 pub(crate) fn number_under(dynamic: u64) -> ResourceId
-    ensures { result.kind ≡ 1 }
+    ensures { result ≡ id_of 1 dynamic }
 {
     ResourceId::new_with_dynamic_id::<Value, Number>(dynamic)
 }

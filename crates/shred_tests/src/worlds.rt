@@ -1,4 +1,9 @@
 //! Calls on a world, one after another: each succeeds where there is memory, and reaches the value that it names.
+ghost use Rattle.std.specs.Prelude.{◌≡◌, IfSome, IfNone};
+ghost use Rattle.shred_world.specs.ResourceIds.{id_of};
+ghost use Rattle.shred_tests.specs.Chores.{sum_of};
+ghost use Rattle.shred_tests.specs.Values.{count_of, raised_by, Exchanges, Gains};
+
 use crate::bundles::first_wanting;
 use crate::values::{Number, Score, Speed, Value, count_in, number_under, raised};
 use shred_world::{Read, ReadExpect, SystemData, World, Write};
@@ -226,33 +231,54 @@ fn take_and_put_back(world: &mut World<Value>, dynamic: u64) -> Option<u64> {
 }
 
 /// Exchanges the number with the one under another dynamic number, and tells their sum.
-fn exchange(world: &mut World<Value>, dynamic: u64) -> Option<u64> {
+fn exchange(world: &mut World<Value>, dynamic: u64) -> Option<u64>
+    ensures exchanged { IfSome result (Exchanges (id_of 1 0) (id_of 1 dynamic) world.old world.new) }
+    ensures none { IfNone result (world.new ≡ world.old) }
+{
     let one = number_under(0);
     let other = number_under(dynamic);
     if one == other {
         return None;
     }
-    world.change_two(one, other, |first: &mut Value, second: &mut Value| {
-        let sum = count_in(first).wrapping_add(count_in(second));
-        let was = *first;
-        *first = *second;
-        *second = was;
-        sum
-    })
+    world.change_two(
+        one,
+        other,
+        |first: &mut Value, second: &mut Value| -> u64
+            ensures sum { result ≡ sum_of (count_of first.old) (count_of second.old) }
+            ensures first { first.new ≡ second.old }
+            ensures second { second.new ≡ first.old }
+        {
+            let sum = count_in(first).wrapping_add(count_in(second));
+            let was = *first;
+            *first = *second;
+            *second = was;
+            sum
+        },
+    )
 }
 
 /// Adds the number under another dynamic number to the number, and tells what was added.
-fn add_under(world: &mut World<Value>, dynamic: u64) -> Option<u64> {
+fn add_under(world: &mut World<Value>, dynamic: u64) -> Option<u64>
+    ensures added { IfSome result (Gains (id_of 1 dynamic) (id_of 1 0) world.old world.new) }
+    ensures none { IfNone result (world.new ≡ world.old) }
+{
     let one = number_under(0);
     let other = number_under(dynamic);
     if other == one {
         return None;
     }
-    world.change_by(other, one, |seen: &Value, value: &mut Value| {
-        let amount = count_in(seen);
-        *value = raised(*value, amount);
-        amount
-    })
+    world.change_by(
+        other,
+        one,
+        |seen: &Value, value: &mut Value| -> u64
+            ensures told { result ≡ count_of seen.now }
+            ensures raised { value.new ≡ raised_by value.old result }
+        {
+            let amount = count_in(seen);
+            *value = raised(*value, amount);
+            amount
+        },
+    )
 }
 
 /// Takes one off the number, which is set up as 0.

@@ -1,4 +1,4 @@
-use Rattle.std.proofs.Common.{◌≡◌, is_some, refl, ap, ◌∙◌, inl, inr, subst}
+use Rattle.std.proofs.Common.{is_some, refl, ap, ◌∙◌, inl, inr, subst}
 use Rattle.shred_world.specs.Bundles.{Holding}
 use Rattle.shred_world.proofs.AnyBundleLemmas.{changed-can_give, changed-leaves, same-leaves}
 use Rattle.shred_stages.specs.Views.{error_of}
