@@ -29,6 +29,13 @@ const LARGE: u32 = 1_000_000;
 /// How many stages a chain of them has.
 const LAYERS: u32 = 16;
 
+/// The lists whose systems come after others: how far before a system the first of those was added, how many they are, and the list's name.
+static WAITING: [(u32, u32, &str); 3] = [
+    (1, 1, "each after the one before"),
+    (50, 50, "each after the 50 before"),
+    (2048, 1, "half of them free, each other after one of those"),
+];
+
 /// The time that is said of a system.
 fn time_of(number: u32) -> RunningTime {
     match number % 5 {
@@ -95,6 +102,44 @@ fn chain_of(
     Ok(stages)
 }
 
+/// The numbers of so many systems, one after the other, the first of which was added `back` before a system; those alone that are there.
+fn numbers_before(
+    alloc: Global,
+    number: u32,
+    back: u32,
+    count: u32,
+) -> Result<Vec<u32>, AllocError> {
+    let mut numbers = Vec::new(alloc);
+    for place in 0..count {
+        let distance = back.saturating_sub(place);
+        if distance <= number {
+            numbers.push(number - distance)?;
+        }
+    }
+    Ok(numbers)
+}
+
+/// Systems each of which writes an id of its own and comes after so many others, the first of which was added `back` before it.
+fn waiting_of(
+    alloc: Global,
+    back: u32,
+    count: u32,
+) -> Result<StagesBuilder<Value, Mixer>, AllocError> {
+    let mut stages = StagesBuilder::new(alloc);
+    for number in 0..PLANNED {
+        if stages.len() < 65_536 {
+            let mixer = Mixer {
+                id: id_of(number, PLANNED),
+                amount: u64::from(number) + 1,
+                time: RunningTime::Average,
+                rounds: 1,
+            };
+            let _ = stages.insert(mixer, numbers_before(alloc, number, back, count)?)?;
+        }
+    }
+    Ok(stages)
+}
+
 /// A world with a 0 under each of so many ids.
 fn world_of(alloc: Global, ids: u32) -> Result<World<Value>, AllocError> {
     let mut world = World::empty(alloc);
@@ -139,6 +184,20 @@ fn print_dispatch<R: Print + AllocGlobal>(rt: &R, systems: u32, ids: u32) -> io:
     println!(rt;
         "dispatch of {systems} systems over {ids} ids: {accepted} of 3, {groups} groups at most, sum {checksum}"
     )?;
+    Ok(())
+}
+
+/// Prints the plans of the lists whose systems come after others.
+fn print_waiting<R: Print + AllocGlobal>(rt: &R) -> io::Result<()> {
+    for (back, count, name) in WAITING.iter() {
+        let stages = waiting_of(rt.alloc(), *back, *count)?;
+        let text = stages.write_par_seq(rt.alloc())?;
+        let groups = stages.max_threads();
+        let checksum = checksum_of_text(text.as_str());
+        println!(rt;
+            "plan of {PLANNED} systems, {name}: {groups} groups at most, text {checksum}"
+        )?;
+    }
     Ok(())
 }
 
@@ -199,6 +258,7 @@ pub(crate) fn checksums<R: Print + AllocGlobal + Threads + Wait + Sync>(rt: &R) 
         "plan of {PLANNED} systems over 64 ids: {groups} groups at most, text {checksum}"
     )?;
     print_plan(rt)?;
+    print_waiting(rt)?;
     for groups in [2, 4, 8] {
         for workers in [0, 1, 2, 4] {
             print_stage(rt, groups, workers, 1)?;
@@ -262,6 +322,18 @@ fn print_chain_times<R: Print + AllocGlobal + Threads + Wait + Sync + Clock>(
     Ok(())
 }
 
+/// Prints how long the plans of the lists take whose systems come after others.
+fn print_waiting_times<R: Print + AllocGlobal + Clock>(rt: &R) -> io::Result<()> {
+    for (back, count, name) in WAITING.iter() {
+        let start = Instant::now(rt)?;
+        let stages = waiting_of(rt.alloc(), *back, *count)?;
+        let taken = start.elapsed(rt)?.as_micros();
+        let groups = stages.max_threads();
+        println!(rt; "plan of {PLANNED} systems, {name}: {taken} us, {groups} groups at most")?;
+    }
+    Ok(())
+}
+
 /// The times.
 pub(crate) fn times<R: Print + AllocGlobal + Threads + Wait + Sync + Clock>(
     rt: &R,
@@ -288,5 +360,6 @@ pub(crate) fn times<R: Print + AllocGlobal + Threads + Wait + Sync + Clock>(
             "plan of {PLANNED} systems over {ids} ids: {taken} us, {groups} groups at most"
         )?;
     }
+    print_waiting_times(rt)?;
     draws::print_time(rt)
 }
