@@ -2,6 +2,7 @@
 ghost use Rattle.std.specs.Prelude.{◌≡◌, IsSome, IfOk, length};
 ghost use Rattle.hibitset_sets.specs.BitSet.{has_member};
 ghost use Rattle.hibitset_sets.specs.Walk.{walk};
+ghost use Rattle.specs_storage.specs.EntryCursors.{index_of, indices_left};
 ghost use Rattle.bench_changes.specs.Drifts.{drifted};
 
 use crate::parts::{Drift, Place, Plain};
@@ -52,8 +53,8 @@ pub fn by_change_each(
 
 /// Adds a drift to the place at a cursor's index.
 fn drift_at<R: Join>(cursor: &mut EntryCursor<'_, Place, R>, along: u32)
-    requires { IsSome cursor.old.walk.index }
-    ensures { cursor.new.walk.keys ≡ cursor.old.walk.keys }
+    requires { IsSome (index_of cursor.old) }
+    ensures { indices_left R.Mask.members cursor.new ≡ indices_left R.Mask.members cursor.old }
 {
     match cursor.place().entry().or_insert(Place { along: 0 }) {
         Ok(place) => place.along = place.along.wrapping_add(along),

@@ -1,5 +1,6 @@
 //! Two sets under the operators and the assignments.
-use crate::walked::{members, set_of, walks};
+use crate::walked::{atomic_of, members, set_of, walks};
+use hibitset::AtomicBitSet;
 use hibitset_sets::{BitSet, BitSetAnd, BitSetLike, BitSetOr, Index};
 use std::alloc::{AllocError, Global};
 use std::test::Fail;
@@ -105,6 +106,77 @@ fn two_sets_under_operators_and_assignments(rt: HostRuntime) -> Result<(), Fail>
     let mut wrong = None;
     for row in ROWS.as_slice() {
         if !holds(rt.alloc(), row)? {
+            wrong = Some(row.name);
+        }
+    }
+    assert_eq!(rt; wrong, None);
+    Ok(())
+}
+
+/// Whether sets for several threads, lent to the operators, walk what the row says, beside one of their kind and another set.
+fn lent_hold(left: &AtomicBitSet, right: &AtomicBitSet, other: &BitSet, row: &Row) -> bool {
+    walks(left & right, row.both)
+        && walks(left | right, row.either)
+        && walks(left ^ right, row.one)
+        && walks(left & other, row.both)
+        && walks((left & !right) | (right & !left), row.one)
+}
+
+/// Whether sets for several threads, held by the operators, do.
+fn held_hold(alloc: Global, row: &Row, other: &BitSet) -> Result<bool, AllocError> {
+    let both = atomic_of(alloc, row.left)? & atomic_of(alloc, row.right)?;
+    let either = atomic_of(alloc, row.left)? | other;
+    let one = atomic_of(alloc, row.left)? ^ other;
+    let left_alone = atomic_of(alloc, row.left)? & !atomic_of(alloc, row.right)?;
+    let right_alone = atomic_of(alloc, row.right)? & !atomic_of(alloc, row.left)?;
+    Ok(
+        walks(both, row.both)
+            && walks(either, row.either)
+            && walks(one, row.one)
+            && walks(left_alone | right_alone, row.one),
+    )
+}
+
+/// Whether a `for` over a set for several threads comes to these indices, first lent and then by value.
+fn comes_to(set: AtomicBitSet, wanted: &[Index]) -> bool {
+    let mut left = wanted;
+    for index in &set {
+        match left.split_first() {
+            Some((first, rest)) if *first == index => left = rest,
+            _ => return false,
+        }
+    }
+    left.is_empty() && comes_by_value(set, wanted)
+}
+
+/// Whether a `for` over such a set by value does.
+fn comes_by_value(set: AtomicBitSet, wanted: &[Index]) -> bool {
+    let mut left = wanted;
+    for index in set {
+        match left.split_first() {
+            Some((first, rest)) if *first == index => left = rest,
+            _ => return false,
+        }
+    }
+    left.is_empty()
+}
+
+fn atomic_holds(alloc: Global, row: &Row) -> Result<bool, AllocError> {
+    let left = atomic_of(alloc, row.left)?;
+    let right = atomic_of(alloc, row.right)?;
+    let other = set_of(alloc, row.right)?;
+    Ok(
+        lent_hold(&left, &right, &other, row)
+            && held_hold(alloc, row, &other)?
+            && comes_to(left, row.left),
+    )
+}
+
+#[test]
+fn sets_for_several_threads_under_operators(rt: HostRuntime) -> Result<(), Fail> {
+    let mut wrong = None;
+    for row in ROWS.as_slice() {
+        if !atomic_holds(rt.alloc(), row)? {
             wrong = Some(row.name);
         }
     }

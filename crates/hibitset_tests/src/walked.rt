@@ -1,10 +1,22 @@
 //! What the tables share: sets of indices, and whether a set walks what a row says.
+use hibitset::AtomicBitSet;
 use hibitset_sets::{BitSet, BitSetLike, Index};
 use std::alloc::{AllocError, Global};
 
 /// The set of the indices, those past the greatest left out.
 pub fn set_of(alloc: Global, indices: &[Index]) -> Result<BitSet, AllocError> {
     let mut set = BitSet::new(alloc);
+    for i in indices {
+        if *i < 16_777_216 {
+            let _ = set.add(*i)?;
+        }
+    }
+    Ok(set)
+}
+
+/// The same as a set for several threads.
+pub fn atomic_of(alloc: Global, indices: &[Index]) -> Result<AtomicBitSet, AllocError> {
+    let mut set = AtomicBitSet::new(alloc);
     for i in indices {
         if *i < 16_777_216 {
             let _ = set.add(*i)?;

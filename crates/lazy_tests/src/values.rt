@@ -2,8 +2,10 @@
 ghost use Rattle.std.specs.Prelude.{◌≡◌, Some, None, refl};
 ghost use Rattle.std.proofs.Common.{rules};
 ghost use Rattle.specs_layouts.specs.DropLemmas.{dropped-parts, drops-none, drops-append};
-ghost use Rattle.lazy_tests.specs.Values.{value_has_part, value_has_room, value_drops, value-parts, value-none, value-append};
-ghost use Rattle.lazy_tests.specs.declared.values.Value.TheVariants.{EntitiesValue, TableValue, HealthValue, QueueValue, SharedValue, NotesValue};
+ghost use Rattle.lazy_tests.specs.Values.{value_has_part, value_has_room, value_drops, value-parts, value-none};
+ghost use Rattle.lazy_tests.specs.Values.{value-append};
+ghost use Rattle.lazy_tests.specs.declared.values.Value.TheVariants.{EntitiesValue, TableValue, HealthValue};
+ghost use Rattle.lazy_tests.specs.declared.values.Value.TheVariants.{QueueValue, SharedValue, NotesValue};
 
 use crate::tasks::{Health, Notes, Task};
 use shred_world::{MetaTable, Resource};
@@ -28,7 +30,14 @@ impl Resource<Value> for EntitiesRes {
 
     ghost wrapped = { EntitiesValue };
 
-    ghost part = { elim [ EntitiesValue x ↦ Some x | TableValue x ↦ None | HealthValue x ↦ None | QueueValue x ↦ None | SharedValue x ↦ None | NotesValue x ↦ None ] };
+    ghost part = { elim [
+      | EntitiesValue x ↦ Some x
+      | TableValue x ↦ None
+      | HealthValue x ↦ None
+      | QueueValue x ↦ None
+      | SharedValue x ↦ None
+      | NotesValue x ↦ None
+    ] };
 
     ghost seen = { λ _. refl };
 
@@ -69,7 +78,14 @@ impl Resource<Value> for MetaTable {
 
     ghost wrapped = { TableValue };
 
-    ghost part = { elim [ EntitiesValue x ↦ None | TableValue x ↦ Some x | HealthValue x ↦ None | QueueValue x ↦ None | SharedValue x ↦ None | NotesValue x ↦ None ] };
+    ghost part = { elim [
+      | EntitiesValue x ↦ None
+      | TableValue x ↦ Some x
+      | HealthValue x ↦ None
+      | QueueValue x ↦ None
+      | SharedValue x ↦ None
+      | NotesValue x ↦ None
+    ] };
 
     ghost seen = { λ _. refl };
 
@@ -110,7 +126,14 @@ impl Resource<Value> for MaskedStorage<Health> {
 
     ghost wrapped = { HealthValue };
 
-    ghost part = { elim [ EntitiesValue x ↦ None | TableValue x ↦ None | HealthValue x ↦ Some x | QueueValue x ↦ None | SharedValue x ↦ None | NotesValue x ↦ None ] };
+    ghost part = { elim [
+      | EntitiesValue x ↦ None
+      | TableValue x ↦ None
+      | HealthValue x ↦ Some x
+      | QueueValue x ↦ None
+      | SharedValue x ↦ None
+      | NotesValue x ↦ None
+    ] };
 
     ghost seen = { λ _. refl };
 
@@ -151,7 +174,14 @@ impl Resource<Value> for LazyUpdate<Task> {
 
     ghost wrapped = { QueueValue };
 
-    ghost part = { elim [ EntitiesValue x ↦ None | TableValue x ↦ None | HealthValue x ↦ None | QueueValue x ↦ Some x | SharedValue x ↦ None | NotesValue x ↦ None ] };
+    ghost part = { elim [
+      | EntitiesValue x ↦ None
+      | TableValue x ↦ None
+      | HealthValue x ↦ None
+      | QueueValue x ↦ Some x
+      | SharedValue x ↦ None
+      | NotesValue x ↦ None
+    ] };
 
     ghost seen = { λ _. refl };
 
@@ -192,7 +222,14 @@ impl Resource<Value> for SharedLazy<Task> {
 
     ghost wrapped = { SharedValue };
 
-    ghost part = { elim [ EntitiesValue x ↦ None | TableValue x ↦ None | HealthValue x ↦ None | QueueValue x ↦ None | SharedValue x ↦ Some x | NotesValue x ↦ None ] };
+    ghost part = { elim [
+      | EntitiesValue x ↦ None
+      | TableValue x ↦ None
+      | HealthValue x ↦ None
+      | QueueValue x ↦ None
+      | SharedValue x ↦ Some x
+      | NotesValue x ↦ None
+    ] };
 
     ghost seen = { λ _. refl };
 
@@ -233,7 +270,14 @@ impl Resource<Value> for Notes {
 
     ghost wrapped = { NotesValue };
 
-    ghost part = { elim [ EntitiesValue x ↦ None | TableValue x ↦ None | HealthValue x ↦ None | QueueValue x ↦ None | SharedValue x ↦ None | NotesValue x ↦ Some x ] };
+    ghost part = { elim [
+      | EntitiesValue x ↦ None
+      | TableValue x ↦ None
+      | HealthValue x ↦ None
+      | QueueValue x ↦ None
+      | SharedValue x ↦ None
+      | NotesValue x ↦ Some x
+    ] };
 
     ghost seen = { λ _. refl };
 

@@ -2,7 +2,9 @@
 ghost use Rattle.std.specs.Prelude.{◌≡◌, Some, None, refl, false};
 ghost use Rattle.std.proofs.Common.{rules, ◌∙◌};
 ghost use Rattle.marking_tests.specs.Values.{none-stays};
-ghost use Rattle.marking_tests.specs.declared.values.Value.TheVariants.{EntitiesValue, TableValue, PlainMarksValue, PlainGiverValue, RandomMarksValue, RandomGiverValue, QueueValue, SharedValue};
+ghost use Rattle.marking_tests.specs.declared.values.Value.TheVariants.{EntitiesValue, TableValue, PlainMarksValue};
+ghost use Rattle.marking_tests.specs.declared.values.Value.TheVariants.{PlainGiverValue, RandomMarksValue};
+ghost use Rattle.marking_tests.specs.declared.values.Value.TheVariants.{RandomGiverValue, QueueValue, SharedValue};
 
 use crate::tasks::Task;
 use rand_pcg::Pcg32;

@@ -1,9 +1,12 @@
-//! Laws of entities over every list of calls. The functions have no code; each contract is the law.
-ghost use Rattle.std.specs.Prelude.{◌≡◌, List};
+//! Laws of entities over every list of calls, and of their hashes. All functions but the last have no code; each contract is the law.
+ghost use Rattle.std.specs.Prelude.{◌≡◌, ◌++◌, List, fold};
+ghost use Rattle.std.specs.Hash as fed;
+ghost use Rattle.specs_entity.specs.Life.{id_of};
 ghost use Rattle.specs_entity.specs.Births.{Births, Continues, IsAlive, IsBorn, IsDead};
 ghost use Rattle.specs.specs.Histories.{ContinuesAlong, last_of};
 
 use specs_entity::Entity;
+use std::hash::{Hash, Hasher};
 
 /// Over every list of calls no birth is lost, and who lives at the end lived at the beginning or was born since.
 pub fn calls_continue()
@@ -30,3 +33,11 @@ pub fn the_stale_are_dead(stale: Entity, newer: Entity)
         → stale.id ≡ newer.id → (stale ≡ newer → ⊥) → IsAlive (last_of first later) newer
         → IsDead (last_of first later) stale }
 {}
+
+/// A hasher is fed an entity's index, and then its signed generation: so two entities of one index are told apart.
+pub fn entities_hash_as_pairs<H: Hasher>(entity: &Entity, state: &mut H)
+    ensures { state.new ≡ fold H.write state.old
+        (fed.u32 entity.now.id ++ fed.i32 (id_of entity.now.generation)) }
+{
+    entity.hash(state);
+}

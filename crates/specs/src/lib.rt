@@ -49,7 +49,7 @@ pub mod storage {
 pub mod join {
     pub use specs_join::{
         AntiStorage, BitAnd, Change, EachError, Join, JoinCursor, JoinIter, JoinParIter, MaybeJoin,
-        ParJoin, change_each,
+        ParJoin, SharedSteps, change_each,
     };
 }
 

@@ -1,5 +1,6 @@
 //! Places whose part is put, replaced, lent and taken out, and the places of all indices, walked beside a join.
 ghost use Rattle.std.specs.Prelude.{◌≡◌, IsSome};
+ghost use Rattle.specs_storage.specs.EntryCursors.{index_of, indices_left};
 
 use crate::parts::{Speed, made};
 use specs_entity::{EntitiesRes, Entity, WrongGeneration};
@@ -243,8 +244,8 @@ fn calls_at_places_answer_their_rows(rt: HostRuntime) {
 
 /// The number at the cursor's index, which is put as 2 where none was there.
 fn number<R: Join>(cursor: &mut EntryCursor<'_, Speed, R>) -> Option<u32>
-    requires { IsSome cursor.old.walk.index }
-    ensures { cursor.new.walk.keys ≡ cursor.old.walk.keys }
+    requires { IsSome (index_of cursor.old) }
+    ensures { indices_left R.Mask.members cursor.new ≡ indices_left R.Mask.members cursor.old }
 {
     match cursor.place().entry().or_insert(Speed(2)) {
         Ok(part) => Some(part.0),

@@ -1,5 +1,6 @@
 //! Flagged storages: what each of several readers reads of the changes of parts.
 ghost use Rattle.std.specs.Prelude.{◌<◌};
+ghost use Rattle.specs_layouts.specs.MaskedChanges.{KeepsParts};
 
 use crate::parts::{Numbered, made};
 use ComponentEvent::{Inserted, Modified, Removed};
@@ -312,8 +313,10 @@ where
         Ok(self.storage.contains(id))
     }
 
-    /// Lends each part for writing.
-    fn lend_all(&mut self) -> Result<bool, AllocError> {
+    /// Lends each part for writing, and leaves it as it is.
+    fn lend_all(&mut self) -> Result<bool, AllocError>
+        ensures { KeepsParts C.Storage.part_at self.old.storage self.new.storage }
+    {
         match change_each(&mut self.storage, (), &Touching) {
             Ok(()) => Ok(true),
             Err(EachError::Memory) => Err(AllocError),

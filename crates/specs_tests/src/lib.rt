@@ -20,11 +20,17 @@ pub mod flagging;
 #[cfg(test)]
 mod flags;
 #[cfg(test)]
+mod hashes;
+#[cfg(test)]
 mod joins;
 #[cfg(test)]
 mod lent;
 #[cfg(test)]
 mod parts;
+#[cfg(test)]
+mod placed;
+pub mod placing;
+pub mod pushing;
 #[cfg(test)]
 mod restricted;
 #[cfg(test)]

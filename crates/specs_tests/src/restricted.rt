@@ -1,6 +1,10 @@
 //! Restricted storages: pairs that are read, and pairs whose parts are raised by a cursor.
-ghost use Rattle.std.specs.Prelude.{◌≡◌, ℕ, ◌<◌, Some};
-ghost use Rattle.specs_storage.specs.PairCursors.{CanGoOn, StandsAt, indices_left};
+ghost use Rattle.std.specs.Prelude.{◌≡◌, ℕ, ◌+◌, ◌%◌, ◌<◌, Some};
+ghost use Rattle.specs_layouts.specs.Dense.{dense_part};
+ghost use Rattle.specs_layouts.specs.Parts.{Puts};
+ghost use Rattle.specs_join.specs.ChangeEach.{AreChanged};
+ghost use Rattle.specs_storage.specs.Found.{KeepsLoans};
+ghost use Rattle.specs_storage.specs.PairCursors.{CanGoOn, StandsAt, indices_left, index_of, store_of, values_of};
 
 use crate::parts::Speed;
 use hibitset::BitSet;
@@ -37,31 +41,47 @@ fn are_raised(parts: &MaskedStorage<Speed>, count: u32) -> bool
     true
 }
 
-/// Adds one to the part at the cursor's index, and answers whether it was lent.
-fn raise<R: Join>(cursor: &mut PairCursor<'_, Speed, R>) -> bool
+/// Adds one to the part at the cursor's index.
+fn raise<R: Join>(cursor: &mut PairCursor<'_, Speed, R>)
     requires { (index : ℕ) × StandsAt R.value_at cursor.old index }
+    ensures same_reference { (store_of cursor.new).ghost_name ≡ (store_of cursor.old).ghost_name }
     ensures left { indices_left R.Mask.members cursor.new ≡ indices_left R.Mask.members cursor.old }
     ensures ready { CanGoOn R.Mask.members R.value_at cursor.old → CanGoOn R.Mask.members R.value_at cursor.new }
+    ensures values { values_of cursor.new ≡ values_of cursor.old }
+    ensures parts { (index : ℕ) → index_of cursor.old ≡ Some index → (part : Speed)
+        × (dense_part (store_of cursor.old).now.inner index ≡ Some part)
+        × Puts (dense_part (store_of cursor.old).now.inner) index (Some (record { 0 = (part.0 + 1) % 4294967296 }))
+        (dense_part (store_of cursor.new).now.inner) }
 {
     match cursor.values() {
-        Ok(part) => {
-            part.0 = part.0.wrapping_add(1);
-            true
-        }
-        Err(_) => false,
+        Ok(part) => part.0 = part.0.wrapping_add(1),
+        Err(_) => unreachable!(),
     }
 }
 
-/// Adds one to each part at an index of the join, and answers how many there were.
-fn raise_all<R: Join>(storage: &mut WriteStorage<'_, Speed>, read: R) -> u32 {
+/// Adds one to each part at an index of the join, and answers how many there were. A sum goes round at 2 ^ 32.
+fn raise_each<R: Join>(entities: &EntitiesRes, parts: &mut MaskedStorage<Speed>, read: R) -> u32
+    ensures { AreChanged (λ (part : Speed) item. Some (record { 0 = (part.0 + 1) % 4294967296 }))
+        (dense_part parts.old.inner) (R.joins read) (dense_part parts.new.inner) }
+{
     let mut count: u32 = 0;
-    let mut cursor = storage.restrict_mut().cursor(read);
+    let _mask = parts.mask();
+    let mut cursor = PairCursor::new(entities, parts, read);
     while cursor.advance() {
-        if raise(&mut cursor) {
-            count = count.wrapping_add(1);
-        }
+        raise(&mut cursor);
+        count = count.wrapping_add(1);
     }
     count
+}
+
+/// The same over a storage that is lent with its entities.
+fn raise_all<R: Join>(storage: &mut WriteStorage<'_, Speed>, read: R) -> u32
+    ensures loans { KeepsLoans storage.old storage.new }
+    ensures parts { AreChanged (λ (part : Speed) item. Some (record { 0 = (part.0 + 1) % 4294967296 }))
+        (dense_part storage.old.store.now.inner) (R.joins read) (dense_part storage.new.store.now.inner) }
+{
+    let entities = storage.entities;
+    raise_each(entities, storage.store_mut(), read)
 }
 
 /// Adds the part at the cursor's index to that of an entity, and answers whether that was lent.

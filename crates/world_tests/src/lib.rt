@@ -2,6 +2,7 @@
 #![tactic(auto)]
 
 pub mod building;
+pub mod histories;
 pub mod lending;
 pub mod reaping;
 pub mod stories;

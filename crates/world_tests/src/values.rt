@@ -2,8 +2,10 @@
 ghost use Rattle.std.specs.Prelude.{◌≡◌, Some, None, refl};
 ghost use Rattle.std.proofs.Common.{rules};
 ghost use Rattle.specs_layouts.specs.DropLemmas.{dropped-parts, drops-none, drops-append};
-ghost use Rattle.world_tests.specs.Values.{value_has_part, value_has_room, value_drops, value-parts, value-none, value-append};
-ghost use Rattle.world_tests.specs.declared.values.Value.TheVariants.{EntitiesValue, TableValue, HealthValue, SpeedValue};
+ghost use Rattle.world_tests.specs.Values.{value_has_part, value_has_room, value_drops, value-parts, value-none};
+ghost use Rattle.world_tests.specs.Values.{value-append};
+ghost use Rattle.world_tests.specs.declared.values.Value.TheVariants.{EntitiesValue, TableValue, HealthValue};
+ghost use Rattle.world_tests.specs.declared.values.Value.TheVariants.{SpeedValue};
 
 use shred_world::{MetaTable, Resource};
 use specs_entity::{EntitiesRes, Entity};
@@ -40,7 +42,12 @@ impl Resource<Value> for EntitiesRes {
 
     ghost wrapped = { EntitiesValue };
 
-    ghost part = { elim [ EntitiesValue x ↦ Some x | TableValue x ↦ None | HealthValue x ↦ None | SpeedValue x ↦ None ] };
+    ghost part = { elim [
+      | EntitiesValue x ↦ Some x
+      | TableValue x ↦ None
+      | HealthValue x ↦ None
+      | SpeedValue x ↦ None
+    ] };
 
     ghost seen = { λ _. refl };
 
@@ -81,7 +88,12 @@ impl Resource<Value> for MetaTable {
 
     ghost wrapped = { TableValue };
 
-    ghost part = { elim [ EntitiesValue x ↦ None | TableValue x ↦ Some x | HealthValue x ↦ None | SpeedValue x ↦ None ] };
+    ghost part = { elim [
+      | EntitiesValue x ↦ None
+      | TableValue x ↦ Some x
+      | HealthValue x ↦ None
+      | SpeedValue x ↦ None
+    ] };
 
     ghost seen = { λ _. refl };
 
@@ -122,7 +134,12 @@ impl Resource<Value> for MaskedStorage<Health> {
 
     ghost wrapped = { HealthValue };
 
-    ghost part = { elim [ EntitiesValue x ↦ None | TableValue x ↦ None | HealthValue x ↦ Some x | SpeedValue x ↦ None ] };
+    ghost part = { elim [
+      | EntitiesValue x ↦ None
+      | TableValue x ↦ None
+      | HealthValue x ↦ Some x
+      | SpeedValue x ↦ None
+    ] };
 
     ghost seen = { λ _. refl };
 
@@ -163,7 +180,12 @@ impl Resource<Value> for MaskedStorage<Speed> {
 
     ghost wrapped = { SpeedValue };
 
-    ghost part = { elim [ EntitiesValue x ↦ None | TableValue x ↦ None | HealthValue x ↦ None | SpeedValue x ↦ Some x ] };
+    ghost part = { elim [
+      | EntitiesValue x ↦ None
+      | TableValue x ↦ None
+      | HealthValue x ↦ None
+      | SpeedValue x ↦ Some x
+    ] };
 
     ghost seen = { λ _. refl };
 
@@ -200,11 +222,14 @@ impl Resource<Value> for MaskedStorage<Speed> {
 }
 
 impl AnyStorage for Value {
-    ghost has_part = { value_has_part ⟦<MaskedStorage<Health> as AnyStorage>⟧.has_part ⟦<MaskedStorage<Speed> as AnyStorage>⟧.has_part };
+    ghost has_part = { value_has_part ⟦<MaskedStorage<Health> as AnyStorage>⟧.has_part
+        ⟦<MaskedStorage<Speed> as AnyStorage>⟧.has_part };
 
-    ghost has_room = { value_has_room ⟦<MaskedStorage<Health> as AnyStorage>⟧.has_room ⟦<MaskedStorage<Speed> as AnyStorage>⟧.has_room };
+    ghost has_room = { value_has_room ⟦<MaskedStorage<Health> as AnyStorage>⟧.has_room
+        ⟦<MaskedStorage<Speed> as AnyStorage>⟧.has_room };
 
-    ghost drops = { value_drops ⟦<MaskedStorage<Health> as AnyStorage>⟧.drops ⟦<MaskedStorage<Speed> as AnyStorage>⟧.drops };
+    ghost drops = { value_drops ⟦<MaskedStorage<Health> as AnyStorage>⟧.drops
+        ⟦<MaskedStorage<Speed> as AnyStorage>⟧.drops };
 
     ghost drops_parts = { value-parts
         ⟦<MaskedStorage<Health> as AnyStorage>⟧.has_part ⟦<MaskedStorage<Speed> as AnyStorage>⟧.has_part

@@ -65,6 +65,28 @@ impl<'a, T: Component> RestrictedStorageMut<'a, T, SequentialRestriction> {
             store,
             ..
         } = self;
+        PairCursor::new(entities, store, read)
+    }
+}
+
+impl<'a, T: Component, R: Join> PairCursor<'a, T, R> {
+    ghost use Rattle.specs_storage.specs.PairCursorLends.{lends_store, lends_part};
+    ghost use Rattle.specs_storage.specs.PairCursors.{store_of, entities_of, mask_of, values_of, index_of};
+    ghost use Rattle.specs_storage.specs.PairCursors.{indices_left, CanGoOn, StandsAt};
+    ghost use Rattle.specs_storage.specs.PairedMut as paired;
+
+    /// A cursor over the parts of these entities, before the first index that their storage and the join share.
+    ///
+    /// What a caller does with it is known of the storage that lent it.
+    pub fn new(entities: &'a EntitiesRes, store: &'a mut MaskedStorage<T>, read: R) -> Self
+        ensures same_reference { (store_of result).ghost_name ≡ store.entry.ghost_name }
+        ensures store { (store_of result).now ≡ store.old }
+        ensures entities { (entities_of result).now ≡ entities.now }
+        ensures left { indices_left R.Mask.members result ≡ shared_indices store.old.mask (R.joins read) }
+        ensures values { (index : ℕ) → index < 16777216 → IsSome (R.joins read index)
+            → R.value_at (values_of result) index ≡ R.joins read index }
+        ensures ready { CanGoOn R.Mask.members R.value_at result }
+    {
         let (mask, values) = read.open();
         let steps = SharedSteps::new(store.mask(), &mask);
         PairCursor {
@@ -76,13 +98,6 @@ impl<'a, T: Component> RestrictedStorageMut<'a, T, SequentialRestriction> {
             index: None,
         }
     }
-}
-
-impl<'a, T: Component, R: Join> PairCursor<'a, T, R> {
-    ghost use Rattle.specs_storage.specs.PairCursorLends.{lends_store, lends_part};
-    ghost use Rattle.specs_storage.specs.PairCursors.{store_of, entities_of, mask_of, values_of, index_of};
-    ghost use Rattle.specs_storage.specs.PairCursors.{indices_left, CanGoOn, StandsAt};
-    ghost use Rattle.specs_storage.specs.PairedMut as paired;
 
     /// Goes on to the next index, or answers false where there is none.
     pub fn advance(&mut self) -> bool
