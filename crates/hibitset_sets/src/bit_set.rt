@@ -91,6 +91,8 @@ impl BitSet {
     }
 
     /// Makes room for that many words of layer 0, and for their summaries.
+    #[cold]
+    #[inline(never)]
     fn grow(&mut self, words: usize) -> Result<(), AllocError>
         requires { words ≤ 262144 }
         ensures ok { OnOk result (self.new.members ≡ self.old.members) }
@@ -112,6 +114,7 @@ impl BitSet {
     /// Below the set's room it isn't refused.
     ///
     /// Errors: `AllocError`, and the set is as it was.
+    #[inline]
     pub fn add(&mut self, id: Index) -> Result<bool, AllocError>
         requires { id < 16777216 }
         ensures was_there { IfOk result (λ was. was ≡ set.contains self.old.members id) }
@@ -133,19 +136,20 @@ impl BitSet {
     /// Puts an index into the set that there is room for, and answers whether it was there already.
     ///
     /// The summaries are written only where its word was zero.
+    #[inline]
     fn put(&mut self, id: Index) -> bool
         requires { id < self.old.room }
         ensures was_there { result ≡ set.contains self.old.members id }
         ensures members { self.new.members ≡ set.insert self.old.members id }
         ensures room { self.new.room ≡ self.old.room }
     {
-        let number0 = id as usize;
-        let number1 = number0 / 64;
+        let number1 = id as usize / 64;
+        let bit = id.mask(SHIFT0);
         let word = self.layer0[number1];
-        if word & id.mask(SHIFT0) != 0 {
+        if word & bit != 0 {
             return true;
         }
-        set_bit(&mut self.layer0, number0);
+        self.layer0[number1] = word | bit;
         if word == 0 {
             let number2 = number1 / 64;
             let number3 = number2 / 64;
@@ -238,6 +242,7 @@ impl BitSet {
     }
 
     /// Whether `id` is a member.
+    #[inline]
     pub fn contains(&self, id: Index) -> bool
         ensures value { result ≡ set.contains self.now.members id }
         ensures within { set.contains self.now.members id ≡ true → id < self.now.room }
@@ -340,6 +345,7 @@ impl BitSetLike for BitSet {
         word_or_zero(&self.layer0, i)
     }
 
+    #[inline]
     fn contains(&self, i: Index) -> bool {
         BitSet::contains(self, i)
     }

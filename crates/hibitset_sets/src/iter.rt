@@ -23,6 +23,7 @@ pub struct BitIter<T> {
 }
 
 /// Takes the lowest bit out of the mask of a layer, and answers its place.
+#[inline]
 fn take_lowest(masks: &mut [u64; LAYERS], layer: usize) -> u32
     requires layer { layer < 4 }
     requires some { slice_index masks.old layer ≢ 0 }
@@ -36,6 +37,7 @@ fn take_lowest(masks: &mut [u64; LAYERS], layer: usize) -> u32
 
 /// Takes the first index out of a walk that is known by its masks and prefixes alone, while the word at which it
 /// stands has one. It reads no set, so none need be lent meanwhile.
+#[inline]
 pub fn take_in_word(masks: &mut [u64; LAYERS], prefix: &[u32; 3]) -> Index
     requires placed { IsPlaced masks.old prefix.now }
     requires some { slice_index masks.old 0 ≢ 0 }
@@ -112,6 +114,7 @@ impl<T: BitSetLike> BitIter<T> {
     }
 
     /// Takes the lowest index out of layer 0.
+    #[inline]
     fn take(&mut self) -> Index
         requires { slice_index self.old.masks 0 ≢ 0 }
         ensures set { self.new.set ≡ self.old.set }

@@ -19,6 +19,7 @@ pub(crate) fn extend_words(words: &mut Vec<u64>, len: usize) -> Result<(), Alloc
 }
 
 /// Sets one bit.
+#[inline]
 pub(crate) fn set_bit(words: &mut Vec<u64>, number: usize)
     requires { number / 64 < length words.old.items }
     ensures { words.new.items ≡ with_bit words.old.items number }
@@ -27,6 +28,7 @@ pub(crate) fn set_bit(words: &mut Vec<u64>, number: usize)
 }
 
 /// Clears one bit, and answers whether its word is zero then.
+#[inline]
 pub(crate) fn clear_bit(words: &mut Vec<u64>, number: usize) -> bool
     requires { number / 64 < length words.old.items }
     ensures after { words.new.items ≡ without_bit words.old.items number }
@@ -37,6 +39,7 @@ pub(crate) fn clear_bit(words: &mut Vec<u64>, number: usize) -> bool
 }
 
 /// Word `i`, or 0 past the words.
+#[inline]
 pub(crate) fn word_or_zero(words: &Vec<u64>, i: usize) -> u64
     ensures { result ≡ slice_index words.now.items i }
 {

@@ -31,6 +31,7 @@ where
         (self.mask(), self.inner())
     }
 
+    #[inline]
     fn get(values: &&'a T::Storage, id: Index) -> &'a T {
         let inner: &'a T::Storage = *values;
         inner.get(id)

@@ -102,6 +102,7 @@ impl<T: Drop> UnprotectedStorage<T> for VecStorage<T> {
         }
     }
 
+    #[inline]
     fn get(&self, id: Index) -> &T {
         match &self.slots[id as usize] {
             Some(part) => part,
@@ -109,6 +110,7 @@ impl<T: Drop> UnprotectedStorage<T> for VecStorage<T> {
         }
     }
 
+    #[inline]
     fn get_mut(&mut self, id: Index) -> Result<&mut T, AllocError> {
         Ok(part_mut(&mut self.slots[id as usize]))
     }
