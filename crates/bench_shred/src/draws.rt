@@ -2,6 +2,7 @@
 
 use shred::RunningTime;
 use shred_plan::{Adding, Planner};
+use smallvec::SmallVec;
 use std::alloc::{AllocError, Global};
 use std::io;
 use std::time::{Clock, Instant};
@@ -54,7 +55,7 @@ impl Draws {
         let reads = self.ids(alloc, 3)?;
         let writes = self.ids(alloc, 2)?;
         let time = self.time();
-        Ok(Adding::new(number, reads, writes, Vec::new(alloc), time))
+        Ok(Adding::new(number, reads, writes, SmallVec::new(alloc), time))
     }
 }
 

@@ -5,6 +5,7 @@ use crate::draws;
 use crate::draws::print_plan;
 use crate::load::{Mixer, Number, Value, mixed};
 use shred::{ResourceId, RunningTime, StagesBuilder, World};
+use smallvec::SmallVec;
 use std::alloc::{AllocError, Global};
 use std::io;
 use std::sync::Wait;
@@ -70,7 +71,7 @@ fn stages_of(
                 time: time_of(number),
                 rounds,
             };
-            let _ = stages.insert(mixer, Vec::new(alloc))?;
+            let _ = stages.insert(mixer, SmallVec::new(alloc))?;
         }
     }
     Ok(stages)
@@ -92,7 +93,7 @@ fn chain_of(
                 time: RunningTime::Average,
                 rounds,
             };
-            let mut after = Vec::new(alloc);
+            let mut after = SmallVec::new(alloc);
             if number >= groups {
                 after.push(number - groups)?;
             }
@@ -108,8 +109,8 @@ fn numbers_before(
     number: u32,
     back: u32,
     count: u32,
-) -> Result<Vec<u32>, AllocError> {
-    let mut numbers = Vec::new(alloc);
+) -> Result<SmallVec<u32, 4>, AllocError> {
+    let mut numbers = SmallVec::new(alloc);
     for place in 0..count {
         let distance = back.saturating_sub(place);
         if distance <= number {

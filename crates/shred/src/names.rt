@@ -4,6 +4,7 @@ ghost use Rattle.std.specs.List.{cons_option};
 ghost use Rattle.shred.specs.Names.{Named, texts, number_under, lacks_one, numbers_under, with_name};
 
 use indexmap::IndexMap;
+use smallvec::SmallVec;
 use std::alloc::{AllocError, Global};
 use std::marker::Model;
 use std::string::String;
@@ -56,10 +57,10 @@ impl Names {
     /// The numbers under those of some names that are known, in their order.
     ///
     /// Errors: want of memory.
-    pub(crate) fn numbers(&self, wanted: &[&str]) -> Result<Vec<u32>, AllocError>
+    pub(crate) fn numbers(&self, wanted: &[&str]) -> Result<SmallVec<u32, 4>, AllocError>
         ensures { IfOk result (λ list. list.items ≡ numbers_under self.now (texts wanted.now)) }
     {
-        let mut list = Vec::new(self.alloc);
+        let mut list = SmallVec::new(self.alloc);
         for name in wanted {
             push_found(&mut list, self.number(name))?;
         }
@@ -93,7 +94,7 @@ impl Names {
 }
 
 /// Puts a number that was found behind the others.
-fn push_found(list: &mut Vec<u32>, found: Option<u32>) -> Result<(), AllocError>
+fn push_found(list: &mut SmallVec<u32, 4>, found: Option<u32>) -> Result<(), AllocError>
     ensures { OnOk result (list.new.items ≡ list.old.items ++ cons_option found []) }
 {
     if let Some(number) = found {

@@ -6,10 +6,10 @@ use Rattle.std.specs.Prelude.{bit_or}
 use Rattle.std.specs.Int.{bit_at, bit_not, w64}
 use Rattle.std.proofs.lemmas.Bool.{cases_eq, cases_lt}
 use Rattle.std.proofs.lemmas.List.{get_or-set_same, get_or-set_other, get_or_past, get_or-take, length-take}
-use Rattle.std.proofs.lemmas.Nat.Bits.{bit_at_set_same, bit_at_set_other, bit_at_clear_same, bit_at_clear_other, bit_at_or, bit_at_ones, bit_at-zero, bit_at-lt}
+use Rattle.std.proofs.lemmas.Nat.Bits.{bit_at_set_same, bit_at_set_other, bit_at_clear_same, bit_at_clear_other, bit_at_or, bit_at-zero, bit_at-lt}
 use Rattle.std.specs.Int.{trailing_zeros}
-use Rattle.std.proofs.lemmas.Nat.{and_le_l}
-use Rattle.std.proofs.lemmas.Nat.Bits.{bit_at-trailing_zeros, bit_at_and, bit_at_mask_above, bit_at_mask_below}
+use Rattle.std.proofs.lemmas.Nat.{and_le_l, shr-shr, shr_le}
+use Rattle.std.proofs.lemmas.Nat.Bits.{bit_at-trailing_zeros, bit_at_and, bit_at_not, bit_at_above, bit_at_mask_above, bit_at_mask_below}
 use Rattle.shred_plan.specs.Index.{is_in}
 use Rattle.shred_plan.specs.Seats.{HasTwoBits}
 
@@ -125,22 +125,6 @@ a-bit x h = grind arith
 pub bit-or : (x y i : ℕ) → eqb (bit_at (bit_or x y) i) 1 ≡ (eqb (bit_at x i) 1 || eqb (bit_at y i) 1)
 bit-or x y i = ap (λ b. eqb b 1) (bit_at_or x y i) ∙ max-one (bit_at x i) (bit_at y i) (a-bit _ (bit_at-lt x i)) (a-bit _ (bit_at-lt y i))
 
--- a word of ones has each of its stages
-pub full-word : (words : List ℕ) (stage place : ℕ) → stage % 64 ≡ 0 → get_or words (stage / 64) 0 ≡ 2 ^ 64 - 1 → stage ≤ place → place < stage + 64 → is_in words place ≡ true
-full-word words stage place start full from upto =
-    let same : place / 64 ≡ stage / 64 = omega arith in
-    ap (λ w. eqb (bit_at (get_or words w 0) (place % 64)) 1) same
-    ∙ ap (λ w. eqb (bit_at w (place % 64)) 1) full
-    ∙ ap (λ b. eqb b 1) (bit_at_ones 64 (place % 64) (omega arith))
-
--- a word of zeros has none
-pub empty-word : (words : List ℕ) (stage place : ℕ) → stage % 64 ≡ 0 → get_or words (stage / 64) 0 ≡ 0 → stage ≤ place → place < stage + 64 → is_in words place ≡ false
-empty-word words stage place start none from upto =
-    let same : place / 64 ≡ stage / 64 = omega arith in
-    ap (λ w. eqb (bit_at (get_or words w 0) (place % 64)) 1) same
-    ∙ ap (λ w. eqb (bit_at w (place % 64)) 1) none
-    ∙ ap (λ b. eqb b 1) (bit_at-zero (place % 64))
-
 -- a word joined with that of another list, of those joined so far
 pub united : (words firsts others : List ℕ) (i : ℕ) → i < length others → length others ≤ length words
     → ((word bit : ℕ) → eqb (bit_at (get_or words word 0) bit) 1 ≡ (eqb (bit_at (get_or firsts word 0) bit) 1 || eqb (bit_at (get_or (take i others) word 0) bit) 1))
@@ -243,3 +227,70 @@ is_in-bit words word bit small is =
     ap (λ w. eqb (bit_at (get_or words w 0) ((64 * word + bit) % 64)) 1) at
     ∙ ap (λ i. eqb (bit_at (get_or words word 0) i) 1) rest
     ∙ ap (λ b. eqb b 1) is
+
+-- ---- the next bit of a word
+
+-- the bits of what is left of a word without its lowest
+shifted : (word from bit : ℕ) → from ≤ bit → bit_at word bit ≡ bit_at (word / 2 ^ from) (bit - from)
+shifted word from bit upto = sym (ap (λ n. n % 2) (shr-shr word from (bit - from)) ∙ ap (λ n. word / 2 ^ n % 2) (let e : from + (bit - from) ≡ bit = omega (arith, upto) in e))
+
+-- where nothing is left, there is none
+pub none-left : (word from bit : ℕ) → word / 2 ^ from ≡ 0 → from ≤ bit → bit_at word bit ≡ 0
+none-left word from bit none upto = shifted word from bit upto ∙ ap (λ rest. bit_at rest (bit - from)) none ∙ bit_at-zero (bit - from)
+
+-- else the first stands where the lowest of what is left does
+pub record FirstLeft (word from place : ℕ) : Type 0 where
+  pub end : place ≤ 64
+  pub passed : (bit : ℕ) → from ≤ bit → bit < place → bit_at word bit ≡ 0
+  pub found : bit_at word place ≡ 1
+
+pub first-left : (word from : ℕ) → word < 2 ^ 64 → word / 2 ^ from ≢ 0 → FirstLeft word from (from + trailing_zeros w64 (word / 2 ^ from))
+first-left word from fits some = record {
+  end = within (cases_lt (from + low) 64);
+  passed = λ bit upto before. shifted word from bit upto ∙ lowest.2 (bit - from) (omega (arith, upto, before));
+  found = here;
+}
+  where
+    low : ℕ
+    low = trailing_zeros w64 (word / 2 ^ from)
+
+    lowest : (low < 64) × (bit_at (word / 2 ^ from) low ≡ 1) × ((i : ℕ) → i < low → bit_at (word / 2 ^ from) i ≡ 0)
+    lowest = bit_at-trailing_zeros w64 (word / 2 ^ from) (omega (arith, some)) (omega (arith, fits, shr_le word from))
+
+    here : bit_at word (from + low) ≡ 1
+    here = shifted word from (from + low) (omega arith) ∙ ap (bit_at (word / 2 ^ from)) (let e : from + low - from ≡ low = omega arith in e) ∙ lowest.1
+
+    within : (from + low < 64) ⊎ (64 ≤ from + low) → from + low ≤ 64
+    within (inl h) = omega (arith, h)
+    within (inr h) = absurd (omega (arith, here, bit_at_above word 64 (from + low) fits h))
+
+-- the stages of a word that it passes over, and the one at which it stands
+module _ (words : List ℕ) (stage place : ℕ) (same : place / 64 ≡ stage / 64) where
+  in-word : is_in words place ≡ eqb (bit_at (get_or words (stage / 64) 0) (place % 64)) 1
+  in-word = ap (λ w. eqb (bit_at (get_or words w 0) (place % 64)) 1) same
+
+  pub bit-absent : bit_at (get_or words (stage / 64) 0) (place % 64) ≡ 0 → is_in words place ≡ false
+  bit-absent e = in-word ∙ ap (λ b. eqb b 1) e
+
+  pub bit-present : bit_at (get_or words (stage / 64) 0) (place % 64) ≡ 1 → is_in words place ≡ true
+  bit-present e = in-word ∙ ap (λ b. eqb b 1) e
+
+-- a bit of a word, by that of the word turned round
+pub turned-absent : (word bit : ℕ) → word < 2 ^ 64 → bit < 64 → bit_at (bit_not w64 word) bit ≡ 0 → bit_at word bit ≡ 1
+turned-absent word bit fits within e = omega (arith, e, bit_at_not w64 word bit fits within, bit_at-lt word bit)
+
+pub turned-present : (word bit : ℕ) → word < 2 ^ 64 → bit < 64 → bit_at (bit_not w64 word) bit ≡ 1 → bit_at word bit ≡ 0
+turned-present word bit fits within e = omega (arith, e, bit_at_not w64 word bit fits within, bit_at-lt word bit)
+
+-- from a stage on, up to the next bit that its word lacks, each is there, and there none is
+module _ (words : List ℕ) (stage word bit : ℕ) (of : word ≡ bit_not w64 (get_or words (stage / 64) 0)) (small : get_or words (stage / 64) 0 < 2 ^ 64) where
+  pub passed-present : bit ≤ 64 → ((b : ℕ) → stage % 64 ≤ b → b < bit → bit_at word b ≡ 0) → (next : ℕ) → next ≤ stage - stage % 64 + bit
+      → (place : ℕ) → stage ≤ place → place < next → is_in words place ≡ true
+  passed-present fits none next upto place from before = bit-present words stage place (omega (arith, fits, upto, from, before))
+      (turned-absent (get_or words (stage / 64) 0) (place % 64) small (omega arith)
+      (ap (λ w. bit_at w (place % 64)) (sym of) ∙ none (place % 64) (omega (arith, fits, upto, from, before)) (omega (arith, fits, upto, from, before))))
+
+  pub stands-absent : bit < 64 → bit_at word bit ≡ 1 → (place : ℕ) → place ≡ stage - stage % 64 + bit → is_in words place ≡ false
+  stands-absent within one place at = bit-absent words stage place (omega (arith, within, at))
+      (turned-present (get_or words (stage / 64) 0) (place % 64) small (omega arith)
+      (ap (λ w. bit_at w (place % 64)) (sym of) ∙ ap (bit_at word) (let e : place % 64 ≡ bit = omega (arith, within, at) in e) ∙ one))

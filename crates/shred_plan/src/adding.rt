@@ -4,6 +4,7 @@ ghost use Rattle.std.specs.List.{list_any};
 ghost use Rattle.shred_plan.specs.Plan.{units_of, share, touches, conflict};
 
 use crate::RunningTime;
+use smallvec::SmallVec;
 use std::alloc::{AllocError, Global};
 use std::marker::Model;
 
@@ -14,7 +15,7 @@ pub struct Adding<K> {
     number: u32,
     reads: Vec<K>,
     writes: Vec<K>,
-    after: Vec<u32>,
+    after: SmallVec<u32, 4>,
     time: RunningTime,
 }
 
@@ -40,7 +41,7 @@ impl<K: PartialEq + Drop> Adding<K> {
         number: u32,
         reads: Vec<K>,
         writes: Vec<K>,
-        after: Vec<u32>,
+        after: SmallVec<u32, 4>,
         time: RunningTime,
     ) -> Adding<K>
         ensures { result ≡ record {
@@ -72,7 +73,7 @@ impl<K: PartialEq + Drop> Adding<K> {
             number: self.number,
             reads: Vec::from_slice(alloc, self.reads())?,
             writes: Vec::from_slice(alloc, self.writes())?,
-            after: Vec::from_slice(alloc, self.after())?,
+            after: SmallVec::from_slice(alloc, self.after())?,
             time: self.time,
         })
     }

@@ -122,13 +122,13 @@ impl StageSet {
     {
         let mut stage = from;
         while stage < end {
-            if stage % WORD_STAGES == 0 && self.word(stage / WORD_STAGES) == u64::MAX {
-                stage = end.min(stage.saturating_add(WORD_STAGES));
-            } else if self.contains(stage) {
-                stage += 1;
-            } else {
-                return stage;
+            let place = stage % WORD_STAGES;
+            let bit = first_bit(!self.word(stage / WORD_STAGES), place);
+            let next = end.min((stage - place).saturating_add(bit));
+            if bit < WORD_STAGES {
+                return next;
             }
+            stage = next;
         }
         end
     }
@@ -143,19 +143,35 @@ impl StageSet {
     {
         let mut stage = from;
         while stage < end {
-            if stage % WORD_STAGES == 0 && self.word(stage / WORD_STAGES) == 0 {
-                stage = end.min(stage.saturating_add(WORD_STAGES));
-            } else if self.contains(stage) {
-                return stage;
-            } else {
-                stage += 1;
+            let place = stage % WORD_STAGES;
+            let bit = first_bit(self.word(stage / WORD_STAGES), place);
+            let next = end.min((stage - place).saturating_add(bit));
+            if bit < WORD_STAGES {
+                return next;
             }
+            stage = next;
         }
         end
     }
 }
 
 ghost use Rattle.shred_plan.specs.Seats.{HasTwoBits};
+
+/// The first place from one on at which a word has a bit, or 64 where it has none.
+fn first_bit(word: u64, from: usize) -> usize
+    requires { from < 64 }
+    ensures from { from ≤ result }
+    ensures end { result ≤ 64 }
+    ensures passed { (bit : ℕ) → from ≤ bit → bit < result → bit_at word bit ≡ 0 }
+    ensures found { result < 64 → bit_at word result ≡ 1 }
+{
+    let rest = word >> from;
+    if rest == 0 {
+        WORD_STAGES
+    } else {
+        from + rest.trailing_zeros() as usize
+    }
+}
 
 /// Whether a word has two bits.
 fn has_two_bits(word: u64) -> bool

@@ -23,6 +23,7 @@ use crate::turn::Staged;
 use crate::{DispatchError, System, SystemId};
 use shred_plan::{Adding, Planner};
 use shred_world::{Holder, ResourceId, World};
+use smallvec::SmallVec;
 use std::alloc::{AllocError, AllocFailed, Global};
 use std::marker::Model;
 use std::string::String;
@@ -108,7 +109,7 @@ impl<V: Drop, S: System<V> + Drop> StagesBuilder<V, S> {
     /// Adds a system, which comes after those of the given numbers, and answers its number: they count from 0 in the order of adding.
     ///
     /// Errors: want of memory, which leaves the builder as it was and hands the system back.
-    pub fn insert(&mut self, system: S, after: Vec<u32>) -> Result<SystemId, AllocFailed<S>>
+    pub fn insert(&mut self, system: S, after: SmallVec<u32, 4>) -> Result<SystemId, AllocFailed<S>>
         requires room { length self.old.systems < 65536 }
         ensures number { IfOk result (λ id. id.0 ≡ length self.old.systems) }
         ensures ok { OnOk result (self.new ≡ record {

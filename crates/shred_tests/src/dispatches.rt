@@ -13,6 +13,7 @@ use shred::{
     BatchController, DispatchError, Dispatcher, DispatcherBuilder, MultiDispatcher, ParSeq, RunNow,
     RunningTime, StagesBuilder, Stop, System, World,
 };
+use smallvec::SmallVec;
 use std::alloc::{AllocError, Global};
 use std::sync::Wait;
 use std::thread::Threads;
@@ -483,7 +484,7 @@ fn insert<S: System<Value> + Drop>(
     if stages.len() >= 65_536 {
         return false;
     }
-    match stages.insert(system, Vec::new(alloc)) {
+    match stages.insert(system, SmallVec::new(alloc)) {
         Ok(_) => true,
         Err(_) => false,
     }

@@ -4,6 +4,7 @@ use crate::workers::Worker;
 use RunningTime::{Average, Short, VeryLong, VeryShort};
 use shred::laws as laws_of_builders;
 use shred_plan::{Adding, Planner, RunningTime, Stage, laws};
+use smallvec::SmallVec;
 use std::alloc::{AllocError, Global};
 
 /// The ids of the rows.
@@ -130,7 +131,7 @@ fn add(alloc: Global, planner: &mut Planner<u32>, number: u32, step: &Step) -> b
             let Ok(writes) = Vec::from_slice(alloc, writes) else {
                 return false;
             };
-            let Ok(after) = Vec::from_slice(alloc, after) else {
+            let Ok(after) = SmallVec::from_slice(alloc, after) else {
                 return false;
             };
             planner
