@@ -1,4 +1,4 @@
--- The marker of an entity is taken out, and the entity dies.
+-- The marker of an entity is taken out, its id is forgotten, and the entity dies.
 use Rattle.std.proofs.Common.{◌≡◌, ◌≤◌, ℕ, Bool, true, false, cond, eqb, ◌||◌, [], ◌∷◌, Option, Some, None, refl, ap, sym, ◌∙◌, subst}
 use Rattle.std.specs.Prelude.{IsSome, option_and_then}
 use Rattle.std.specs.Option.{option_flatten, unwrap_or}
@@ -12,10 +12,12 @@ use Rattle.shred_world.proofs.CallerLemmas.{ids_total, get-insert_here}
 use Rattle.specs_entity.specs.Births.{Births, count, living, none_born, is_named, LivesBut, Continues}
 use Rattle.specs_entity.specs.Life.{LifeAt}
 use Rattle.specs_layouts.specs.Parts.{Puts}
+use Rattle.specs_markers.specs.Simple.{Noting, noted_under, none_noted}
 use Rattle.scene_world.specs.Standing.{Kinds, roll_of}
 use Rattle.scene_world.specs.Changes.{but_at}
+use Rattle.scene_world.proofs.CallerLemmas.{noted-forgotten}
 use Rattle.scene_acts.specs.Acts.{seen_of}
-use Rattle.scene_acts.specs.Deaths.{Unmarks, LetsDie}
+use Rattle.scene_acts.specs.Deaths.{Unmarks, Forgets, LetsDie}
 use Rattle.scene_acts.proofs.LookLemmas.{seen-value}
 
 -- a value that was taken out, and another that came back in its place
@@ -59,6 +61,25 @@ module _ {V : Type 0} (kinds : Kinds V) (w later : Slots V) (was back : V) where
     there = subst (λ held. IsSome held) (sym stands) refl;
     others = others;
   }
+
+  -- an allocator that forgot an id
+  pub forgets : seen_of w kinds.allocator_id ≡ Some was → seen_of later kinds.allocator_id ≡ Some back → ((other : ResourceId) → same_id other kinds.allocator_id ≡ false → seen_of later other ≡ seen_of w other)
+      → (before after : Noting) → kinds.noting was ≡ Some before → kinds.noting back ≡ Some after → (id : ℕ) → after ≡ record { next = before.next; noted = slots.remove before.noted id }
+      → Forgets kinds id (seen_of w) (seen_of later)
+  forgets stood stands others before after old new id gone = record {
+    next = ap (λ n. n.next) now-is ∙ ap (λ n. n.next) gone ∙ ap (λ n. n.next) (sym was-is);
+    noted = λ other.
+        ap (λ n. noted_under n other) now-is ∙ ap (λ n. noted_under n other) gone ∙ noted-forgotten before id other
+        ∙ ap (λ n. but_at id None (noted_under n) other) (sym was-is);
+    there = subst (λ o. IsSome o) (sym (ap (option_and_then kinds.noting) stands ∙ new)) refl;
+    others = others;
+  }
+    where
+      was-is : (roll_of kinds (seen_of w)).noting ≡ before
+      was-is = ap (λ held. unwrap_or (option_and_then kinds.noting held) none_noted) stood ∙ ap (λ o. unwrap_or o none_noted) old
+
+      now-is : (roll_of kinds (seen_of later)).noting ≡ after
+      now-is = ap (λ held. unwrap_or (option_and_then kinds.noting held) none_noted) stands ∙ ap (λ o. unwrap_or o none_noted) new
 
   -- entities of which one died
   pub lets-die : seen_of w kinds.entities_id ≡ Some was → seen_of later kinds.entities_id ≡ Some back → ((other : ResourceId) → same_id other kinds.entities_id ≡ false → seen_of later other ≡ seen_of w other)

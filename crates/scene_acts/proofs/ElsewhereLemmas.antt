@@ -12,7 +12,7 @@ use Rattle.scene_world.specs.Rolls.{ids_in}
 use Rattle.scene_world.specs.Stored.{Stored}
 use Rattle.scene_world.specs.Standing.{Kinds, roll_of, plain_of}
 use Rattle.scene_acts.specs.Acts.{seen_of, SetsColumn, StaysElsewhere}
-use Rattle.scene_acts.specs.Deaths.{DropsParts, Unmarks, LetsDie}
+use Rattle.scene_acts.specs.Deaths.{DropsParts, Unmarks, Forgets, LetsDie}
 use Rattle.scene_acts.specs.Newborns.{ComesToLife, Settles, IsToBeDone, RefusesLife, RefusesSpawn}
 
 module _ {V : Type 0} (kinds : Kinds V) where
@@ -21,9 +21,10 @@ module _ {V : Type 0} (kinds : Kinds V) where
   column-elsewhere kind index part w later sets known id e m a p = sets.others id (p kind known)
 
   -- where an entity died
-  pub death-elsewhere : (index : ℕ) (w dropped unmarked later : Slots V) → DropsParts kinds index kinds.part_names (seen_of w) (seen_of dropped) → Unmarks kinds index (seen_of dropped) (seen_of unmarked) → LetsDie kinds index (seen_of unmarked) (seen_of later)
+  pub death-elsewhere : (under index : ℕ) (w dropped unmarked forgotten later : Slots V) → DropsParts kinds index kinds.part_names (seen_of w) (seen_of dropped) → Unmarks kinds index (seen_of dropped) (seen_of unmarked)
+      → Forgets kinds under (seen_of unmarked) (seen_of forgotten) → LetsDie kinds index (seen_of forgotten) (seen_of later)
       → StaysElsewhere kinds w later
-  death-elsewhere index w dropped unmarked later drops unmarks dies id e m a p = dies.others id e ∙ unmarks.others id m ∙ drops.others id p
+  death-elsewhere under index w dropped unmarked forgotten later drops unmarks forgets dies id e m a p = dies.others id e ∙ forgets.others id a ∙ unmarks.others id m ∙ drops.others id p
 
   -- where one was born
   pub birth-elsewhere : (w alive later : Slots V) (entity : LifeAt) (given : List (Name × Part)) → ComesToLife kinds entity (seen_of w) (seen_of alive) → Settles kinds entity given (seen_of alive) (seen_of later) → StaysElsewhere kinds w later

@@ -3,6 +3,7 @@ use Rattle.std.specs.Prelude.{◌≡◌, ◌≤◌, ℕ, true, false, List, None
 use Rattle.shred_world.specs.declared.resource_id.ResourceId.{ResourceId}
 use Rattle.shred_world.specs.ResourceIds.{same_id}
 use Rattle.specs_entity.specs.Births.{count, living}
+use Rattle.specs_markers.specs.Simple.{noted_under}
 use Rattle.scene_rules.specs.Parts.{Name, is_among}
 use Rattle.scene_world.specs.Standing.{Sight, Kinds, roll_of, column_of}
 use Rattle.scene_world.specs.Changes.{but_at}
@@ -19,6 +20,13 @@ module _ {V : Type 0} (kinds : Kinds V) where
     pub marker : (at : ℕ) → (roll_of kinds later).marker at ≡ but_at index None (roll_of kinds w).marker at
     pub there : IsSome (later kinds.markers_id)
     pub others : (id : ResourceId) → same_id id kinds.markers_id ≡ false → later id ≡ w id
+
+  -- what is noted under an id is taken out, and all else is as it was
+  pub record Forgets (id : ℕ) (w later : Sight V) : Type 0 where
+    pub next : (roll_of kinds later).noting.next ≡ (roll_of kinds w).noting.next
+    pub noted : (other : ℕ) → noted_under (roll_of kinds later).noting other ≡ but_at id None (noted_under (roll_of kinds w).noting) other
+    pub there : IsSome (option_and_then kinds.noting (later kinds.allocator_id))
+    pub others : (place : ResourceId) → same_id place kinds.allocator_id ≡ false → later place ≡ w place
 
   -- the entity at an index dies, no birth is lost, and all else is as it was
   pub record LetsDie (index : ℕ) (w later : Sight V) : Type 0 where

@@ -1,10 +1,12 @@
 //! Entities that die in a world, with their parts and markers.
-ghost use Rattle.std.specs.Prelude.{◌≡◌, true, IsTrue, IfOk, OnOk};
+ghost use Rattle.std.specs.Prelude.{◌≡◌, true, None, IsTrue, IfOk, OnOk};
+ghost use Rattle.specs_markers.specs.Simple.{noted_under};
 ghost use Rattle.scene_rules.specs.Rulebook.{kill};
 ghost use Rattle.scene_rules.specs.Declaring.{texts};
+ghost use Rattle.scene_world.specs.Standing.{roll_of};
 ghost use Rattle.scene_turns.specs.Places.{kinds_of};
 ghost use Rattle.scene_acts.specs.Acts.{seen_of, MayAct, Acts, StaysElsewhere};
-ghost use Rattle.scene_acts.specs.Deaths.{DropsParts, Unmarks, LetsDie};
+ghost use Rattle.scene_acts.specs.Deaths.{DropsParts, Unmarks, Forgets, LetsDie};
 
 use crate::looking::entity_under;
 use crate::parts::take_at;
@@ -54,6 +56,31 @@ fn unmark<R: Rules>(world: &mut World<R::Value>, index: u32) -> Result<(), Alloc
     }
 }
 
+/// Takes out what the allocator of ids notes under an id. Errors: where the world has none, told as want of memory.
+fn forget<R: Rules>(world: &mut World<R::Value>, id: u64) -> Result<(), AllocError>
+    ensures { OnOk result (Forgets (kinds_of ⟦<R::Value as SceneValue<R::Data>>⟧.places R.part_of R.columns)
+        id (seen_of world.old) (seen_of world.new)) }
+{
+    let place = <R::Value as SceneValue<R::Data>>::allocator_id();
+    let Some(value) = world.take_raw(place) else {
+        return Err(AllocError);
+    };
+    match <R::Value as SceneValue<R::Data>>::unwrap_allocator(value) {
+        Ok(mut allocator) => {
+            allocator.forget(id);
+            world.put_back(
+                place,
+                <R::Value as SceneValue<R::Data>>::wrap_allocator(allocator),
+            );
+            Ok(())
+        }
+        Err(other) => {
+            world.put_back(place, other);
+            Err(AllocError)
+        }
+    }
+}
+
 /// Lets an entity of a world die. Errors: where it isn't alive, or the world has no entities, told as want of memory.
 fn let_die<R: Rules>(world: &mut World<R::Value>, entity: Entity) -> Result<(), AllocError>
     ensures { OnOk result (LetsDie (kinds_of ⟦<R::Value as SceneValue<R::Data>>⟧.places R.part_of R.columns)
@@ -82,8 +109,8 @@ fn let_die<R: Rules>(world: &mut World<R::Value>, entity: Entity) -> Result<(), 
     }
 }
 
-/// Lets the entity under an id die, with its parts and its marker: carries the command out that asks for it. From then
-/// on references to it are gone.
+/// Lets the entity under an id die, with its parts, its marker and what is noted under the id: carries the command out
+/// that asks for it. From then on references to it are gone.
 ///
 /// The answer is whether it was done. Where nobody lives under the id it is skipped, and the world is as it was.
 ///
@@ -96,6 +123,9 @@ pub fn kill_entity<R: Rules>(
     requires may { MayAct (kinds_of ⟦<R::Value as SceneValue<R::Data>>⟧.places R.part_of R.columns) world.old }
     ensures acts { IfOk result (λ done. Acts
         (kinds_of ⟦<R::Value as SceneValue<R::Data>>⟧.places R.part_of R.columns) (kill id) done world.old world.new) }
+    ensures forgotten { IfOk result (λ done. IsTrue done → noted_under
+        (roll_of (kinds_of ⟦<R::Value as SceneValue<R::Data>>⟧.places R.part_of R.columns)
+        (seen_of world.new)).noting id ≡ None) }
     ensures may { OnOk result (MayAct
         (kinds_of ⟦<R::Value as SceneValue<R::Data>>⟧.places R.part_of R.columns) world.new) }
     ensures elsewhere { OnOk result (StaysElsewhere
@@ -106,6 +136,7 @@ pub fn kill_entity<R: Rules>(
     };
     take_all::<R>(world, rules.part_names(), entity.id())?;
     unmark::<R>(world, entity.id())?;
+    forget::<R>(world, id)?;
     let_die::<R>(world, entity)?;
     Ok(true)
 }

@@ -8,12 +8,12 @@ use crate::rules::Owning;
 use crate::values::Value;
 use scene_acts::{entity_under, kill_entity, put_part, spawn_entity, take_part};
 use scene_rules::FrameRefusal;
-use scene_stores::SceneMarker;
+use scene_stores::{SceneMarker, SceneMarkerAllocator};
 use scene_turns::Rules;
 use shred_world::World;
 use specs_entity::{EntitiesRes, Entity};
 use specs_layouts::MaskedStorage;
-use specs_markers::Marker;
+use specs_markers::{Marker, MarkerAllocator};
 use std::alloc::{AllocError, Global};
 
 /// A command, or a question. Each number is an id, but for ranks.
@@ -35,6 +35,8 @@ pub enum Step {
     OwnerOf(u64),
     /// What is its rank?
     RankOf(u64),
+    /// At which index is the entity that is noted under an id, whether it lives or not?
+    NotedUnder(u64),
 }
 
 /// Why a command was refused.
@@ -61,7 +63,7 @@ pub enum Answer {
     Nothing,
     /// It belongs to one that is no more.
     Gone,
-    /// The id of its owner, or its rank.
+    /// The id of its owner, its rank, or its index.
     Number(u64),
 }
 
@@ -164,6 +166,17 @@ fn rank_of(world: &World<Value>, id: u64, alloc: Global) -> Result<Answer, Alloc
     }
 }
 
+/// The index of the entity that the allocator of ids notes under an id.
+fn noted_under(world: &World<Value>, id: u64) -> Answer {
+    let Some(allocator) = world.try_fetch::<SceneMarkerAllocator>() else {
+        return Answer::Nobody;
+    };
+    match allocator.retrieve_entity_internal(id) {
+        Some(entity) => Answer::Number(entity.id() as u64),
+        None => Answer::Nobody,
+    }
+}
+
 /// Carries a command out, or answers a question.
 fn take_step(world: &mut World<Value>, step: Step, alloc: Global) -> Result<Answer, Refusal>
     requires { MayAct owning_kinds world.old }
@@ -184,6 +197,7 @@ fn take_step(world: &mut World<Value>, step: Step, alloc: Global) -> Result<Answ
         Step::Demote(id) => Ok(told(take_part::<Owning>(world, id, "rank")?)),
         Step::OwnerOf(id) => Ok(owner_of(world, id, alloc)?),
         Step::RankOf(id) => Ok(rank_of(world, id, alloc)?),
+        Step::NotedUnder(id) => Ok(noted_under(world, id)),
     }
 }
 

@@ -1,6 +1,6 @@
 //! Courses of worlds, with what comes of each step by the definitions of commands, the same in each store.
 use crate::course::Answer::{Done, Gone, Nobody, Nothing, Number, Refused, Skipped};
-use crate::course::Step::{Demote, Free, Kill, Own, OwnerOf, Promote, RankOf, Spawn};
+use crate::course::Step::{Demote, Free, Kill, NotedUnder, Own, OwnerOf, Promote, RankOf, Spawn};
 use crate::course::{Answer, Refusal, Step, runs};
 use crate::rules::Owning;
 use scene_loading::open_world;
@@ -68,7 +68,10 @@ const ROWS: [Row; 14] = [
         course: &[
             (Spawn(None, Some(1)), Done),
             (Spawn(Some(0), None), Done),
+            (NotedUnder(0), Number(0)),
             (Kill(0), Done),
+            (NotedUnder(0), Nobody),
+            (NotedUnder(1), Number(1)),
             (OwnerOf(1), Gone),
             (OwnerOf(0), Nobody),
             (RankOf(0), Nobody),
@@ -87,6 +90,8 @@ const ROWS: [Row; 14] = [
             (Spawn(Some(0), None), Done),
             (Kill(0), Done),
             (Spawn(None, Some(9)), Done),
+            (NotedUnder(0), Nobody),
+            (NotedUnder(2), Number(0)),
             (RankOf(0), Nobody),
             (RankOf(2), Number(9)),
             (OwnerOf(1), Gone),

@@ -91,12 +91,7 @@ module _ {V : Type 0} (kinds : Kinds V) (book : Book) (w : Sight V) (stands : Is
 
 -- ---- lists that loops make
 
--- one more, behind what was made of those before
-pub mapped-more : {A B C : Type 0} (f : A → C) (g : B → C) (made : List A) (one : A) (items : List B) (k : ℕ) (d : B) → k < length items → map f made ≡ map g (take k items) → f one ≡ g (get_or items k d) → map f (made ++ one ∷ []) ≡ map g (take (k + 1) items)
-mapped-more f g made one items k d below so_far same =
-    map-append f made (one ∷ []) ∙ ap (λ front. front ++ f one ∷ []) so_far ∙ ap (λ last. map g (take k items) ++ last ∷ []) same
-    ∙ sym (ap (map g) (take_more items k d below) ∙ map-append g (take k items) (get_or items k d ∷ []))
-
+-- the items before a place, and the one there
 pub front-more : {B C : Type 0} (g : B → C) (items : List B) (k : ℕ) (d : B) → k < length items → map g (take (k + 1) items) ≡ map g (take k items) ++ g (get_or items k d) ∷ []
 front-more g items k d below = ap (map g) (take_more items k d below) ∙ map-append g (take k items) (get_or items k d ∷ [])
 

@@ -18,7 +18,7 @@ use Rattle.scene_world.specs.Stored.{Stored, part_with, part_under}
 use Rattle.scene_world.specs.Rolls.{Roll, is_life, reference, id_at, ids_in, index_of, ref_to, part_in, IsMarked, IsRoll}
 use Rattle.scene_world.specs.Standing.{Sight, Kinds, roll_of, column_of, value_of, plain_of, IsWithin}
 use Rattle.scene_world.specs.Changes.{but_at, IsAnother, IsUnnamed, Bears}
-use Rattle.scene_world.proofs.RollLemmas.{id-at-index, index-of-id, lives-index, ids-ascend, id-lives}
+use Rattle.scene_world.proofs.RollLemmas.{eqb-turned, id-at-index, index-of-id, lives-index, ids-ascend, id-lives}
 use Rattle.scene_world.proofs.PartLemmas.{at-one, at-other}
 
 some-there : {A : Type 0} (a : A) → IsSome (Some a)
@@ -219,15 +219,13 @@ module _ (old new : Roll) (was : IsRoll old) (next : ℕ) (below : All (λ id. i
 pub next-noted : (noting : Noting) (entity : LifeAt) (id : ℕ) → noted_under (allocated noting entity None) id ≡ but_at noting.next (Some entity) (noted_under noting) id
 next-noted noting entity id =
     map.get-insert nat_cmp_total noting.noted noting.next entity id
-    ∙ ap (λ b. cond b (Some entity) (noted_under noting id)) (is_eq-nat_cmp id noting.next ∙ turned noting.next id (eqb noting.next id) refl)
-  where
-    turned : (a b : ℕ) (t : Bool) → eqb a b ≡ t → eqb a b ≡ eqb b a
-    turned a b true e = e ∙ sym (eq-eqb b a (sym (eqb-true a b e)))
-    turned a b false e = e ∙ sym (back (eqb b a) refl)
-      where
-        back : (t : Bool) → eqb b a ≡ t → t ≡ false
-        back true f = absurd (true≢false (sym (eq-eqb a b (sym (eqb-true b a f))) ∙ e))
-        back false f = refl
+    ∙ ap (λ b. cond b (Some entity) (noted_under noting id)) (is_eq-nat_cmp id noting.next ∙ eqb-turned noting.next id)
+
+-- what is noted where what stood under an id was taken out
+pub noted-forgotten : (noting : Noting) (id other : ℕ) → map.get (map.remove noting.noted id) other ≡ but_at id None (noted_under noting) other
+noted-forgotten noting id other =
+    map.get-remove nat_cmp_total noting.noted id other
+    ∙ ap (λ b. cond b None (noted_under noting other)) (is_eq-nat_cmp other id ∙ eqb-turned id other)
 
 pub next-after : (next : ℕ) → max next (next + 1) ≡ next + 1
 next-after next = omega arith

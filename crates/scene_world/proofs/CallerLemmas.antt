@@ -4,4 +4,4 @@ pub use Rattle.scene_world.proofs.StandingLemmas.{SeesAlike, same-roll, fragment
 pub use Rattle.scene_world.proofs.PlaceLemmas.{whole-world, lent-ids}
 pub use Rattle.scene_world.proofs.PartLemmas.{scene-set}
 pub use Rattle.scene_world.proofs.DeathLemmas.{buried-roll, buried-scene, buried-within}
-pub use Rattle.scene_world.proofs.BirthLemmas.{lives-below, next-noted, next-after, born-roll, born-within, born-scene}
+pub use Rattle.scene_world.proofs.BirthLemmas.{lives-below, next-noted, noted-forgotten, next-after, born-roll, born-within, born-scene}

@@ -68,7 +68,7 @@ map-map f g h same (x ∷ xs) = ap (λ y. y ∷ map h xs) (same x) ∙ ap (λ l.
 module _ (old new : Roll) (was : IsRoll old) (id index : ℕ) (there : id_at old index ≡ Some id)
     (dies : (at : ℕ) → living new.births at ≡ but_at index None (living old.births) at)
     (marker : (at : ℕ) → new.marker at ≡ but_at index None old.marker at)
-    (noting : new.noting ≡ old.noting) where
+    (noted : (other : ℕ) → noted_under new.noting other ≡ but_at id None (noted_under old.noting) other) where
   id-left : (at : ℕ) → id_at new at ≡ but_at index None (id_at old) at
   id-left at =
       ap (λ l. cond (is_some l) (new.marker at) None) (dies at)
@@ -85,6 +85,13 @@ module _ (old new : Roll) (was : IsRoll old) (id index : ℕ) (there : id_at old
       by : (b : Bool) → eqb at index ≡ b → cond b None (id_at old at) ≡ Some other → (id_at old at ≡ Some other) × (at ≡ index → ⊥)
       by true same e = cc
       by false differ e = (e, λ same. true≢false (sym (eq-eqb at index same) ∙ differ))
+
+  -- another index has another id
+  other-id : (at one : ℕ) (life : Life) → living old.births at ≡ Some life → old.marker at ≡ Some one → eqb at index ≡ false → (b : Bool) → eqb one id ≡ b → eqb one id ≡ false
+  other-id at one life lives_it marks differ false e = e
+  other-id at one life lives_it marks differ true e =
+      let stands : id_at old at ≡ Some id = ap (λ l. cond (is_some l) (old.marker at) None) lives_it ∙ marks ∙ ap Some (eqb-true one id e) in
+      absurd (true≢false (sym (eq-eqb at index (ids-differ old was at index id stands there)) ∙ differ))
 
   -- who is left is on a roll as before
   pub roll-left : IsRoll new
@@ -103,7 +110,10 @@ module _ (old new : Roll) (was : IsRoll old) (id index : ℕ) (there : id_at old
             had.0,
             record {
               marker = marker at ∙ ap (λ b. cond b None (old.marker at)) differ ∙ had.1.marker;
-              noted = ap (λ n. noted_under n had.0) noting ∙ had.1.noted;
+              noted =
+                  noted had.0
+                  ∙ ap (λ b. cond b None (noted_under old.noting had.0)) (other-id at had.0 life (sym (ap (λ b. cond b None (living old.births at)) differ) ∙ e) had.1.marker differ (eqb had.0 id) refl)
+                  ∙ had.1.noted;
             },
           )
 
@@ -212,9 +222,9 @@ module _ (old new : Roll) (was : IsRoll old) (id index : ℕ) (there : id_at old
 
 -- ---- the scene
 
-module _ {V : Type 0} (kinds : Kinds V) (w w2 : Sight V) (was : IsRoll (roll_of kinds w)) (id index : ℕ) (there : id_at (roll_of kinds w) index ≡ Some id) (buries : Buries kinds index w w2) where
+module _ {V : Type 0} (kinds : Kinds V) (w w2 : Sight V) (was : IsRoll (roll_of kinds w)) (id index : ℕ) (there : id_at (roll_of kinds w) index ≡ Some id) (buries : Buries kinds id index w w2) where
   pub buried-roll : IsRoll (roll_of kinds w2)
-  buried-roll = roll-left (roll_of kinds w) (roll_of kinds w2) was id index there buries.lives buries.marker buries.noting
+  buried-roll = roll-left (roll_of kinds w) (roll_of kinds w2) was id index there buries.lives buries.marker buries.noted
 
   -- the scene is what a kill of its id makes of the one before
   pub buried-scene : apply (kill id) (plain_of kinds w) ≡ changed (plain_of kinds w2)
@@ -234,7 +244,7 @@ module _ {V : Type 0} (kinds : Kinds V) (w w2 : Sight V) (was : IsRoll (roll_of 
 
       part : (other : ℕ) (kind : Name) (b : Bool) → is_among kind kinds.part_names ≡ b → cond b (part_in (roll_of kinds w2) (column_of kinds w2 kind) other) None
           ≡ cond (eqb other id) None (option_map (part_without id) (cond b (part_in (roll_of kinds w) (column_of kinds w kind) other) None))
-      part other kind true is = part-left (roll_of kinds w) (roll_of kinds w2) was id index there buries.lives buries.marker buries.noting (column_of kinds w kind) (column_of kinds w2 kind) (buries.parts kind is) other
+      part other kind true is = part-left (roll_of kinds w) (roll_of kinds w2) was id index there buries.lives buries.marker buries.noted (column_of kinds w kind) (column_of kinds w2 kind) (buries.parts kind is) other
       part other kind false is = none (eqb other id)
         where
           none : (b : Bool) → None ≡ cond b None (option_map (part_without id) None)
@@ -242,9 +252,9 @@ module _ {V : Type 0} (kinds : Kinds V) (w w2 : Sight V) (was : IsRoll (roll_of 
           none false = refl
 
       scene : plain_of kinds w2 ≡ without
-      scene = same_scene _ _ (ap (λ n. n.next) buries.noting)
-          (ids-left (roll_of kinds w) (roll_of kinds w2) was id index there buries.lives buries.marker buries.noting)
+      scene = same_scene _ _ buries.next
+          (ids-left (roll_of kinds w) (roll_of kinds w2) was id index there buries.lives buries.marker buries.noted)
           (λ other kind. part other kind (is_among kind kinds.part_names) refl) (λ name. value name (is_among name kinds.global_names) refl)
 
   pub buried-within : (kind : Name) → is_among kind kinds.part_names ≡ true → IsWithin kinds (roll_of kinds w) (column_of kinds w kind) → IsWithin kinds (roll_of kinds w2) (column_of kinds w2 kind)
-  buried-within kind known within = within-left (roll_of kinds w) (roll_of kinds w2) was id index there buries.lives buries.marker buries.noting (column_of kinds w kind) (column_of kinds w2 kind) (buries.parts kind known) within
+  buried-within kind known within = within-left (roll_of kinds w) (roll_of kinds w2) was id index there buries.lives buries.marker buries.noted (column_of kinds w kind) (column_of kinds w2 kind) (buries.parts kind known) within

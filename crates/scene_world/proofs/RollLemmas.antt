@@ -18,6 +18,18 @@ use Rattle.scene_world.specs.Rolls.{Roll, is_life, is_id, reference, index_if, i
 
 -- ---- tests
 
+-- whether two numbers are equal, told the other way round
+pub eqb-turned : (a b : ℕ) → eqb a b ≡ eqb b a
+eqb-turned a b = by (eqb a b) refl
+  where
+    back : (t : Bool) → eqb b a ≡ t → eqb a b ≡ false → t ≡ false
+    back true f e = absurd (true≢false (sym (eq-eqb a b (sym (eqb-true b a f))) ∙ e))
+    back false f e = refl
+
+    by : (t : Bool) → eqb a b ≡ t → eqb a b ≡ eqb b a
+    by true e = e ∙ sym (eq-eqb b a (sym (eqb-true a b e)))
+    by false e = e ∙ sym (back (eqb b a) refl e)
+
 pub is-id : (id : ℕ) (o : Option ℕ) → is_id id o ≡ true → o ≡ Some id
 is-id id None e = cc
 is-id id (Some other) e = ap Some (eqb-true other id e)

@@ -3,7 +3,7 @@ use Rattle.std.specs.Prelude.{◌≡◌, ℕ, ◌==◌, true, false, Option, Som
 use Rattle.std.specs.Str.{bytes_eq}
 use Rattle.specs_entity.specs.Births.{living}
 use Rattle.specs_entity.specs.Life.{LifeAt}
-use Rattle.specs_markers.specs.Simple.{allocated}
+use Rattle.specs_markers.specs.Simple.{allocated, noted_under}
 use Rattle.scene_rules.specs.Parts.{Name, is_among}
 use Rattle.scene_world.specs.Stored.{Stored}
 use Rattle.scene_world.specs.Rolls.{is_life}
@@ -33,11 +33,12 @@ module _ {V : Type 0} (kinds : Kinds V) where
     pub others : (other : Name) → is_among other kinds.part_names ≡ true → bytes_eq other kind ≡ false → (at : ℕ) → column_of kinds w2 other at ≡ column_of kinds w other at
     pub values : SameValues w w2
 
-  -- the entity at an index is no more, nor its marker and its parts, and all else is as it was
-  pub record Buries (index : ℕ) (w w2 : Sight V) : Type 0 where
+  -- the entity at an index is no more, nor its marker, what is noted under its id, and its parts, and all else is as it was
+  pub record Buries (id index : ℕ) (w w2 : Sight V) : Type 0 where
     pub lives : (at : ℕ) → living (roll_of kinds w2).births at ≡ but_at index None (living (roll_of kinds w).births) at
     pub marker : (at : ℕ) → (roll_of kinds w2).marker at ≡ but_at index None (roll_of kinds w).marker at
-    pub noting : (roll_of kinds w2).noting ≡ (roll_of kinds w).noting
+    pub next : (roll_of kinds w2).noting.next ≡ (roll_of kinds w).noting.next
+    pub noted : (other : ℕ) → noted_under (roll_of kinds w2).noting other ≡ but_at id None (noted_under (roll_of kinds w).noting) other
     pub parts : (kind : Name) → is_among kind kinds.part_names ≡ true → (at : ℕ) → column_of kinds w2 kind at ≡ but_at index None (column_of kinds w kind) at
     pub values : SameValues w w2
 

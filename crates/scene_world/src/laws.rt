@@ -61,9 +61,9 @@ pub fn a_part_at_an_index_is_one_at_its_id<V>()
 /// The death of an entity with its parts is the kill of its id: references to it are gone, and so they stay.
 pub fn a_death_is_a_kill<V>()
     ensures roll { (kinds : Kinds V) (w later : Sight V) (id index : ℕ) → IsRoll (roll_of kinds w)
-        → id_at (roll_of kinds w) index ≡ Some id → Buries kinds index w later → IsRoll (roll_of kinds later) }
+        → id_at (roll_of kinds w) index ≡ Some id → Buries kinds id index w later → IsRoll (roll_of kinds later) }
     ensures scene { (kinds : Kinds V) (w later : Sight V) (id index : ℕ) → IsRoll (roll_of kinds w)
-        → id_at (roll_of kinds w) index ≡ Some id → Buries kinds index w later
+        → id_at (roll_of kinds w) index ≡ Some id → Buries kinds id index w later
         → apply (kill id) (plain_of kinds w) ≡ changed (plain_of kinds later) }
 {}
 

@@ -82,7 +82,7 @@ fn read_each_command<R: DocumentRules>(
         (λ list. All (IsAsked R.part_of (R.book rules.now)) list.items)
         (each (command_from (R.book rules.now)) (items_seen values.now)) result }
 {
-    let mut list = Vec::new(alloc);
+    let mut list = Vec::with_capacity(alloc, values.len())?;
     for value in values {
         let command = read_command(alloc, rules, value)?;
         list.push(command)?;
@@ -192,7 +192,7 @@ fn read_each_spawned<R: DocumentRules>(
         × AreApart (map (plain_part R.part_of) parts.items))
         (each (part_under (R.book rules.now)) (members_seen members.now.entries)) result }
 {
-    let mut parts = Vec::new(alloc);
+    let mut parts = Vec::with_capacity(alloc, members.len())?;
     for (kind, value) in members {
         let part = read_known(alloc, rules, kind.as_str(), value)?;
         parts.push(part)?;

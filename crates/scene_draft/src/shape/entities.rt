@@ -44,7 +44,7 @@ fn read_each_entity<R: DocumentRules>(
         (λ entities. All (IsEntity R.part_of (R.book rules.now)) entities.items)
         (each (entity_from (R.book rules.now)) (items_seen values.now)) result }
 {
-    let mut entities = Vec::new(alloc);
+    let mut entities = Vec::with_capacity(alloc, values.len())?;
     for value in values {
         let entity = read_entity(alloc, rules, value)?;
         entities.push(entity)?;
@@ -110,7 +110,7 @@ fn read_each_part<R: DocumentRules>(
         (λ parts. All (IsPart R.part_of (R.book rules.now)) parts.items)
         (each (part_under (R.book rules.now)) (members_seen members.now.entries)) result }
 {
-    let mut parts = Vec::new(alloc);
+    let mut parts = Vec::with_capacity(alloc, members.len())?;
     for (kind, value) in members {
         let part = read_part(alloc, rules, kind.as_str(), value)?;
         parts.push(part)?;
