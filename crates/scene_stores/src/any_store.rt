@@ -104,7 +104,6 @@ impl<T: Drop> UnprotectedStorage<T> for AnyStore<T> {
         }
     }
 
-    #[inline]
     fn get(&self, id: Index) -> &T {
         match self {
             AnyStore::Vec(inner) => inner.get(id),
@@ -114,7 +113,6 @@ impl<T: Drop> UnprotectedStorage<T> for AnyStore<T> {
         }
     }
 
-    #[inline]
     fn get_mut(&mut self, id: Index) -> Result<&mut T, AllocError> {
         match self {
             AnyStore::Vec(inner) => inner.get_mut(id),

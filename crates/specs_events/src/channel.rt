@@ -82,7 +82,6 @@ impl<E> EventChannel<E> {
     }
 
     /// Whether there is a reader.
-    #[inline]
     pub fn has_readers(&self) -> bool
         ensures { result ≡ has_readers self.now }
     {

@@ -63,7 +63,6 @@ impl<T, S> FlaggedStorage<T, S> {
     }
 
     /// Whether a change is told.
-    #[inline]
     fn is_telling(&self) -> bool
         ensures { result ≡ tells self.now }
     {
@@ -119,12 +118,10 @@ impl<T: Drop, S: DistinctStorage<T>> UnprotectedStorage<T> for FlaggedStorage<T,
         self.inner.clean(has);
     }
 
-    #[inline]
     fn get(&self, id: Index) -> &T {
         self.inner.get(id)
     }
 
-    #[inline]
     fn get_mut(&mut self, id: Index) -> Result<&mut T, AllocError> {
         if self.is_telling() {
             self.channel.single_write(ComponentEvent::Modified(id))?;

@@ -53,7 +53,6 @@ impl<T: Component> MaskedStorage<T> {
     }
 
     /// The indices that have a part.
-    #[inline]
     pub fn mask(&self) -> &BitSet
         ensures value { result.now ≡ self.now.mask }
         ensures agrees { Agrees self.now.mask (T.Storage.part_at self.now.inner) }
@@ -80,7 +79,6 @@ impl<T: Component> MaskedStorage<T> {
     }
 
     /// Whether an index has a part.
-    #[inline]
     pub fn contains(&self, id: Index) -> bool
         ensures { result ≡ is_some (T.Storage.part_at self.now.inner id) }
     {
@@ -88,7 +86,6 @@ impl<T: Component> MaskedStorage<T> {
     }
 
     /// The part at `id`, which has one.
-    #[inline]
     pub fn get(&self, id: Index) -> &T
         requires { IsSome (T.Storage.part_at self.now.inner id) }
         ensures { T.Storage.part_at self.now.inner id ≡ Some result.now }
@@ -99,7 +96,6 @@ impl<T: Component> MaskedStorage<T> {
     /// The part at `id`, which has one, for writing.
     ///
     /// Errors: `AllocError`, where the storage emits, and nothing changed.
-    #[inline]
     pub fn get_mut(&mut self, id: Index) -> Result<&mut T, AllocError>
         requires { IsSome (T.Storage.part_at self.old.inner id) }
         ensures* writes_back { sem 𝓛 (lends_part T.row T.Storage.row T.Storage.UnprotectedStorage

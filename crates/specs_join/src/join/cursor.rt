@@ -65,7 +65,6 @@ impl<'a, T: Component, R: Join> JoinCursor<'a, T, R> {
     }
 
     /// Goes on to the next index, or answers false where there is none.
-    #[inline]
     pub fn advance(&mut self) -> bool
         requires { CanGoOn R.Mask.members R.value_at self.old }
         ensures same_reference { (storage_of self.new).ghost_name ≡ (storage_of self.old).ghost_name }
@@ -83,7 +82,6 @@ impl<'a, T: Component, R: Join> JoinCursor<'a, T, R> {
     }
 
     /// The index at which the cursor is.
-    #[inline]
     pub fn index(&self) -> Index
         requires { IsSome (index_of self.now) }
         ensures { index_of self.now ≡ Some result }
@@ -93,7 +91,6 @@ impl<'a, T: Component, R: Join> JoinCursor<'a, T, R> {
     }
 
     /// What the join has at the index.
-    #[inline]
     pub fn item(&self) -> R::Type
         requires { (index : ℕ) × StandsAt R.value_at self.now index }
         ensures { (index : ℕ) → index_of self.now ≡ Some index
@@ -106,7 +103,6 @@ impl<'a, T: Component, R: Join> JoinCursor<'a, T, R> {
     /// The storage's part at the index, for writing.
     ///
     /// Errors: `AllocError`, where the storage emits, and nothing changed.
-    #[inline]
     pub fn values(&mut self) -> Result<&mut T, AllocError>
         requires { (index : ℕ) × StandsAt R.value_at self.old index }
         ensures* writes_back { sem 𝓛 (lends_values T.row R.row T.Storage.row R.Type.row R.Shown.row R.Value.row

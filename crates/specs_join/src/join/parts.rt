@@ -31,7 +31,6 @@ where
         (self.mask(), self.inner())
     }
 
-    #[inline]
     fn get(values: &&'a T::Storage, id: Index) -> &'a T {
         let inner: &'a T::Storage = *values;
         inner.get(id)

@@ -27,7 +27,6 @@ impl SharedSteps {
 
     /// Goes on to the next index that both sets have, and answers it, or none where there is none. What is still to
     /// come is told of sets that are as they were at the steps before.
-    #[inline]
     pub fn step<M: BitSetLike + Drop>(&mut self, parts: &BitSet, mask: &M) -> Option<Index>
         ensures { MatchOption result
             ((still_shared M.members parts.now mask.now self.old ≡ [])
@@ -42,7 +41,6 @@ impl SharedSteps {
     }
 
     /// `step` by a step of a walk, which looks for the next word.
-    #[inline(never)]
     fn search<M: BitSetLike + Drop>(&mut self, parts: &BitSet, mask: &M) -> Option<Index>
         ensures { MatchOption result
             ((still_shared M.members parts.now mask.now self.old ≡ [])

@@ -150,12 +150,10 @@ impl<T: Default + Drop> UnprotectedStorage<T> for DefaultVecStorage<T> {
         }
     }
 
-    #[inline]
     fn get(&self, id: Index) -> &T {
         &self.slots[id as usize]
     }
 
-    #[inline]
     fn get_mut(&mut self, id: Index) -> Result<&mut T, AllocError> {
         Ok(&mut self.slots[id as usize])
     }

@@ -106,12 +106,10 @@ impl<T: Drop> UnprotectedStorage<T> for DenseVecStorage<T> {
         self.owners.clear();
     }
 
-    #[inline]
     fn get(&self, id: Index) -> &T {
         &self.parts[self.places[id as usize]]
     }
 
-    #[inline]
     fn get_mut(&mut self, id: Index) -> Result<&mut T, AllocError> {
         let place = self.places[id as usize];
         Ok(&mut self.parts[place])

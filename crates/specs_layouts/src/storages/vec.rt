@@ -102,7 +102,6 @@ impl<T: Drop> UnprotectedStorage<T> for VecStorage<T> {
         }
     }
 
-    #[inline]
     fn get(&self, id: Index) -> &T {
         match &self.slots[id as usize] {
             Some(part) => part,
@@ -110,7 +109,6 @@ impl<T: Drop> UnprotectedStorage<T> for VecStorage<T> {
         }
     }
 
-    #[inline]
     fn get_mut(&mut self, id: Index) -> Result<&mut T, AllocError> {
         Ok(part_mut(&mut self.slots[id as usize]))
     }
