@@ -1,18 +1,17 @@
 -- An entity comes to life, gets its id, and is marked.
 use Rattle.std.proofs.Common.{◌≡◌, ◌<◌, ◌≤◌, ℕ, false, cond, eqb, Option, Some, None, refl, ap, sym, ◌∙◌, subst}
 use Rattle.std.specs.Prelude.{IsSome, option_and_then}
-use Rattle.std.specs.Option.{unwrap_or}
 use Rattle.shred_world.specs.declared.resource_id.ResourceId.{ResourceId}
 use Rattle.shred_world.specs.ResourceIds.{same_id}
 use Rattle.shred_world.specs.Worlds.{Slots}
-use Rattle.specs_entity.specs.Births.{Births, count, living, none_born, IsBorn, IsAlive, LivesOn, BringsToLife, Continues}
+use Rattle.specs_entity.specs.Births.{Births, count, living, IsBorn, IsAlive, LivesOn, BringsToLife, Continues}
 use Rattle.specs_entity.specs.Life.{LifeAt}
 use Rattle.specs_layouts.specs.Parts.{Puts}
-use Rattle.specs_markers.specs.Simple.{Noting, Gives, allocated, none_noted}
+use Rattle.specs_markers.specs.Simple.{Noting, Gives, allocated}
 use Rattle.scene_world.specs.Standing.{Kinds, roll_of}
 use Rattle.scene_acts.specs.Acts.{seen_of}
 use Rattle.scene_acts.specs.Newborns.{ComesToLife, GetsId, Marks}
-use Rattle.scene_acts.proofs.DeathLemmas.{puts-at}
+use Rattle.scene_acts.proofs.DeathLemmas.{puts-at, births-read, noting-read}
 
 module _ {V : Type 0} (kinds : Kinds V) (w later : Slots V) (was back : V) where
   -- entities with one more
@@ -31,10 +30,10 @@ module _ {V : Type 0} (kinds : Kinds V) (w later : Slots V) (was back : V) where
   }
     where
       was-is : (roll_of kinds (seen_of w)).births ≡ before
-      was-is = ap (λ held. unwrap_or (option_and_then kinds.births held) (none_born 0 0)) stood ∙ ap (λ o. unwrap_or o (none_born 0 0)) old
+      was-is = births-read kinds w was before stood old
 
       now-is : (roll_of kinds (seen_of later)).births ≡ after
-      now-is = ap (λ held. unwrap_or (option_and_then kinds.births held) (none_born 0 0)) stands ∙ ap (λ o. unwrap_or o (none_born 0 0)) new
+      now-is = births-read kinds later back after stands new
 
   -- an allocator that gave its next id
   pub gets-id : seen_of w kinds.allocator_id ≡ Some was → seen_of later kinds.allocator_id ≡ Some back → ((other : ResourceId) → same_id other kinds.allocator_id ≡ false → seen_of later other ≡ seen_of w other)
@@ -48,10 +47,10 @@ module _ {V : Type 0} (kinds : Kinds V) (w later : Slots V) (was back : V) where
   }
     where
       was-is : (roll_of kinds (seen_of w)).noting ≡ before
-      was-is = ap (λ held. unwrap_or (option_and_then kinds.noting held) none_noted) stood ∙ ap (λ o. unwrap_or o none_noted) old
+      was-is = noting-read kinds w was before stood old
 
       now-is : (roll_of kinds (seen_of later)).noting ≡ after
-      now-is = ap (λ held. unwrap_or (option_and_then kinds.noting held) none_noted) stands ∙ ap (λ o. unwrap_or o none_noted) new
+      now-is = noting-read kinds later back after stands new
 
   -- markers with one more
   pub marks : seen_of w kinds.markers_id ≡ Some was → seen_of later kinds.markers_id ≡ Some back → ((other : ResourceId) → same_id other kinds.markers_id ≡ false → seen_of later other ≡ seen_of w other)

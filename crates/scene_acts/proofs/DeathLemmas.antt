@@ -49,6 +49,14 @@ puts-at before after index part puts at = by (eqb at index) refl
     by true e = ap after (eqb-true at index e) ∙ puts.here ∙ sym (ap (λ b. cond b part (before at)) e)
     by false e = puts.others at (λ same. true≢false (sym (eq-eqb at index same) ∙ e)) ∙ sym (ap (λ b. cond b part (before at)) e)
 
+-- what is read of entities, and of an allocator of ids, that stand in a world
+module _ {V : Type 0} (kinds : Kinds V) (w : Slots V) (v : V) where
+  pub births-read : (births : Births) → seen_of w kinds.entities_id ≡ Some v → kinds.births v ≡ Some births → (roll_of kinds (seen_of w)).births ≡ births
+  births-read births stands is = ap (λ held. unwrap_or (option_and_then kinds.births held) (none_born 0 0)) stands ∙ ap (λ o. unwrap_or o (none_born 0 0)) is
+
+  pub noting-read : (noting : Noting) → seen_of w kinds.allocator_id ≡ Some v → kinds.noting v ≡ Some noting → (roll_of kinds (seen_of w)).noting ≡ noting
+  noting-read noting stands is = ap (λ held. unwrap_or (option_and_then kinds.noting held) none_noted) stands ∙ ap (λ o. unwrap_or o none_noted) is
+
 module _ {V : Type 0} (kinds : Kinds V) (w later : Slots V) (was back : V) where
   -- markers of which one was taken out
   pub unmarks : seen_of w kinds.markers_id ≡ Some was → seen_of later kinds.markers_id ≡ Some back → ((other : ResourceId) → same_id other kinds.markers_id ≡ false → seen_of later other ≡ seen_of w other)
@@ -76,10 +84,10 @@ module _ {V : Type 0} (kinds : Kinds V) (w later : Slots V) (was back : V) where
   }
     where
       was-is : (roll_of kinds (seen_of w)).noting ≡ before
-      was-is = ap (λ held. unwrap_or (option_and_then kinds.noting held) none_noted) stood ∙ ap (λ o. unwrap_or o none_noted) old
+      was-is = noting-read kinds w was before stood old
 
       now-is : (roll_of kinds (seen_of later)).noting ≡ after
-      now-is = ap (λ held. unwrap_or (option_and_then kinds.noting held) none_noted) stands ∙ ap (λ o. unwrap_or o none_noted) new
+      now-is = noting-read kinds later back after stands new
 
   -- entities of which one died
   pub lets-die : seen_of w kinds.entities_id ≡ Some was → seen_of later kinds.entities_id ≡ Some back → ((other : ResourceId) → same_id other kinds.entities_id ≡ false → seen_of later other ≡ seen_of w other)
@@ -95,10 +103,10 @@ module _ {V : Type 0} (kinds : Kinds V) (w later : Slots V) (was back : V) where
   }
     where
       was-is : (roll_of kinds (seen_of w)).births ≡ before
-      was-is = ap (λ held. unwrap_or (option_and_then kinds.births held) (none_born 0 0)) stood ∙ ap (λ o. unwrap_or o (none_born 0 0)) old
+      was-is = births-read kinds w was before stood old
 
       now-is : (roll_of kinds (seen_of later)).births ≡ after
-      now-is = ap (λ held. unwrap_or (option_and_then kinds.births held) (none_born 0 0)) stands ∙ ap (λ o. unwrap_or o (none_born 0 0)) new
+      now-is = births-read kinds later back after stands new
 
       only : (b : Bool) → (b || false) ≡ b
       only true = refl

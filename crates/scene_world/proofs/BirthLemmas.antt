@@ -1,5 +1,5 @@
 -- What the birth of an entity makes of a scene.
-use Rattle.std.proofs.Common.{◌≡◌, ◌<◌, ◌+◌, ℕ, Bool, true, false, cond, eqb, ◌||◌, ◌&&◌, List, [], ◌∷◌, ◌++◌, map, Option, Some, None, All, refl, ap, sym, ◌∙◌, subst, arith}
+use Rattle.std.proofs.Common.{◌≡◌, ◌<◌, ◌+◌, ℕ, Bool, true, false, cond, eqb, ◌||◌, List, [], ◌∷◌, ◌++◌, map, Option, Some, None, All, refl, ap, sym, ◌∙◌, subst, arith}
 use Rattle.std.specs.Prelude.{is_some, option_and_then, option_map, IsSome, max}
 use Rattle.std.specs.List.{list_all}
 use Rattle.std.specs.FinMap as map
@@ -12,7 +12,7 @@ use Rattle.specs_markers.specs.Simple.{Noting, allocated, noted_under}
 use Rattle.scene_rules.specs.Parts.{Name, Part, is_among, under}
 use Rattle.scene_rules.specs.Rulebook.{spawn}
 use Rattle.scene_rules.specs.Scenes.{PlainScene, lives}
-use Rattle.scene_rules.specs.Commands.{apply, Applied, changed, skipped, ids_spent, refs_live, last_next}
+use Rattle.scene_rules.specs.Commands.{apply, changed, skipped, ids_spent, refs_live, last_next}
 use Rattle.scene_rules.proofs.CallerLemmas.{same_scene, same-ids, is_eq-nat_cmp, lives-behind, behind-ascends}
 use Rattle.scene_world.specs.Stored.{Stored, part_with, part_under}
 use Rattle.scene_world.specs.Rolls.{Roll, is_life, reference, id_at, ids_in, index_of, ref_to, part_in, IsMarked, IsRoll}

@@ -2,7 +2,6 @@
 use Rattle.std.proofs.Common.{◌≡◌, ◌<◌, ℕ, Bool, true, false, not, cond, eqb, ◌||◌, ◌&&◌, List, [], ◌∷◌, map, Option, Some, None, filter, refl, ap, sym, ◌∙◌, subst}
 use Rattle.std.specs.Prelude.{is_some, option_and_then, option_map, IsSome}
 use Rattle.std.specs.List.{list_any}
-use Rattle.std.proofs.Math.Path.{fun_ext}
 use Rattle.std.proofs.lemmas.Bool.{true≢false, eqb-true, eq-eqb}
 use Rattle.std.proofs.lemmas.List.Kept.{AllPairs-filter}
 use Rattle.serde_json.specs.Data.{null}
@@ -11,8 +10,8 @@ use Rattle.specs_entity.specs.Life.{Life, LifeAt}
 use Rattle.specs_markers.specs.Simple.{noted_under}
 use Rattle.scene_rules.specs.Parts.{Json, Name, Ref, living as reaching, gone, Part, is_among}
 use Rattle.scene_rules.specs.Rulebook.{kill}
-use Rattle.scene_rules.specs.Scenes.{PlainScene, lives}
-use Rattle.scene_rules.specs.Commands.{is_gone, is_to, without_ref, part_without, apply, Applied, changed, skipped}
+use Rattle.scene_rules.specs.Scenes.{PlainScene}
+use Rattle.scene_rules.specs.Commands.{is_gone, is_to, without_ref, part_without, apply, changed, skipped}
 use Rattle.scene_rules.proofs.CallerLemmas.{same_scene, same-ids, lives-kept}
 use Rattle.scene_world.specs.Stored.{Stored, ids_reached, part_with, part_under}
 use Rattle.scene_world.specs.Rolls.{Roll, is_life, reference, id_at, ids_in, index_of, ref_to, part_in, IsMarked, IsRoll}

@@ -5,7 +5,6 @@ use Rattle.std.specs.Str.{bytes_eq}
 use Rattle.std.proofs.lemmas.Slice.Eq.{bytes_eq-Decides}
 use Rattle.std.proofs.lemmas.Bool.{true≢false, eqb-true, eq-eqb}
 use Rattle.scene_rules.specs.Parts.{Name, Part, is_among}
-use Rattle.scene_rules.specs.Scenes.{PlainScene}
 use Rattle.scene_rules.specs.Commands.{with_part}
 use Rattle.scene_rules.proofs.CallerLemmas.{same_scene}
 use Rattle.scene_world.specs.Stored.{Stored, part_under}

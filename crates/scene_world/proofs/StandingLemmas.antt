@@ -1,16 +1,15 @@
 -- Lemmas on what a system is lent of a world in which a scene stands, and on the scene once that came back.
-use Rattle.std.proofs.Common.{◌≡◌, ℕ, Bool, true, false, ◌||◌, List, Option, Some, None, cond, refl, ap, sym, ◌∙◌, subst}
+use Rattle.std.proofs.Common.{◌≡◌, ℕ, Bool, true, false, ◌||◌, List, Option, None, cond, refl, ap, sym, ◌∙◌, subst}
 use Rattle.std.specs.Prelude.{option_and_then}
-use Rattle.std.proofs.lemmas.Bool.{true≢false, false≢true}
+use Rattle.std.proofs.lemmas.Bool.{false≢true}
 use Rattle.std.proofs.Math.Path.{fun_ext}
 use Rattle.shred_world.specs.declared.resource_id.ResourceId.{ResourceId}
 use Rattle.shred_world.specs.Bundles.{Slot, absent, out, shared, owned, Holding, readable, takable, is_listed}
 use Rattle.shred_stages.specs.Views.{cut, shared_of, owned_of, reading, IsLeft, Leaves, merged}
-use Rattle.scene_rules.specs.Parts.{Json, Name, Part, is_among}
+use Rattle.scene_rules.specs.Parts.{Name, is_among}
 use Rattle.scene_rules.specs.Rulebook.{Access, declares, declares_global, Fragment}
-use Rattle.scene_rules.specs.Scenes.{PlainScene, fragment, with_left}
+use Rattle.scene_rules.specs.Scenes.{fragment, with_left}
 use Rattle.scene_rules.proofs.CallerLemmas.{same_scene}
-use Rattle.scene_world.specs.Stored.{Stored}
 use Rattle.scene_world.specs.Rolls.{Roll, ids_in, part_in}
 use Rattle.scene_world.specs.Standing.{Sight, seen_in, IsWhole, Kinds, roll_in, roll_of, column_in, column_of, plain_of, fragment_of, IsWithin}
 use Rattle.scene_world.specs.Lent.{IsLent}
