@@ -16,11 +16,12 @@ use Rattle.scene_draft.specs.DraftViews.{IsDraft, AreMade}
 use Rattle.scene_draft.specs.Texts.{json_of}
 use Rattle.scene_document.specs.declared.loaded.Limits.{Limits}
 use Rattle.scene_document.specs.Documents.{document_from}
+use Rattle.scene_document.specs.Openings.{first_scene, frames_of}
 use Rattle.scene_document.specs.Loading.{commands_at}
 use Rattle.scene_kept.specs.declared.columns.KeptScene.{KeptScene}
 use Rattle.scene_snapshot.specs.KeptScenes.{kept_scene}
-use Rattle.scene_world.specs.Standing.{Kinds, plain_of}
-use Rattle.scene_turns.specs.Turns.{Meaning}
+use Rattle.scene_world.specs.Standing.{Kinds, plain_of, IsSceneWorld}
+use Rattle.scene_turns.specs.Turns.{Meaning, IsOfBook}
 use Rattle.scene_turns.specs.declared.placed.Placed.{Placed}
 use Rattle.scene_systems.specs.Orders.{turn_order}
 use Rattle.scene_systems.specs.Frames.{AreReady}
@@ -29,6 +30,7 @@ use Rattle.scene_frames.specs.Waiting.{AreTheirPlaces, NoneWaits}
 use Rattle.scene.specs.Runs.{CanBegin}
 use Rattle.scene.specs.Turns.{Shown, opening}
 use Rattle.scene.specs.declared.frame.Scene.{Scene}
+use Rattle.scene.specs.declared.load.Opened.{Opened}
 
 -- the frames of a scene: its systems in the order in which they take their turns, and the commands for each frame by its number from 1
 abbrev pub course_of : {D : Type 0} → (D → Part) → List PlainSystem → List (Vec (Command D)) → ℕ → PlainFrame
@@ -57,6 +59,22 @@ pub record Stands {V P : Type 0} (kinds : Kinds V) (meaning : Meaning P) (book :
   pub none : NoneWaits kinds (seen_of w)
   pub places : AreTheirPlaces at_places (turn_order meaning.plain systems)
   pub same : plain_of kinds (seen_of w) ≡ scene
+
+-- a document stands in a world, before anything is kept of its scene: no command waits there, its systems and their places are those of its
+-- frames, and it can begin
+pub record IsPlaced {R V D G S : Type 0} (kinds : Kinds V) (part_of : D → Part) (meaning : Meaning (Placed R V D G S)) (book : Book) (limits : Limits) (json : Json) (opened : Opened R V D G S) : Type 0 where
+  pub draft : Draft
+  pub is : document_from book limits.indices json ≡ Ok draft
+  pub stands : IsSceneWorld kinds book (seen_of opened.world)
+  pub none : NoneWaits kinds (seen_of opened.world)
+  pub scene : plain_of kinds (seen_of opened.world) ≡ first_scene draft
+  pub places : AreTheirPlaces opened.places.items (turn_order meaning.plain opened.course.dispatcher)
+  pub frames : (number : ℕ) → frames_of draft number ≡ course_of part_of (turn_order meaning.plain opened.course.dispatcher) opened.course.commands.items number
+  pub lawful : (number : ℕ) → All (IsLawful book) (commands_at part_of opened.course.commands.items number)
+  pub staged : All (IsOfBook meaning book) opened.course.dispatcher.staging.systems
+  pub locals : All (IsOfBook meaning book) opened.course.dispatcher.locals
+  pub asked : opened.course.asked ≡ draft.frames
+  pub begins : CanBegin book draft
 
 -- the rules that a scene runs under
 abbrev pub rules_of : {R V D G S : Type 0} → Scene R V D G S → R

@@ -5,13 +5,13 @@ ghost use Rattle.scene_rules.specs.Queues.{plain_commands};
 ghost use Rattle.scene_document.specs.Loading.{commands_at};
 
 use crate::advance::advance;
-use crate::load::{Course, course_of, open_in_world};
-use scene_document::{Limits, LoadError, read_document};
+use crate::load::{Course, Opened, open_document};
+use scene_document::{Limits, LoadError};
 use scene_draft::{JsonError, read_json};
+use scene_keeping::keep_scene;
 use scene_kept::KeptScene;
 use scene_rules::{Command, DocRefusal, Report, Skips};
 use scene_snapshot::kept_text;
-use scene_staging::places_of_systems;
 use scene_systems::SceneDispatcher;
 use scene_turns::{Rules, SceneValue};
 use serde_json::Value;
@@ -68,7 +68,9 @@ where
     ghost use Rattle.scene_draft.specs.Texts.{scene_json, text_of, ReadsBack};
     ghost use Rattle.scene_turns.specs.Places.{kinds_of};
     ghost use Rattle.scene_turns.specs.Turns.{placed_as};
-    ghost use Rattle.scene.specs.Running.{shown_of, rules_of, IsReady, IsOpened, IsOpenedFrom};
+    ghost use Rattle.scene.specs.Running.{shown_of, rules_of, IsReady, IsPlaced, IsOpened, IsOpenedFrom};
+    ghost use Rattle.scene_rules.specs.Parts.{Json};
+    ghost use Rattle.scene_document.specs.declared.loaded.LoadError.TheVariants.{Memory};
 
     /// The scene of the document in these bytes, before any frame.
     ///
@@ -92,7 +94,7 @@ where
             Err(JsonError::Unreadable) => return Err(LoadError::Document(DocRefusal::Unreadable)),
             Err(JsonError::Memory) => return Err(LoadError::Memory),
         };
-        Scene::load(alloc, rules, limits, &value)
+        Scene::load_out_of(alloc, rules, limits, value)
     }
 
     /// The scene of a document that was read as JSON, before any frame.
@@ -113,18 +115,68 @@ where
             value.now))
             (IsNotLoaded (R.book rules) limits.indices (view value.now)) }
     {
-        let draft = match read_document(alloc, &rules, limits, value) {
-            Ok(draft) => draft,
+        let opened = match open_document(alloc, &rules, limits, value) {
+            Ok(opened) => opened,
             Err(error) => return Err(error),
         };
-        let Ok(places) = places_of_systems(draft.entries.as_slice(), alloc) else {
-            return Err(LoadError::Memory);
+        Scene::keeping(alloc, rules, limits, opened)
+    }
+
+    /// The scene of a document that was read as JSON, before any frame, as `load` makes it. The JSON is let go once it stands
+    /// in a world, before the scene is kept beside that.
+    ///
+    /// Errors: those of `load`.
+    pub fn load_out_of(
+        alloc: Global,
+        rules: R,
+        limits: Limits,
+        value: Value,
+    ) -> Result<Scene<R>, LoadError>
+        requires { AreLimits limits }
+        ensures { MatchResult result (IsOpened (kinds_of ⟦<R::Value as SceneValue<R::Data>>⟧.places R.part_of
+            R.columns) R.part_of R.global_of
+            (placed_as (λ placed. placed.position)
+            (λ placed. placed.system) R.kind_of R.config_of R.declared R.sense R.does) R.book rules limits (view
+            value))
+            (IsNotLoaded (R.book rules) limits.indices (view value)) }
+    {
+        let opened = match open_document(alloc, &rules, limits, &value) {
+            Ok(opened) => opened,
+            Err(error) => return Err(error),
         };
-        let Ok((world, kept)) = open_in_world(&rules, limits, &draft, places.as_slice(), alloc)
-        else {
-            return Err(LoadError::Memory);
-        };
-        let Ok(course) = course_of(&rules, draft, alloc) else {
+        drop(value);
+        Scene::keeping(alloc, rules, limits, opened)
+    }
+
+    /// The scene of a document that stands in a world, kept, before any frame. Errors: `Memory`.
+    fn keeping(
+        alloc: Global,
+        rules: R,
+        limits: Limits,
+        opened: Opened<R>,
+    ) -> Result<Scene<R>, LoadError>
+        requires limits { AreLimits limits }
+        requires placed { (json : Json) × IsPlaced (kinds_of ⟦<R::Value as SceneValue<R::Data>>⟧.places R.part_of R.columns)
+            R.part_of
+            (placed_as (λ placed. placed.position)
+            (λ placed. placed.system) R.kind_of R.config_of R.declared R.sense R.does) (R.book rules) limits json
+            opened }
+        ensures { MatchResult result (λ scene. (json : Json) → IsPlaced (kinds_of
+            ⟦<R::Value as SceneValue<R::Data>>⟧.places R.part_of R.columns) R.part_of
+            (placed_as (λ placed. placed.position)
+            (λ placed. placed.system) R.kind_of R.config_of R.declared R.sense R.does) (R.book rules) limits json
+            opened → IsOpened (kinds_of ⟦<R::Value as SceneValue<R::Data>>⟧.places R.part_of
+            R.columns) R.part_of R.global_of
+            (placed_as (λ placed. placed.position)
+            (λ placed. placed.system) R.kind_of R.config_of R.declared R.sense R.does) R.book rules limits json scene)
+            (λ error. error ≡ Memory) }
+    {
+        let Opened {
+            world,
+            places,
+            course,
+        } = opened;
+        let Ok(kept) = keep_scene(&rules, &world, alloc) else {
             return Err(LoadError::Memory);
         };
         let Course {

@@ -1,11 +1,12 @@
 //! A document is put into a world, with its systems on a dispatcher.
-ghost use Rattle.std.specs.Prelude.{◌≡◌, ◌≤◌, ℕ, List, All, length, map, IfOk, OnOk};
+ghost use Rattle.std.specs.Prelude.{◌≡◌, ◌≤◌, ℕ, List, All, length, map, IfOk, OnOk, MatchResult};
+ghost use Rattle.serde_json.specs.View.{view};
 ghost use Rattle.scene_rules.specs.Lawful.{IsLawful};
 ghost use Rattle.scene_draft.specs.Drafts.{Draft};
 ghost use Rattle.scene_draft.specs.DraftViews.{IsDraft};
 ghost use Rattle.scene_document.specs.Documents.{refusal_of};
 ghost use Rattle.scene_document.specs.Openings.{first_scene, frames_of, all_systems};
-ghost use Rattle.scene_document.specs.Loading.{commands_at};
+ghost use Rattle.scene_document.specs.Loading.{commands_at, IsNotLoaded};
 ghost use Rattle.scene_world.specs.Standing.{plain_of, IsSceneWorld};
 ghost use Rattle.scene_acts.specs.Acts.{seen_of};
 ghost use Rattle.scene_turns.specs.Places.{kinds_of};
@@ -13,18 +14,17 @@ ghost use Rattle.scene_turns.specs.Turns.{placed_as, IsOfBook};
 ghost use Rattle.scene_systems.specs.Orders.{turn_order};
 ghost use Rattle.scene_frames.specs.Waiting.{NoneWaits};
 ghost use Rattle.scene.specs.Limits.{AreLimits};
-ghost use Rattle.scene.specs.Running.{IsUnrefused, course_of, listed_scene};
+ghost use Rattle.scene.specs.Running.{IsUnrefused, course_of, IsPlaced};
 
-use scene_document::{Limits, commands_of};
+use scene_document::{Limits, LoadError, commands_of, read_document};
 use scene_draft::DocumentDraft;
-use scene_keeping::keep_scene;
-use scene_kept::KeptScene;
 use scene_loading::load_world;
 use scene_rules::Command;
-use scene_staging::{open_queues, stage_systems};
+use scene_staging::{open_queues, places_of_systems, stage_systems};
 use scene_stores::Store;
 use scene_systems::SceneDispatcher;
 use scene_turns::{Rules, SceneValue};
+use serde_json::Value;
 use shred_world::World;
 use std::alloc::{AllocError, Global};
 
@@ -44,31 +44,39 @@ pub(crate) struct Course<R: Rules> {
     pub(crate) asked: u32,
 }
 
-/// The world in which the scene of a draft stands, with an empty queue at each of these places, and what is kept of the
-/// scene. Errors: want of memory.
+/// A document that stands in a world, with its systems on a dispatcher. Nothing is kept of its scene yet.
+#[derive(Drop)]
+pub(crate) struct Opened<R: Rules>
+where
+    R::Value: Drop,
+{
+    pub(crate) world: World<R::Value>,
+    pub(crate) places: Vec<u32>,
+    pub(crate) course: Course<R>,
+}
+
+/// The world in which the scene of a draft stands, with an empty queue at each of these places. Errors: want of memory.
 pub(crate) fn open_in_world<R: Rules>(
     rules: &R,
     limits: Limits,
     draft: &DocumentDraft<'_, R::Data, R::Global, R::System>,
     places: &[u32],
     alloc: Global,
-) -> Result<(World<R::Value>, KeptScene<R::Data, Vec<Option<R::Global>>>), AllocError>
+) -> Result<World<R::Value>, AllocError>
 where
     R::Value: Drop,
     requires limits { AreLimits limits }
     requires document { IsUnrefused R.part_of R.global_of R.kind_of R.config_of
         R.declared R.said_time (R.made_by rules.now) (R.book rules.now) draft.now }
-    ensures stands { IfOk result (λ opened. IsSceneWorld (kinds_of ⟦<R::Value as SceneValue<R::Data>>⟧.places
-        R.part_of R.columns) (R.book rules.now) (seen_of opened.0)) }
-    ensures none { IfOk result (λ opened. NoneWaits (kinds_of ⟦<R::Value as SceneValue<R::Data>>⟧.places R.part_of
-        R.columns) (seen_of opened.0)) }
-    ensures same { IfOk result (λ opened. plain_of (kinds_of ⟦<R::Value as SceneValue<R::Data>>⟧.places R.part_of
-        R.columns) (seen_of opened.0)
-        ≡ listed_scene R.part_of R.global_of (R.book rules.now) opened.1) }
-    ensures scene { IfOk result (λ opened. (plain : Draft) → (indices : ℕ)
+    ensures stands { IfOk result (λ world. IsSceneWorld (kinds_of ⟦<R::Value as SceneValue<R::Data>>⟧.places
+        R.part_of R.columns) (R.book rules.now) (seen_of world)) }
+    ensures none { IfOk result (λ world. NoneWaits (kinds_of ⟦<R::Value as SceneValue<R::Data>>⟧.places R.part_of
+        R.columns) (seen_of world)) }
+    ensures scene { IfOk result (λ world. (plain : Draft) → (indices : ℕ)
         → IsDraft R.part_of R.global_of R.kind_of R.config_of (R.book rules.now) plain draft.now
         → refusal_of indices plain ≡ None
-        → listed_scene R.part_of R.global_of (R.book rules.now) opened.1 ≡ first_scene plain) }
+        → plain_of (kinds_of ⟦<R::Value as SceneValue<R::Data>>⟧.places R.part_of R.columns) (seen_of world)
+        ≡ first_scene plain) }
 {
     let mut world = load_world(
         rules,
@@ -78,8 +86,47 @@ where
         alloc,
     )?;
     open_queues::<R>(&mut world, places, alloc)?;
-    let kept = keep_scene(rules, &world, alloc)?;
-    Ok((world, kept))
+    Ok(world)
+}
+
+/// A document that was read as JSON, put into a world. Nothing that is answered holds on to the JSON, so that it can be let
+/// go before the scene is kept.
+///
+/// Errors: `Document`, with the least refusal that stands; `Memory`.
+pub(crate) fn open_document<R: Rules>(
+    alloc: Global,
+    rules: &R,
+    limits: Limits,
+    value: &Value,
+) -> Result<Opened<R>, LoadError>
+where
+    R::Value: Drop,
+    requires { AreLimits limits }
+    ensures { MatchResult result (IsPlaced (kinds_of ⟦<R::Value as SceneValue<R::Data>>⟧.places R.part_of R.columns)
+        R.part_of
+        (placed_as (λ placed. placed.position)
+        (λ placed. placed.system) R.kind_of R.config_of R.declared R.sense R.does) (R.book rules.now) limits
+        (view value.now))
+        (IsNotLoaded (R.book rules.now) limits.indices (view value.now)) }
+{
+    let draft = match read_document(alloc, rules, limits, value) {
+        Ok(draft) => draft,
+        Err(error) => return Err(error),
+    };
+    let Ok(places) = places_of_systems(draft.entries.as_slice(), alloc) else {
+        return Err(LoadError::Memory);
+    };
+    let Ok(world) = open_in_world(rules, limits, &draft, places.as_slice(), alloc) else {
+        return Err(LoadError::Memory);
+    };
+    let Ok(course) = course_of(rules, draft, alloc) else {
+        return Err(LoadError::Memory);
+    };
+    Ok(Opened {
+        world,
+        places,
+        course,
+    })
 }
 
 /// The course of a draft. Errors: want of memory.

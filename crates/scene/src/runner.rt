@@ -10,6 +10,7 @@ ghost use Rattle.scene.specs.Running.{shown_of, rules_of, IsReady};
 use crate::frame::Scene;
 use scene_devices::{CountedRead, CountedWrite, ReadFailure, read_document, write_text};
 use scene_document::{Limits, LoadError};
+use scene_draft::{JsonError, read_json};
 use scene_rules::{DocRefusal, Report};
 use scene_turns::{Rules, SceneValue};
 use std::sync::Wait;
@@ -28,14 +29,15 @@ pub enum RunError {
     Memory,
 }
 
-/// The report and the text of the run of the document in these bytes.
+/// The report and the text of the run of the document in these bytes. The bytes are let go once they are read, and their JSON
+/// once it stands in a world.
 ///
 /// Errors: `Document`, with the least refusal that stands; `Memory`.
 fn play<R: Rules + Drop + Send + Sync, H: AllocGlobal + Threads + Wait + Sync>(
     rt: &H,
     rules: R,
     limits: Limits,
-    bytes: &[u8],
+    bytes: Vec<u8>,
 ) -> Result<(Report, Vec<u8>), LoadError>
 where
     R::Value: Drop + Send + Sync,
@@ -44,10 +46,16 @@ where
     R::System: Send + Sync,
     requires { AreLimits limits }
     ensures { MatchResult result
-        (λ played. IsRunOf (R.book rules) (bounds_of limits) bytes.now played.0 played.1.items)
-        (IsNoDocument (R.book rules) (bounds_of limits) bytes.now) }
+        (λ played. IsRunOf (R.book rules) (bounds_of limits) bytes.items played.0 played.1.items)
+        (IsNoDocument (R.book rules) (bounds_of limits) bytes.items) }
 {
-    let mut scene = match Scene::open(rt.alloc(), rules, limits, bytes) {
+    let value = match read_json(rt.alloc(), bytes.as_slice()) {
+        Ok(value) => value,
+        Err(JsonError::Unreadable) => return Err(LoadError::Document(DocRefusal::Unreadable)),
+        Err(JsonError::Memory) => return Err(LoadError::Memory),
+    };
+    drop(bytes);
+    let mut scene = match Scene::load_out_of(rt.alloc(), rules, limits, value) {
         Ok(scene) => scene,
         Err(error) => return Err(error),
     };
@@ -136,7 +144,7 @@ where
         Err(ReadFailure::Read) => return Err(RunError::Read),
         Err(ReadFailure::Memory) => return Err(RunError::Memory),
     };
-    let (report, text) = match play(rt, rules, limits, bytes.as_slice()) {
+    let (report, text) = match play(rt, rules, limits, bytes) {
         Ok(played) => played,
         Err(LoadError::Document(refusal)) => return Err(RunError::Document(refusal)),
         Err(LoadError::Memory) => return Err(RunError::Memory),

@@ -1,5 +1,5 @@
 -- Numbers that are taken out of what is held, changed, and put back.
-use Rattle.std.proofs.Common.{◌≡◌, ℕ, Bool, true, false, cond, Some, refl, ap, sym, ◌∙◌, subst}
+use Rattle.std.proofs.Common.{◌≡◌, ℕ, Bool, true, false, cond, Some, Result, Ok, Err, OnOk, IfErr, refl, ap, sym, ◌∙◌, subst}
 use Rattle.std.proofs.Math.Path.{fun_ext}
 use Rattle.shred_world.specs.declared.resource_id.ResourceId.{ResourceId}
 use Rattle.shred_world.specs.ResourceIds.{same_id}
@@ -17,6 +17,13 @@ use Rattle.scene_basics.specs.declared.values.Value.{Value}
 use Rattle.scene_basics.specs.Values.{Numbers, whole_at}
 use Rattle.scene_basics.specs.Columns.{part_id}
 use Rattle.scene_basics.specs.Adding.{gained, addend, WritesNumbers, SaysOverflow, SaysWhy, StopsAdding}
+
+-- what is said of an answer, where it is known which it is
+pub came-ok : {T E : Type 0} (P : Type 0) (answer : Result T E) (value : T) → answer ≡ Ok value → OnOk answer P → P
+came-ok {T} {E} P answer value is said = subst (λ (a : Result T E). OnOk a P) is said
+
+pub came-err : {T E : Type 0} (P : E → Type 0) (answer : Result T E) (failure : E) → answer ≡ Err failure → IfErr answer P → P failure
+came-err {T} {E} P answer failure is said = subst (λ (a : Result T E). IfErr a P) is said
 
 -- a slot from which something can be taken owns it
 owns : {V : Type 0} (v : V) (slot : Slot V) → takable slot ≡ Some v → slot ≡ owned v

@@ -4,7 +4,7 @@ use Rattle.std.specs.Prelude.{IsSome, option_and_then, option_map, pos, int_le}
 use Rattle.std.specs.List.{list_any, filter, filter_map, cons_option}
 use Rattle.std.proofs.lemmas.List.Elements.{All-head, All-tail, All-weaker}
 use Rattle.std.proofs.lemmas.Map.Views.{any-filter_same}
-use Rattle.hibitset_sets.specs.BitSet.{has_member}
+use Rattle.hibitset_sets.specs.BitSet.{SetWithRoom, has_member}
 use Rattle.hibitset_sets.specs.Walk.{walk}
 use Rattle.hibitset_sets.proofs.CallerLemmas.{any-walk, members-walked}
 use Rattle.specs_layouts.specs.Masked.{Agrees}
@@ -20,7 +20,7 @@ use Rattle.scene_basics.specs.declared.values.Value.{Value}
 use Rattle.scene_basics.specs.Values.{Numbers, numbers_in, whole_at}
 use Rattle.scene_basics.specs.Adding.{numbers_of}
 use Rattle.scene_basics.specs.Asks.{death_by, birth_by, birth_at, asks, asked_for}
-use Rattle.scene_basics.specs.Asked.{number_seen, number_under, asks_at, lent_for}
+use Rattle.scene_basics.specs.Asked.{number_seen, number_under, asks_where, asks_at, lent_for}
 use Rattle.scene_basics.specs.Columns.{part_id}
 use Rattle.scene_basics.specs.Known.{basic_roll}
 use Rattle.scene_basics.specs.Names.{hp_kind}
@@ -70,51 +70,51 @@ lent-ids Births w = refl
 
 -- ---- those for whom something may be asked, among the numbers of a kind
 
-module _ (ask : Ask) (numbers : Numbers) where
+module _ (ask : Ask) (mask : SetWithRoom) (parts : ℕ → Option Whole) where
   -- those that were chosen, with those among them that are to come, are all; and each that is to come has a number
   pub record Choosing (done left : List ℕ) : Type 0 where
-    pub all : done ++ filter (asks_at ask numbers) left ≡ filter (asks_at ask numbers) (walk (has_member numbers.mask))
-    pub there : All (λ index. IsSome (whole_at numbers index)) left
+    pub all : done ++ filter (asks_where ask parts) left ≡ filter (asks_where ask parts) (walk (has_member mask))
+    pub there : All (λ index. IsSome (parts index)) left
 
-  pub choosing-first : (left : List ℕ) → left ≡ walk (has_member numbers.mask) → Agrees numbers.mask (whole_at numbers) → (done : List ℕ) → done ≡ [] → Choosing done left
+  pub choosing-first : (left : List ℕ) → left ≡ walk (has_member mask) → Agrees mask parts → (done : List ℕ) → done ≡ [] → Choosing done left
   choosing-first left is agree done none = record {
-    all = ap (λ front. front ++ filter (asks_at ask numbers) left) none ∙ ap (filter (asks_at ask numbers)) is;
-    there = subst (All (λ index. IsSome (whole_at numbers index))) (sym is) (All-weaker (λ index. has_member numbers.mask index ≡ true) (λ index. IsSome (whole_at numbers index)) (λ index member. sym (agree index) ∙ member) (walk (has_member numbers.mask)) (members-walked (has_member numbers.mask)));
+    all = ap (λ front. front ++ filter (asks_where ask parts) left) none ∙ ap (filter (asks_where ask parts)) is;
+    there = subst (All (λ index. IsSome (parts index))) (sym is) (All-weaker (λ index. has_member mask index ≡ true) (λ index. IsSome (parts index)) (λ index member. sym (agree index) ∙ member) (walk (has_member mask)) (members-walked (has_member mask)));
   }
 
   module _ (done left : List ℕ) (choosing : Choosing done left) where
-    pub choosing-last : left ≡ [] → done ≡ filter (asks_at ask numbers) (walk (has_member numbers.mask))
-    choosing-last none = sym (append-nil done) ∙ sym (ap (λ rest. done ++ filter (asks_at ask numbers) rest) none) ∙ choosing.all
+    pub choosing-last : left ≡ [] → done ≡ filter (asks_where ask parts) (walk (has_member mask))
+    choosing-last none = sym (append-nil done) ∙ sym (ap (λ rest. done ++ filter (asks_where ask parts) rest) none) ∙ choosing.all
 
     module _ (index : ℕ) (rest : List ℕ) (is : left ≡ index ∷ rest) where
-      pub choosing-there : IsSome (whole_at numbers index)
-      choosing-there = All-head (λ one. IsSome (whole_at numbers one)) index rest (subst (All (λ one. IsSome (whole_at numbers one))) is choosing.there)
+      pub choosing-there : IsSome (parts index)
+      choosing-there = All-head (λ one. IsSome (parts one)) index rest (subst (All (λ one. IsSome (parts one))) is choosing.there)
 
-      later : All (λ one. IsSome (whole_at numbers one)) rest
-      later = All-tail (λ one. IsSome (whole_at numbers one)) index rest (subst (All (λ one. IsSome (whole_at numbers one))) is choosing.there)
+      later : All (λ one. IsSome (parts one)) rest
+      later = All-tail (λ one. IsSome (parts one)) index rest (subst (All (λ one. IsSome (parts one))) is choosing.there)
 
-      before : (b : Bool) → asks_at ask numbers index ≡ b → done ++ cond b (index ∷ filter (asks_at ask numbers) rest) (filter (asks_at ask numbers) rest) ≡ filter (asks_at ask numbers) (walk (has_member numbers.mask))
-      before b asked = sym (ap (λ b. done ++ cond b (index ∷ filter (asks_at ask numbers) rest) (filter (asks_at ask numbers) rest)) asked) ∙ sym (ap (λ list. done ++ filter (asks_at ask numbers) list) is) ∙ choosing.all
+      before : (b : Bool) → asks_where ask parts index ≡ b → done ++ cond b (index ∷ filter (asks_where ask parts) rest) (filter (asks_where ask parts) rest) ≡ filter (asks_where ask parts) (walk (has_member mask))
+      before b asked = sym (ap (λ b. done ++ cond b (index ∷ filter (asks_where ask parts) rest) (filter (asks_where ask parts) rest)) asked) ∙ sym (ap (λ list. done ++ filter (asks_where ask parts) list) is) ∙ choosing.all
 
-      asked-of : (whole : Whole) (b : Bool) → whole_at numbers index ≡ Some whole → b ≡ asks ask whole.0 → asks_at ask numbers index ≡ b
+      asked-of : (whole : Whole) (b : Bool) → parts index ≡ Some whole → b ≡ asks ask whole.0 → asks_where ask parts index ≡ b
       asked-of whole b there test = ap (λ o. option_map_or (λ (one : Whole). asks ask one.0) o false) there ∙ sym test
 
-      pub choosing-taken : (whole : Whole) (b : Bool) (after : List ℕ) → whole_at numbers index ≡ Some whole → b ≡ asks ask whole.0 → b ≡ true → after ≡ done ++ index ∷ [] → Choosing after rest
+      pub choosing-taken : (whole : Whole) (b : Bool) (after : List ℕ) → parts index ≡ Some whole → b ≡ asks ask whole.0 → b ≡ true → after ≡ done ++ index ∷ [] → Choosing after rest
       choosing-taken whole b after there test on then = record {
-        all = ap (λ front. front ++ filter (asks_at ask numbers) rest) then ∙ append_assoc done (index ∷ []) (filter (asks_at ask numbers) rest) ∙ before true (asked-of whole b there test ∙ on);
+        all = ap (λ front. front ++ filter (asks_where ask parts) rest) then ∙ append_assoc done (index ∷ []) (filter (asks_where ask parts) rest) ∙ before true (asked-of whole b there test ∙ on);
         there = later;
       }
 
-      pub choosing-passed : (whole : Whole) (b : Bool) → whole_at numbers index ≡ Some whole → b ≡ asks ask whole.0 → b ≡ false → Choosing done rest
+      pub choosing-passed : (whole : Whole) (b : Bool) → parts index ≡ Some whole → b ≡ asks ask whole.0 → b ≡ false → Choosing done rest
       choosing-passed whole b there test off = record { all = before false (asked-of whole b there test ∙ off); there = later }
 
 -- whoever passes is among those that were chosen, where none is to come
-pub all-chosen : (ask : Ask) (numbers : Numbers) (done left : List ℕ) → Choosing ask numbers done left → left ≡ [] → Agrees numbers.mask (whole_at numbers) → ((index : ℕ) → has_member numbers.mask index ≡ true → index < 16777216)
-    → (index : ℕ) → asks_at ask numbers index ≡ true → list_any (eqb index) done ≡ true
-all-chosen ask numbers done left choosing none agree range index asked =
-    let member : has_member numbers.mask index ≡ true = agree index ∙ there (whole_at numbers index) asked in
-    ap (list_any (eqb index)) (choosing-last ask numbers done left choosing none)
-    ∙ any-filter_same (eqb index) (asks_at ask numbers) true (λ one same. ap (asks_at ask numbers) (sym (eqb-true index one same)) ∙ asked) (walk (has_member numbers.mask)) ∙ any-walk (has_member numbers.mask) index (range index member) member
+pub all-chosen : (ask : Ask) (mask : SetWithRoom) (parts : ℕ → Option Whole) (done left : List ℕ) → Choosing ask mask parts done left → left ≡ [] → Agrees mask parts → ((index : ℕ) → has_member mask index ≡ true → index < 16777216)
+    → (index : ℕ) → asks_where ask parts index ≡ true → list_any (eqb index) done ≡ true
+all-chosen ask mask parts done left choosing none agree range index asked =
+    let member : has_member mask index ≡ true = agree index ∙ there (parts index) asked in
+    ap (list_any (eqb index)) (choosing-last ask mask parts done left choosing none)
+    ∙ any-filter_same (eqb index) (asks_where ask parts) true (λ one same. ap (asks_where ask parts) (sym (eqb-true index one same)) ∙ asked) (walk (has_member mask)) ∙ any-walk (has_member mask) index (range index member) member
   where
     there : (o : Option Whole) → option_map_or (λ (whole : Whole). asks ask whole.0) o false ≡ true → is_some o ≡ true
     there None asked = absurd (false≢true asked)

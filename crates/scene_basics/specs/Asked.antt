@@ -27,9 +27,12 @@ number_seen w kind index = option_map (λ (whole : Whole). whole.0) (numbers_of 
 abbrev pub number_under : Holding Value → Name → ℕ → Option ℤ
 number_under w kind id = option_and_then (number_seen w kind) (index_of (basic_roll w) id)
 
--- whether something may be asked for one at an index
+-- whether something may be asked for one at an index, of numbers by their indices, and of a storage of numbers
+abbrev pub asks_where : Ask → (ℕ → Option Whole) → ℕ → Bool
+asks_where ask parts index = option_map_or (λ (whole : Whole). asks ask whole.0) (parts index) false
+
 abbrev pub asks_at : Ask → Numbers → ℕ → Bool
-asks_at ask numbers index = option_map_or (λ (whole : Whole). asks ask whole.0) (whole_at numbers index) false
+asks_at ask numbers = asks_where ask (whole_at numbers)
 
 -- what the system that asks is lent of what is held
 abbrev pub lent_for : Ask → Holding Value → Fragment

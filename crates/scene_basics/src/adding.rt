@@ -1,6 +1,5 @@
 //! The systems in a world that add something to the numbers of one kind.
 ghost use Rattle.std.specs.Prelude.{◌≡◌, Some, None, OnOk, OnErr, IfErr, IfSome, IfNone, MatchResult, option_and_then};
-ghost use Rattle.std.specs.Option.{option_copied};
 ghost use Rattle.shred_world.specs.Bundles.{owned, out, readable, with_slot};
 ghost use Rattle.shred_world.specs.Leaving.{Leaves};
 ghost use Rattle.specs_join.specs.ChangeEach.{AreChanged, IsRefused};
@@ -9,17 +8,18 @@ ghost use Rattle.scene_basics.specs.declared.values.Value.TheVariants.{NumbersVa
 ghost use Rattle.scene_basics.specs.declared.values.Whole.{Whole as Number};
 ghost use Rattle.scene_basics.specs.Values.{whole_at, global_in};
 ghost use Rattle.scene_basics.specs.Columns.{part_id, global_id};
-ghost use Rattle.scene_basics.specs.Adding.{gained, numbers_of, addend, ShowsNumbers, Adds, SaysOverflow, SaysWhy};
+ghost use Rattle.scene_basics.specs.Adding.{gained, addend, ShowsNumbers, Adds, SaysOverflow, SaysWhy};
 ghost use Rattle.scene_basics.specs.Adding.{StopsAdding};
 
 use crate::columns::part_id;
 use crate::data::Gain;
 use crate::known::id_known;
 use crate::values::{Value, Whole};
+use scene_stores::{AnyStore, change_parts};
 use shred_stages::Stop;
 use shred_world::{Holder, ResourceId};
-use specs_join::{Change, EachError, change_each};
-use specs_layouts::MaskedStorage;
+use specs_join::{Change, EachError, Join, LaidOut};
+use specs_layouts::{MaskedStorage, UnprotectedStorage};
 
 /// Adds to a number.
 ///
@@ -42,7 +42,7 @@ fn add(number: &mut Whole, by: i64) -> Result<(), ()>
 #[derive(Clone, Copy)]
 struct AddsBeside;
 
-impl<'a> Change<Whole, &'a MaskedStorage<Whole>> for AddsBeside {
+impl<'a, L: UnprotectedStorage<Whole> + 'a> Change<Whole, LaidOut<'a, Whole, L>> for AddsBeside {
     ghost use Rattle.scene_basics.specs.Adding.{gained};
 
     type Refusal = ();
@@ -70,44 +70,72 @@ impl Change<Whole, ()> for AddsEach {
     }
 }
 
-/// Adds to each number the one that a value has at its index.
+/// Changes each number that has an item of a join at its index.
 ///
-/// Errors: want of memory, and where the value has no numbers; the least index whose sum leaves the range of 64 signed
-/// bits.
-fn add_beside(
-    numbers: &mut MaskedStorage<Whole>,
-    beside: Option<&Value>,
-) -> Result<(), EachError<()>>
-    ensures ok { OnOk result (AreChanged (λ number (one : Number). gained number one.0) (whole_at numbers.old)
-        (numbers_of (option_copied beside.entry)) (whole_at numbers.new)) }
-    ensures shown { ShowsNumbers numbers.old numbers.new }
-    ensures refused { IfErr result (OnRefused (IsRefused (λ number (one : Number). gained number one.0)
-        (whole_at numbers.old) (numbers_of (option_copied beside.entry)))) }
+/// Errors: want of memory; the least index whose change is refused.
+fn change_numbers<R: Join, C: Change<Whole, R>>(
+    numbers: MaskedStorage<Whole>,
+    read: R,
+    change: &C,
+) -> (MaskedStorage<Whole>, Result<(), EachError<C::Refusal>>)
+where
+    R::Type: Drop,
+    C::Refusal: Drop,
+    ensures ok { OnOk result.1 (AreChanged (C.changed change.now) (whole_at numbers) (R.joins read)
+        (whole_at result.0)) }
+    ensures shown { ShowsNumbers numbers result.0 }
+    ensures refused { IfErr result.1 (OnRefused (IsRefused (C.changed change.now) (whole_at numbers)
+        (R.joins read))) }
 {
-    match beside {
-        Some(Value::NumbersValue(gains)) => change_each(numbers, gains, &AddsBeside),
-        _ => Err(EachError::Memory),
+    let (mask, storage) = numbers.into_parts();
+    let (changed, outcome) = change_parts(&mask, storage, read, change);
+    (MaskedStorage::from_parts(mask, changed), outcome)
+}
+
+/// Adds to each number the one that others have at its index.
+///
+/// Errors: want of memory; the least index whose sum leaves the range of 64 signed bits.
+fn add_beside(
+    numbers: MaskedStorage<Whole>,
+    gains: &MaskedStorage<Whole>,
+) -> (MaskedStorage<Whole>, Result<(), EachError<()>>)
+    ensures ok { OnOk result.1 (AreChanged (λ number (one : Number). gained number one.0) (whole_at numbers)
+        (whole_at gains.now) (whole_at result.0)) }
+    ensures shown { ShowsNumbers numbers result.0 }
+    ensures refused { IfErr result.1 (OnRefused (IsRefused (λ number (one : Number). gained number one.0)
+        (whole_at numbers) (whole_at gains.now))) }
+{
+    let mask = gains.mask();
+    match gains.inner().inner() {
+        AnyStore::Vec(layout) => change_numbers(numbers, LaidOut::new(mask, layout), &AddsBeside),
+        AnyStore::Dense(layout) => change_numbers(numbers, LaidOut::new(mask, layout), &AddsBeside),
+        AnyStore::Hash(layout) => change_numbers(numbers, LaidOut::new(mask, layout), &AddsBeside),
+        AnyStore::BTree(layout) => change_numbers(numbers, LaidOut::new(mask, layout), &AddsBeside),
     }
 }
 
 /// Adds to each number what it gains.
 ///
-/// Errors: want of memory; the least index whose sum leaves the range of 64 signed bits.
+/// Errors: want of memory, and where no numbers are seen under the kind that is gained; the least index whose sum leaves the
+/// range of 64 signed bits.
 fn add_gain<W: Holder<Value>>(
-    numbers: &mut MaskedStorage<Whole>,
+    numbers: MaskedStorage<Whole>,
     view: &W,
     gain: Gain,
-) -> Result<(), EachError<()>>
-    ensures ok { OnOk result (AreChanged gained (whole_at numbers.old) (addend gain (W.slots view.now))
-        (whole_at numbers.new)) }
-    ensures shown { ShowsNumbers numbers.old numbers.new }
-    ensures refused { IfErr result (OnRefused (IsRefused gained (whole_at numbers.old)
+) -> (MaskedStorage<Whole>, Result<(), EachError<()>>)
+    ensures ok { OnOk result.1 (AreChanged gained (whole_at numbers) (addend gain (W.slots view.now))
+        (whole_at result.0)) }
+    ensures shown { ShowsNumbers numbers result.0 }
+    ensures refused { IfErr result.1 (OnRefused (IsRefused gained (whole_at numbers)
         (addend gain (W.slots view.now)))) }
 {
     match gain {
-        Gain::Under(kind) => add_beside(numbers, view.value(part_id(kind))),
-        Gain::Each(Some(by)) => change_each(numbers, (), &AddsEach(by)),
-        Gain::Each(None) => Ok(()),
+        Gain::Under(kind) => match view.value(part_id(kind)) {
+            Some(Value::NumbersValue(gains)) => add_beside(numbers, gains),
+            _ => (numbers, Err(EachError::Memory)),
+        },
+        Gain::Each(Some(by)) => change_numbers(numbers, (), &AddsEach(by)),
+        Gain::Each(None) => (numbers, Ok(())),
     }
 }
 
@@ -165,10 +193,10 @@ pub(crate) fn add_to<H: AllocGlobal, W: Holder<Value>>(
         (StopsAdding kind.now gain (W.slots view.old) (W.slots view.new)) }
     ensures leaves { Leaves (W.slots view.old) (W.slots view.new) }
 {
-    let Some(mut numbers) = take_numbers(view, kind) else {
+    let Some(numbers) = take_numbers(view, kind) else {
         return Err(Stop::Memory);
     };
-    let outcome = add_gain(&mut numbers, view, gain);
+    let (numbers, outcome) = add_gain(numbers, view, gain);
     view.put(part_id(kind), Value::NumbersValue(numbers));
     match outcome {
         Ok(()) => Ok(()),

@@ -3,24 +3,26 @@ ghost use Rattle.std.specs.Prelude.{◌≡◌, option_copied, ◌==◌, ◌++◌
 ghost use Rattle.std.specs.Prelude.{option_map};
 ghost use Rattle.std.specs.List.{filter_map, list_any};
 ghost use Rattle.std.specs.Option.{option_to_list};
+ghost use Rattle.specs_layouts.specs.Masked.{Agrees};
 ghost use Rattle.scene_rules.specs.Rulebook.{leaves};
 ghost use Rattle.scene_rules.specs.Queues.{waiting, plain_command, plain_commands};
 ghost use Rattle.scene_basics.specs.Names.{hp_kind, pos_kind};
 ghost use Rattle.scene_basics.specs.Numbers.{counting, part_of};
 ghost use Rattle.scene_basics.specs.Asks.{death_by, birth_by, asks, asked_for, asked_of, Asking, IsNotAsked};
 ghost use Rattle.scene_basics.specs.Values.{numbers_in};
-ghost use Rattle.scene_basics.specs.Asked.{number_seen, number_under, asks_at, lent_for, StopsAsking};
+ghost use Rattle.scene_basics.specs.Asked.{number_seen, number_under, asks_where, asks_at, lent_for, StopsAsking};
 
 use crate::columns::part_id;
 use crate::data::{Ask, Datum, HP, POS};
 use crate::known::{ids_in_order, index_under};
 use crate::values::{Value, Whole};
-use hibitset::BitSetLike;
+use hibitset::{BitSet, BitSetLike};
 use scene_rules::{Command, Queue};
+use scene_stores::AnyStore;
 use scene_turns::stop_for;
 use shred_stages::Stop;
 use shred_world::Holder;
-use specs_layouts::MaskedStorage;
+use specs_layouts::{MaskedStorage, UnprotectedStorage};
 use std::alloc::{AllocError, Global};
 
 /// The number at an index under a kind.
@@ -127,6 +129,28 @@ fn may_ask(ask: Ask, hp: &Whole) -> bool
     }
 }
 
+/// The indices of a layout at which something may be asked, where those with a number are those of a mask. Errors: want of
+/// memory.
+fn indices_in<L: UnprotectedStorage<Whole>>(
+    alloc: Global,
+    mask: &BitSet,
+    layout: &L,
+    ask: Ask,
+) -> Result<Vec<u32>, AllocError>
+    requires { Agrees mask.now (L.part_at layout.now) }
+    ensures { IfOk result (λ indices. (index : ℕ) → asks_where ask (L.part_at layout.now) index ≡ true
+        → list_any (λ other. index == other) indices.items ≡ true) }
+{
+    let _words = mask.layer0_as_slice();
+    let mut indices = Vec::new(alloc);
+    for index in mask.iter() {
+        if may_ask(ask, layout.get(index)) {
+            indices.push(index)?;
+        }
+    }
+    Ok(indices)
+}
+
 /// The indices at which something may be asked. Errors: want of memory.
 fn indices_asking(
     alloc: Global,
@@ -136,13 +160,13 @@ fn indices_asking(
     ensures { IfOk result (λ indices. (index : ℕ) → asks_at ask numbers.now index ≡ true
         → list_any (λ other. index == other) indices.items ≡ true) }
 {
-    let mut indices = Vec::new(alloc);
-    for index in numbers.mask().iter() {
-        if may_ask(ask, numbers.get(index)) {
-            indices.push(index)?;
-        }
+    let mask = numbers.mask();
+    match numbers.inner().inner() {
+        AnyStore::Vec(layout) => indices_in(alloc, mask, layout, ask),
+        AnyStore::Dense(layout) => indices_in(alloc, mask, layout, ask),
+        AnyStore::Hash(layout) => indices_in(alloc, mask, layout, ask),
+        AnyStore::BTree(layout) => indices_in(alloc, mask, layout, ask),
     }
-    Ok(indices)
 }
 
 /// The numbers that a value holds, if it holds some.

@@ -1,5 +1,6 @@
 //! The parts of the four kinds in the values of a world.
 ghost use Rattle.std.specs.Prelude.{◌≡◌, ◌<◌, ◌++◌, [], length, map, None, IfOk, OnOk, OnErr, option_map};
+ghost use Rattle.specs_layouts.specs.Masked.{Agrees};
 ghost use Rattle.scene_turns.specs.Putting.{named_in, part_read, each_there, PutsIn, TakesOut, SameColumn, Registers};
 ghost use Rattle.scene_basics.specs.declared.data.Datum.TheVariants.{Whole as DatumWhole};
 ghost use Rattle.scene_basics.specs.Values.{whole_at};
@@ -9,10 +10,11 @@ ghost use Rattle.scene_basics.specs.Registering.{HasNumbers, HasOwners};
 
 use crate::data::{Datum, HP, OWNER, POS, VEL};
 use crate::values::{Owner, Value, Whole};
-use scene_stores::{Store, scene_storage};
+use hibitset::BitSet;
+use scene_stores::{AnyStore, Store, scene_storage};
 use shred_world::{ResourceId, World};
 use specs_entity::Entity;
-use specs_layouts::MaskedStorage;
+use specs_layouts::{MaskedStorage, UnprotectedStorage};
 use std::alloc::{AllocError, Global};
 
 /// Where the parts of a kind stand.
@@ -176,6 +178,39 @@ fn number_at(numbers: &MaskedStorage<Whole>, index: u32) -> Option<Datum>
     }
 }
 
+/// The number of a layout at an index, if there is one. The indices with a number are those of `mask`.
+fn number_in<L: UnprotectedStorage<Whole>>(mask: &BitSet, layout: &L, index: u32) -> Option<Datum>
+    requires { Agrees mask.now (L.part_at layout.now) }
+    ensures { result ≡ option_map (λ whole. DatumWhole whole.0) (L.part_at layout.now index) }
+{
+    if mask.contains(index) {
+        Some(Datum::Whole(layout.get(index).0))
+    } else {
+        None
+    }
+}
+
+/// The numbers of a layout at the indices of these entities, each behind the id behind which its entity stands. The indices
+/// with a number are those of `mask`. Errors: want of memory.
+fn numbers_in<L: UnprotectedStorage<Whole>>(
+    mask: &BitSet,
+    layout: &L,
+    entities: &[(u64, u32)],
+    alloc: Global,
+) -> Result<Vec<(u64, Option<Datum>)>, AllocError>
+    requires { Agrees mask.now (L.part_at layout.now) }
+    ensures { IfOk result (λ found. each_there (λ datum. datum) found.items
+        ≡ each_there (λ index. option_map (λ whole. DatumWhole whole.0) (L.part_at layout.now index)) entities.now) }
+{
+    let mut found = Vec::with_capacity(alloc, entities.len())?;
+    for entity in entities {
+        if let Some(datum) = number_in(mask, layout, entity.1) {
+            found.push((entity.0, Some(datum)))?;
+        }
+    }
+    Ok(found)
+}
+
 /// The number at an index, if there is one.
 pub(crate) fn number_datum(value: &Value, index: u32, ids: &[u64]) -> Option<Datum>
     requires { length ids.now ≡ length (named_in (number_column value.now index)) }
@@ -196,11 +231,11 @@ pub(crate) fn numbers_each(
     ensures { IfOk result (λ found. each_there (λ datum. datum) found.items
         ≡ each_there (λ index. option_map (λ whole. DatumWhole whole.0) (whole_at numbers.now index)) entities.now) }
 {
-    let mut found = Vec::with_capacity(alloc, entities.len())?;
-    for entity in entities {
-        if let Some(datum) = number_at(numbers, entity.1) {
-            found.push((entity.0, Some(datum)))?;
-        }
+    let mask = numbers.mask();
+    match numbers.inner().inner() {
+        AnyStore::Vec(layout) => numbers_in(mask, layout, entities, alloc),
+        AnyStore::Dense(layout) => numbers_in(mask, layout, entities, alloc),
+        AnyStore::Hash(layout) => numbers_in(mask, layout, entities, alloc),
+        AnyStore::BTree(layout) => numbers_in(mask, layout, entities, alloc),
     }
-    Ok(found)
 }

@@ -51,6 +51,15 @@ pub enum Value {
     GlobalValue(i64),
 }
 
+/// A value that is none of what was asked for, as it came.
+#[cold]
+#[inline(never)]
+fn hand_back<T>(value: Value) -> Result<T, Value>
+    ensures { result ≡ Err value }
+{
+    Err(value)
+}
+
 impl Resource<Value> for EntitiesRes {
     ghost kind_number = { 0 };
 
@@ -73,7 +82,7 @@ impl Resource<Value> for EntitiesRes {
     fn unwrap(value: Value) -> Result<Self, Value> {
         match value {
             Value::EntitiesValue(resource) => Ok(resource),
-            other => Err(other),
+            other => hand_back(other),
         }
     }
 
@@ -114,7 +123,7 @@ impl Resource<Value> for MaskedStorage<SceneMarker> {
     fn unwrap(value: Value) -> Result<Self, Value> {
         match value {
             Value::MarkersValue(resource) => Ok(resource),
-            other => Err(other),
+            other => hand_back(other),
         }
     }
 
@@ -155,7 +164,7 @@ impl Resource<Value> for SceneMarkerAllocator {
     fn unwrap(value: Value) -> Result<Self, Value> {
         match value {
             Value::AllocatorValue(resource) => Ok(resource),
-            other => Err(other),
+            other => hand_back(other),
         }
     }
 
@@ -196,7 +205,7 @@ impl QueueValue<Datum> for Value {
     fn unwrap_queue(value: Value) -> Result<Queue<Datum>, Value> {
         match value {
             Value::QueueValue(queue) => Ok(queue),
-            other => Err(other),
+            other => hand_back(other),
         }
     }
 }

@@ -1,3 +1,4 @@
 pub mod Stores
+pub mod Changes
 pub mod StoreLemmas
 pub mod Markers

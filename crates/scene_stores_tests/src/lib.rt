@@ -1,6 +1,9 @@
 //! Callers of a scene's storages and markers, the same in each layout, and rows of what they answer.
 #![tactic(auto)]
 
+pub mod adding;
+#[cfg(test)]
+mod changes;
 pub mod course;
 #[cfg(test)]
 mod markers;

@@ -62,8 +62,31 @@ impl<T, S> FlaggedStorage<T, S> {
         &self.inner
     }
 
-    /// Whether a change is told.
-    fn is_telling(&self) -> bool
+    /// A storage of these: the layout that holds the parts, the channel, and whether emission is on.
+    pub fn from_parts(inner: S, channel: EventChannel<ComponentEvent>, emission: bool) -> Self
+        ensures inner { result.inner ≡ inner }
+        ensures channel { result.channel ≡ channel }
+        ensures emission { result.emission ≡ emission }
+    {
+        FlaggedStorage {
+            channel,
+            inner,
+            emission,
+            part: PhantomData,
+        }
+    }
+
+    /// The layout that holds the parts, the channel, and whether emission is on.
+    pub fn into_parts(self) -> (S, EventChannel<ComponentEvent>, bool)
+        ensures inner { result.0 ≡ self.inner }
+        ensures channel { result.1 ≡ self.channel }
+        ensures emission { result.2 ≡ self.emission }
+    {
+        (self.inner, self.channel, self.emission)
+    }
+
+    /// Whether a change is told: emission is on, and the channel has a reader.
+    pub fn is_telling(&self) -> bool
         ensures { result ≡ tells self.now }
     {
         self.emission && self.channel.has_readers()

@@ -1,5 +1,5 @@
 -- A join that begins: its walk has the indices with a value.
-use Rattle.std.proofs.Common.{◌≡◌, ℕ, zero, suc, ◌+◌, ◌<◌, ◌≤◌, ltb, List, [], ◌∷◌, Bool, true, false, ◌&&◌, cond, filter, Option, Some, None, is_some, IsSome, inl, inr, ◌⊎◌, refl, sym, ap, subst, ◌∙◌, arith}
+use Rattle.std.proofs.Common.{◌≡◌, ℕ, zero, suc, ◌+◌, ◌<◌, ltb, List, [], ◌∷◌, Bool, true, false, ◌&&◌, cond, filter, Option, Some, None, is_some, IsSome, inl, inr, ◌⊎◌, refl, sym, ap, subst, ◌∙◌, arith}
 use Rattle.std.proofs.lemmas.Bool.{lt-ltb, true≢false}
 use Rattle.std.specs.List.{range_with_len, cons_option}
 use Rattle.hibitset_sets.specs.Walk.{walk}

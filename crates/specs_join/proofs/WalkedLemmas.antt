@@ -1,5 +1,5 @@
 -- A walk ascends.
-use Rattle.std.proofs.Common.{◌≡◌, ℕ, zero, suc, ◌+◌, ◌<◌, ◌≤◌, List, [], ◌∷◌, Bool, true, false, cond, filter, inl, inr, refl, sym, ap, subst, ◌∙◌, arith}
+use Rattle.std.proofs.Common.{◌≡◌, ℕ, zero, suc, ◌+◌, ◌<◌, ◌≤◌, List, [], ◌∷◌, Bool, true, false, cond, filter, inl, inr, refl, sym, subst, arith}
 use Rattle.std.specs.List.{range_with_len}
 use Rattle.hibitset_sets.specs.Walk.{walk}
 use Rattle.specs_layouts.specs.ToCome.{IsToCome}

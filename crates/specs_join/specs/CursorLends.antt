@@ -1,6 +1,6 @@
 -- What a cursor ends as, where the part at its index was lent.
 use mir.Syntax.{named}
-use Rattle.std.specs.Prelude.{ℕ, [], Result, unwrap_or}
+use Rattle.std.specs.Prelude.{[], Result, unwrap_or}
 use Rattle.std.specs.Borrow.{Fml, RattleType, MutBor, LendsIfOk}
 use Rattle.specs_layouts.specs.MaskedLends.{StorageMembers, layout_ghosts, default_ghosts}
 use Rattle.specs_join.specs.Cursors.{with_part_written}

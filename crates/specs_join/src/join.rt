@@ -10,6 +10,7 @@ pub mod change;
 pub mod change_each;
 pub mod cursor;
 pub mod iter;
+pub mod laid_out;
 mod living;
 mod maybe;
 mod nothing;

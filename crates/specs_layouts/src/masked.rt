@@ -52,6 +52,15 @@ impl<T: Component> MaskedStorage<T> {
         }
     }
 
+    /// A storage of the parts of a layout, beside the mask of the indices that have one.
+    pub fn from_parts(mask: BitSet, inner: T::Storage) -> Self
+        requires { Agrees mask (T.Storage.part_at inner) }
+        ensures mask { result.mask ≡ mask }
+        ensures inner { result.inner ≡ inner }
+    {
+        MaskedStorage { mask, inner }
+    }
+
     /// The indices that have a part.
     pub fn mask(&self) -> &BitSet
         ensures value { result.now ≡ self.now.mask }

@@ -40,6 +40,50 @@ impl SharedSteps {
         self.search(parts, mask)
     }
 
+    /// The next index that both sets have, or none where there is none, and the walk behind it. What is still to come is
+    /// told of sets that are as they were at the steps before.
+    ///
+    /// As the walk is handed on and not lent, it can stay in registers from one index to the next; what looks for the next
+    /// word gets a walk of its own, made of the same masks.
+    #[inline(always)]
+    pub fn stepped<M: BitSetLike + Drop>(
+        self,
+        parts: &BitSet,
+        mask: &M,
+    ) -> (Option<Index>, SharedSteps)
+        ensures { MatchOption result.0
+            ((still_shared M.members parts.now mask.now self ≡ [])
+            × (still_shared M.members parts.now mask.now result.1 ≡ []))
+            (λ index. still_shared M.members parts.now mask.now self
+            ≡ index ∷ still_shared M.members parts.now mask.now result.1) }
+    {
+        let SharedSteps { mut masks, prefix } = self;
+        if masks[0] != 0 {
+            let index = take_in_word(&mut masks, &prefix);
+            return (Some(index), SharedSteps { masks, prefix });
+        }
+        SharedSteps { masks, prefix }.searched(parts, mask)
+    }
+
+    /// `stepped` by a step of a walk, which looks for the next word.
+    #[cold]
+    #[inline(never)]
+    fn searched<M: BitSetLike + Drop>(
+        self,
+        parts: &BitSet,
+        mask: &M,
+    ) -> (Option<Index>, SharedSteps)
+        ensures { MatchOption result.0
+            ((still_shared M.members parts.now mask.now self ≡ [])
+            × (still_shared M.members parts.now mask.now result.1 ≡ []))
+            (λ index. still_shared M.members parts.now mask.now self
+            ≡ index ∷ still_shared M.members parts.now mask.now result.1) }
+    {
+        let mut steps = self;
+        let next = steps.search(parts, mask);
+        (next, steps)
+    }
+
     /// `step` by a step of a walk, which looks for the next word.
     fn search<M: BitSetLike + Drop>(&mut self, parts: &BitSet, mask: &M) -> Option<Index>
         ensures { MatchOption result

@@ -1,4 +1,4 @@
-use Rattle.std.proofs.Common.{◌≡◌, [], sym, ◌∙◌, ap}
+use Rattle.std.proofs.Common.{◌≡◌, [], ◌∙◌, ap}
 use Rattle.scene_document.proofs.CallerLemmas.{unrefused}
 use Rattle.scene_turns.specs.Places.{kinds_of}
 use Rattle.std.proofs.lemmas.List.Elements.{All-weaker}
@@ -9,12 +9,6 @@ use Rattle.scene_frames.proofs.CallerLemmas.{none-left}
 use Rattle.scene_acts.specs.Acts.{seen_of}
 use Rattle.scene_staging.proofs.CallerLemmas.{opened-scene, opened-stands, empty-commands}
 use Rattle.scene.proofs.load.open_in_world.Goals as goal
-
-pub keep_scene-requires : goal.keep_scene-requires
-keep_scene-requires g c =
-    let document = c.requires.document in
-    let passed = unrefused (g.R.DocumentRules.book c.args.rules.now) document.indices document.json document.plain document.is in
-    record { stands = opened-stands g.R.Value.SceneValue.places g.R.DocumentRules.part_of g.R.Rules.columns g.met.R.Rules.apart (g.R.DocumentRules.book c.args.rules.now) c.args.places.now c.in_ok-world.world c.open_queues.new.world c.in_ok-open_queues.ensures.others (c.in_ok-world.ensures.stands document.plain document.indices document.says passed).world }
 
 pub returns-clause-stands : goal.returns-clause-stands
 returns-clause-stands g c =
@@ -30,10 +24,7 @@ returns-clause-none g c =
     (λ id e m a p none. ap (λ slot. readable (slot_of slot)) (c.in_ok-open_queues.ensures.others id none))
     (λ place none. c.in_ok-world.ensures.quiet place)
 
-pub returns-clause-same : goal.returns-clause-same
-returns-clause-same g c = sym c.in_ok-kept.ensures
-
 pub returns-clause-scene : goal.returns-clause-scene
 returns-clause-scene g c = λ plain indices says passed.
-    c.in_ok-kept.ensures ∙ opened-scene g.R.Value.SceneValue.places g.R.DocumentRules.part_of g.R.Rules.columns g.met.R.Rules.apart c.args.places.now c.in_ok-world.world c.open_queues.new.world c.in_ok-open_queues.ensures.others
+    opened-scene g.R.Value.SceneValue.places g.R.DocumentRules.part_of g.R.Rules.columns g.met.R.Rules.apart c.args.places.now c.in_ok-world.world c.open_queues.new.world c.in_ok-open_queues.ensures.others
     ∙ (c.in_ok-world.ensures.stands plain indices says passed).same

@@ -9,7 +9,7 @@ use Rattle.scene_basics.specs.declared.values.Value.TheVariants.{NumbersValue}
 use Rattle.scene_basics.specs.Values.{whole_at}
 use Rattle.scene_basics.specs.Columns.{part_id}
 use Rattle.scene_basics.specs.Adding.{gained, addend}
-use Rattle.scene_basics.proofs.AddLemmas.{put-back, stops-adding}
+use Rattle.scene_basics.proofs.AddLemmas.{came-ok, came-err, put-back, stops-adding}
 use Rattle.scene_basics.proofs.adding.add_to.Goals as goal
 
 pub returns-in-Ok-clause-ends : goal.returns-in-Ok-clause-ends
@@ -17,7 +17,7 @@ returns-in-Ok-clause-ends g c =
     let seen = g.W.Holder.slots c.args.view.now in
     let id : ResourceId = part_id c.args.kind.now in
     let before = c.in-Some.numbers in
-    let after = c.add_gain-outcome.new.numbers in
+    let after = c.add_gain-numbers.result.0 in
     record {
       before = before;
       after = after;
@@ -26,8 +26,9 @@ returns-in-Ok-clause-ends g c =
         others = c.put.ensures ∙ ap (λ at. with_slot (g.W.Holder.slots c.take_numbers.new.view) at (owned (NumbersValue after))) c.part_id.ensures
             ∙ ap (λ w. with_slot w id (owned (NumbersValue after))) c.in-Some.ensures.taken ∙ put-back seen id (NumbersValue after);
       };
-      changed = subst (λ (w : Holding Value). AreChanged gained (whole_at before) (addend c.args.gain w) (whole_at after)) c.in-Some.ensures.taken c.in-Ok.ensures.ok;
-      shown = c.add_gain-outcome.ensures.shown;
+      changed = subst (λ (w : Holding Value). AreChanged gained (whole_at before) (addend c.args.gain w) (whole_at after)) c.in-Some.ensures.taken
+          (came-ok (AreChanged gained (whole_at before) (addend c.args.gain (g.W.Holder.slots c.take_numbers.new.view)) (whole_at after)) c.add_gain-numbers.result.1 c.in-Ok.field-0 c.in-Ok.is c.add_gain-numbers.ensures.ok);
+      shown = c.add_gain-numbers.ensures.shown;
     }
 
 pub returns-in-Err-clause-ends : goal.returns-in-Err-clause-ends
@@ -35,17 +36,18 @@ returns-in-Err-clause-ends g c =
     let seen = g.W.Holder.slots c.args.view.now in
     let id : ResourceId = part_id c.args.kind.now in
     let before = c.in-Some.numbers in
-    let after = c.add_gain-outcome.new.numbers in
+    let after = c.add_gain-numbers.result.0 in
     stops-adding c.args.kind.now c.args.gain seen (g.W.Holder.slots c.put.new.self) before after c.stop_for.result c.in-Err.error
     (record {
       written = c.in-Some.ensures.there;
       others = c.put.ensures ∙ ap (λ at. with_slot (g.W.Holder.slots c.take_numbers.new.view) at (owned (NumbersValue after))) c.part_id.ensures
           ∙ ap (λ w. with_slot w id (owned (NumbersValue after))) c.in-Some.ensures.taken ∙ put-back seen id (NumbersValue after);
     })
-    (subst (λ (w : Holding Value). OnRefused (IsRefused gained (whole_at before) (addend c.args.gain w)) c.in-Err.error) c.in-Some.ensures.taken c.in-Err.ensures.refused)
+    (subst (λ (w : Holding Value). OnRefused (IsRefused gained (whole_at before) (addend c.args.gain w)) c.in-Err.error) c.in-Some.ensures.taken
+    (came-err (OnRefused (IsRefused gained (whole_at before) (addend c.args.gain (g.W.Holder.slots c.take_numbers.new.view)))) c.add_gain-numbers.result.1 c.in-Err.error c.in-Err.is c.add_gain-numbers.ensures.refused))
     c.stop_for.ensures
 
 pub returns-in-Err-clause-leaves : goal.returns-in-Err-clause-leaves
 returns-in-Err-clause-leaves g c =
-    leaves-one _ _ _ (part_id c.args.kind.now) (NumbersValue c.in-Some.numbers) (NumbersValue c.add_gain-outcome.new.numbers) (ap takable c.in-Some.ensures.there) c.in-Some.ensures.taken
-    (c.put.ensures ∙ ap (λ at. with_slot (g.W.Holder.slots c.take_numbers.new.view) at (owned (NumbersValue c.add_gain-outcome.new.numbers))) c.part_id.ensures)
+    leaves-one _ _ _ (part_id c.args.kind.now) (NumbersValue c.in-Some.numbers) (NumbersValue c.add_gain-numbers.result.0) (ap takable c.in-Some.ensures.there) c.in-Some.ensures.taken
+    (c.put.ensures ∙ ap (λ at. with_slot (g.W.Holder.slots c.take_numbers.new.view) at (owned (NumbersValue c.add_gain-numbers.result.0))) c.part_id.ensures)

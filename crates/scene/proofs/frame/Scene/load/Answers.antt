@@ -1,68 +1,11 @@
-use Rattle.std.proofs.Common.{◌≡◌, ℕ, map, arith, true, refl, sym, ◌∙◌, ap, subst, All}
-use Rattle.std.proofs.Math.Path.{fun_ext}
+use Rattle.std.proofs.Common.{sym, subst}
+use Rattle.std.proofs.lemmas.Result.{MatchResult-weaker}
 use Rattle.serde_json.specs.View.{view}
-use Rattle.scene_rules.specs.Scenes.{IsProper, PartsStand, lives}
-use Rattle.scene_draft.specs.DraftViews.{plain_draft}
-use Rattle.scene_document.specs.Openings.{first_scene, frames_of, all_systems}
-use Rattle.scene_document.proofs.CallerLemmas.{unrefused, few-entries}
-use Rattle.scene_turns.specs.Places.{kinds_of}
-use Rattle.scene_turns.specs.Turns.{placed_as}
-use Rattle.scene_systems.specs.Orders.{turn_order}
-use Rattle.scene_rules.specs.Lawful.{IsLawful}
-use Rattle.scene_frames.specs.Waiting.{PlacesAscend}
-use Rattle.scene.specs.Running.{listed_scene, course_of}
-use Rattle.scene.proofs.TurnLemmas.{is_opening, is_nothing_yet}
-use Rattle.scene_frames.proofs.CallerLemmas.{seen-stand}
-use Rattle.scene.proofs.PlaceLemmas.{places-ascend, order-there, order-described}
+use Rattle.scene_document.specs.Loading.{IsNotLoaded}
 use Rattle.scene.proofs.frame.Scene.load.Goals as goal
-
-pub places_of_systems-requires : goal.places_of_systems-requires
-places_of_systems-requires g c =
-    let few = few-entries g.R.DocumentRules.part_of g.R.DocumentRules.global_of g.R.DocumentRules.kind_of g.R.DocumentRules.config_of (g.R.DocumentRules.book c.args.rules) c.args.limits.indices c.in-Ok.ensures.0 c.in-Ok.draft c.in-Ok.ensures.2 (unrefused (g.R.DocumentRules.book c.args.rules) c.args.limits.indices (view c.args.value.now) c.in-Ok.ensures.0 c.in-Ok.ensures.1) in
-    record { few = omega (arith, few, c.as_slice.ensures.len) }
-
-pub open_in_world-requires : goal.open_in_world-requires
-open_in_world-requires g c = record { limits = c.requires; document = record { plain = c.in-Ok.ensures.0; indices = c.args.limits.indices; json = view c.args.value.now; is = c.in-Ok.ensures.1; says = c.in-Ok.ensures.2; made = c.in-Ok.ensures.3 } }
-
-pub course_of-requires : goal.course_of-requires
-course_of-requires g c = record { document = record { plain = c.in-Ok.ensures.0; indices = c.args.limits.indices; json = view c.args.value.now; is = c.in-Ok.ensures.1; says = c.in-Ok.ensures.2; made = c.in-Ok.ensures.3 } }
 
 pub returns : goal.returns
 returns g c =
-    let draft = c.in-Ok.ensures.0 in
-    let says = c.in-Ok.ensures.2 in
-    let passed = unrefused (g.R.DocumentRules.book c.args.rules) c.args.limits.indices (view c.args.value.now) draft c.in-Ok.ensures.1 in
-    let opened = c.in-Ok-open_in_world.ensures in
-    let course = c.in-Ok-course_of.ensures in
-    let scene : listed_scene g.R.DocumentRules.part_of g.R.DocumentRules.global_of (g.R.DocumentRules.book c.args.rules) c.in-Ok-open_in_world.kept ≡ first_scene draft = opened.scene draft c.args.limits.indices says passed in
-    let frames : (frame : ℕ) → frames_of draft frame ≡ course_of g.R.DocumentRules.part_of (turn_order (placed_as (λ placed. placed.position) (λ placed. placed.system) g.R.DocumentRules.kind_of g.R.DocumentRules.config_of g.R.DocumentRules.declared g.R.Rules.sense g.R.Rules.does).plain c.in-Ok-course_of.course.dispatcher) c.in-Ok-course_of.course.commands.items frame = λ frame. course.frames draft frame says in
-    let places = c.in-Ok-places_of_systems.ensures draft (says.entries ∙ ap (map plain_draft) (sym c.as_slice.ensures.value)) in
-    let order = order-there draft 0 in
-    let proper : IsProper (g.R.DocumentRules.book c.args.rules) (first_scene draft) = subst (IsProper (g.R.DocumentRules.book c.args.rules)) (opened.same ∙ scene) opened.stands.proper in
-    record {
-      same_rules = refl;
-      ready = record {
-        stands = λ none. record {
-          ready = record { world = opened.stands; staged = course.staged; locals = course.locals };
-          none = opened.none;
-          places = record {
-            ascend = subst PlacesAscend (sym places) (places-ascend draft);
-            there = subst (λ list. All (λ system. lives system.position list ≡ true) (turn_order (placed_as (λ placed. placed.position) (λ placed. placed.system) g.R.DocumentRules.kind_of g.R.DocumentRules.config_of g.R.DocumentRules.declared g.R.Rules.sense g.R.Rules.does).plain c.in-Ok-course_of.course.dispatcher)) (sym places) (subst (All (λ system. lives system.position (map (λ one. one.position) (all_systems draft)) ≡ true)) (ap (λ frame. frame.order) (frames 0)) order);
-          };
-          same = opened.same;
-        };
-        lawful = course.lawful;
-        proper = subst (IsProper (g.R.DocumentRules.book c.args.rules)) (sym scene) proper;
-      };
-      document = (
-        draft,
-        c.in-Ok.ensures.1,
-        is_opening c.args.limits.commands draft _ scene (fun_ext (λ number. sym (frames number))) refl (course.asked ∙ sym says.frames) (is_nothing_yet _ (c.from_vec.ensures ∙ c.new.ensures.items)),
-        record {
-          proper = proper;
-          stand = subst (λ s. PartsStand ((g.R.DocumentRules.book c.args.rules)).part_names s.part) (opened.same ∙ scene) (seen-stand (kinds_of g.R.Value.SceneValue.places g.R.DocumentRules.part_of g.R.Rules.columns) ((g.R.DocumentRules.book c.args.rules)).part_names c.in-Ok-open_in_world.world (g.met.R.Rules.named_so c.args.rules).parts);
-          described = λ number. order-described g.R.DocumentRules.kind_of g.R.DocumentRules.config_of (g.R.DocumentRules.book c.args.rules) draft c.in-Ok.draft.entries.items number says.entries says.made;
-          lawful = λ number. subst (λ frame. All (IsLawful (g.R.DocumentRules.book c.args.rules)) frame.commands) (sym (frames number)) (course.lawful number);
-        },
-      );
-    }
+    MatchResult-weaker c.keeping.result c.keeping.ensures
+    (λ scene says. says (view c.args.value.now) c.in-Ok.ensures)
+    (λ error is. subst (IsNotLoaded (g.R.DocumentRules.book c.args.rules) c.args.limits.indices (view c.args.value.now)) (sym is) tt)

@@ -1,17 +1,16 @@
-use Rattle.std.proofs.Common.{◌≡◌, ℕ, ◌<◌, ◌≤◌, ◌+◌, true, List, [], ◌∷◌, length, Option, Some, None, is_some, IsSome, ◌&&◌, inl, inr, refl, sym, ap, subst, ◌∙◌, arith, rules}
+use Rattle.std.proofs.Common.{◌≡◌, ℕ, ◌<◌, List, ◌∷◌, length, Option, Some, is_some, IsSome, ◌&&◌, inl, inr, refl, sym, ap, subst, ◌∙◌, arith, rules}
 use Rattle.std.specs.Option.{unwrap_or}
 use Rattle.hibitset_sets.specs.BitSet.{has_member}
-use Rattle.hibitset_sets.specs.Walk.{walk}
 use Rattle.specs_join.specs.Cursors.{indices_left}
 use Rattle.specs_layouts.specs.Parts.{Puts}
 use Rattle.specs_layouts.specs.Shows.{Shows}
 use Rattle.specs_layouts.specs.ToCome.{IsToCome}
 use Rattle.specs_layouts.proofs.CallerLemmas.{shows-refl, shows-trans, shows-written}
 use Rattle.specs_join.proofs.NewLemmas.{walk-members}
-use Rattle.std.proofs.lemmas.Bool.{and_parts, false≢true}
+use Rattle.std.proofs.lemmas.Bool.{and_parts}
 use Rattle.specs_layouts.specs.Parts.{told}
 use Rattle.specs_layouts.specs.declared.track.ComponentEvent.TheVariants as event
-use Rattle.specs_join.specs.ChangeEach.{AreChanged, AreChangedBelow, IsRefused, told_each, shared_indices}
+use Rattle.specs_join.specs.ChangeEach.{AreChangedBelow, IsRefused, told_each, shared_indices}
 use Rattle.specs_join.proofs.WalkedLemmas.{walk-later}
 use Rattle.specs_join.proofs.ChangeEachLemmas.{IsUnderWay, starts, steps, refuses, stops, put-same}
 use Rattle.specs_join.proofs.join.change_each.change_each.Given as given

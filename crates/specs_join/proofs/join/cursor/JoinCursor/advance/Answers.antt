@@ -1,4 +1,4 @@
-use Rattle.std.proofs.Common.{◌≡◌, ℕ, List, [], ◌∷◌, MatchOption, sym, ap, ◌∙◌}
+use Rattle.std.proofs.Common.{◌≡◌, [], ◌∷◌, MatchOption, sym, ap, ◌∙◌}
 use Rattle.hibitset_sets.specs.BitSet.{SetWithRoom}
 use Rattle.specs_join.specs.Steps.{still_shared}
 use Rattle.specs_join.proofs.CursorLemmas.{next-known, next-some, moved-item}

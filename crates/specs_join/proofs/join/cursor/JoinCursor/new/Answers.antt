@@ -1,4 +1,4 @@
-use Rattle.std.proofs.Common.{◌≡◌, ℕ, ◌&&◌, is_some, sym, ap, ◌∙◌}
+use Rattle.std.proofs.Common.{◌&&◌, is_some, sym, ap, ◌∙◌}
 use Rattle.hibitset_sets.specs.BitSet.{has_member}
 use Rattle.hibitset_sets.specs.Walk.{walk}
 use Rattle.hibitset_sets.proofs.CallerLemmas.{walk-same}

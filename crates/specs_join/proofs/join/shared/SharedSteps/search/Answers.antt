@@ -1,4 +1,4 @@
-use Rattle.std.proofs.Common.{◌≡◌, ◌∙◌, sym}
+use Rattle.std.proofs.Common.{◌∙◌, sym}
 use Rattle.hibitset_sets.specs.Walk.{walk, is_pending}
 use Rattle.specs_join.specs.Cursor.{shared}
 use Rattle.specs_join.proofs.CursorLemmas.{moved-item}

@@ -1,0 +1,11 @@
+use Rattle.std.proofs.Common.{sym, subst}
+use Rattle.std.proofs.lemmas.Result.{MatchResult-weaker}
+use Rattle.serde_json.specs.View.{view}
+use Rattle.scene_document.specs.Loading.{IsNotLoaded}
+use Rattle.scene.proofs.frame.Scene.load_out_of.Goals as goal
+
+pub returns : goal.returns
+returns g c =
+    MatchResult-weaker c.keeping.result c.keeping.ensures
+    (λ scene says. says (view c.args.value) c.in-Ok.ensures)
+    (λ error is. subst (IsNotLoaded (g.R.DocumentRules.book c.args.rules) c.args.limits.indices (view c.args.value)) (sym is) tt)

@@ -1,0 +1,60 @@
+use Rattle.std.proofs.Common.{◌≡◌, ℕ, map, arith, true, sym, ◌∙◌, ap, subst, All}
+use Rattle.serde_json.specs.View.{view}
+use Rattle.scene_rules.specs.Scenes.{IsProper, PartsStand, lives}
+use Rattle.scene_draft.specs.DraftViews.{plain_draft}
+use Rattle.scene_document.specs.Openings.{frames_of, all_systems}
+use Rattle.scene_document.proofs.CallerLemmas.{unrefused, few-entries}
+use Rattle.scene_turns.specs.Places.{kinds_of}
+use Rattle.scene_turns.specs.Turns.{placed_as}
+use Rattle.scene_systems.specs.Orders.{turn_order}
+use Rattle.scene_rules.specs.Lawful.{IsLawful}
+use Rattle.scene_frames.specs.Waiting.{PlacesAscend}
+use Rattle.scene.specs.Running.{course_of}
+use Rattle.scene_frames.proofs.CallerLemmas.{seen-stand}
+use Rattle.scene.proofs.PlaceLemmas.{places-ascend, order-there, order-described}
+use Rattle.scene.proofs.load.open_document.Goals as goal
+
+pub places_of_systems-requires : goal.places_of_systems-requires
+places_of_systems-requires g c =
+    let few = few-entries g.R.DocumentRules.part_of g.R.DocumentRules.global_of g.R.DocumentRules.kind_of g.R.DocumentRules.config_of (g.R.DocumentRules.book c.args.rules.now) c.args.limits.indices c.in-Ok.ensures.0 c.in-Ok.draft c.in-Ok.ensures.2 (unrefused (g.R.DocumentRules.book c.args.rules.now) c.args.limits.indices (view c.args.value.now) c.in-Ok.ensures.0 c.in-Ok.ensures.1) in
+    record { few = omega (arith, few, c.as_slice.ensures.len) }
+
+pub open_in_world-requires : goal.open_in_world-requires
+open_in_world-requires g c = record { limits = c.requires; document = record { plain = c.in-Ok.ensures.0; indices = c.args.limits.indices; json = view c.args.value.now; is = c.in-Ok.ensures.1; says = c.in-Ok.ensures.2; made = c.in-Ok.ensures.3 } }
+
+pub course_of-requires : goal.course_of-requires
+course_of-requires g c = record { document = record { plain = c.in-Ok.ensures.0; indices = c.args.limits.indices; json = view c.args.value.now; is = c.in-Ok.ensures.1; says = c.in-Ok.ensures.2; made = c.in-Ok.ensures.3 } }
+
+pub returns : goal.returns
+returns g c =
+    let draft = c.in-Ok.ensures.0 in
+    let says = c.in-Ok.ensures.2 in
+    let passed = unrefused (g.R.DocumentRules.book c.args.rules.now) c.args.limits.indices (view c.args.value.now) draft c.in-Ok.ensures.1 in
+    let opened = c.in-Ok-open_in_world.ensures in
+    let course = c.in-Ok-course_of.ensures in
+    let scene = opened.scene draft c.args.limits.indices says passed in
+    let frames : (frame : ℕ) → frames_of draft frame ≡ course_of g.R.DocumentRules.part_of (turn_order (placed_as (λ placed. placed.position) (λ placed. placed.system) g.R.DocumentRules.kind_of g.R.DocumentRules.config_of g.R.DocumentRules.declared g.R.Rules.sense g.R.Rules.does).plain c.in-Ok-course_of.course.dispatcher) c.in-Ok-course_of.course.commands.items frame = λ frame. course.frames draft frame says in
+    let places = c.in-Ok-places_of_systems.ensures draft (says.entries ∙ ap (map plain_draft) (sym c.as_slice.ensures.value)) in
+    let order = order-there draft 0 in
+    record {
+      draft = draft;
+      is = c.in-Ok.ensures.1;
+      stands = opened.stands;
+      none = opened.none;
+      scene = scene;
+      places = record {
+        ascend = subst PlacesAscend (sym places) (places-ascend draft);
+        there = subst (λ list. All (λ system. lives system.position list ≡ true) (turn_order (placed_as (λ placed. placed.position) (λ placed. placed.system) g.R.DocumentRules.kind_of g.R.DocumentRules.config_of g.R.DocumentRules.declared g.R.Rules.sense g.R.Rules.does).plain c.in-Ok-course_of.course.dispatcher)) (sym places) (subst (All (λ system. lives system.position (map (λ one. one.position) (all_systems draft)) ≡ true)) (ap (λ frame. frame.order) (frames 0)) order);
+      };
+      frames = frames;
+      lawful = course.lawful;
+      staged = course.staged;
+      locals = course.locals;
+      asked = course.asked ∙ sym says.frames;
+      begins = record {
+        proper = subst (IsProper (g.R.DocumentRules.book c.args.rules.now)) scene opened.stands.proper;
+        stand = subst (λ s. PartsStand (g.R.DocumentRules.book c.args.rules.now).part_names s.part) scene (seen-stand (kinds_of g.R.Value.SceneValue.places g.R.DocumentRules.part_of g.R.Rules.columns) (g.R.DocumentRules.book c.args.rules.now).part_names c.in-Ok-open_in_world.world (g.met.R.Rules.named_so c.args.rules.now).parts);
+        described = λ number. order-described g.R.DocumentRules.kind_of g.R.DocumentRules.config_of (g.R.DocumentRules.book c.args.rules.now) draft c.in-Ok.draft.entries.items number says.entries says.made;
+        lawful = λ number. subst (λ frame. All (IsLawful (g.R.DocumentRules.book c.args.rules.now)) frame.commands) (sym (frames number)) (course.lawful number);
+      };
+    }
