@@ -122,8 +122,8 @@ where
         Scene::keeping(alloc, rules, limits, opened)
     }
 
-    /// The scene of a document that was read as JSON, before any frame, as `load` makes it. The JSON is let go once it stands
-    /// in a world, before the scene is kept beside that.
+    /// The scene of a document that was read as JSON, before any frame, as `load` makes it. The JSON is let go once it
+    /// stands in a world, before the scene is kept beside that.
     ///
     /// Errors: those of `load`.
     pub fn load_out_of(
@@ -156,8 +156,8 @@ where
         opened: Opened<R>,
     ) -> Result<Scene<R>, LoadError>
         requires limits { AreLimits limits }
-        requires placed { (json : Json) × IsPlaced (kinds_of ⟦<R::Value as SceneValue<R::Data>>⟧.places R.part_of R.columns)
-            R.part_of
+        requires placed { (json : Json) × IsPlaced (kinds_of
+            ⟦<R::Value as SceneValue<R::Data>>⟧.places R.part_of R.columns) R.part_of
             (placed_as (λ placed. placed.position)
             (λ placed. placed.system) R.kind_of R.config_of R.declared R.sense R.does) (R.book rules) limits json
             opened }

@@ -89,8 +89,8 @@ where
     Ok(world)
 }
 
-/// A document that was read as JSON, put into a world. Nothing that is answered holds on to the JSON, so that it can be let
-/// go before the scene is kept.
+/// A document that was read as JSON, put into a world. Nothing that is answered holds on to the JSON, so that it can
+/// be let go before the scene is kept.
 ///
 /// Errors: `Document`, with the least refusal that stands; `Memory`.
 pub(crate) fn open_document<R: Rules>(

@@ -29,8 +29,8 @@ pub enum RunError {
     Memory,
 }
 
-/// The report and the text of the run of the document in these bytes. The bytes are let go once they are read, and their JSON
-/// once it stands in a world.
+/// The report and the text of the run of the document in these bytes. The bytes are let go once they are read, and
+/// their JSON once it stands in a world.
 ///
 /// Errors: `Document`, with the least refusal that stands; `Memory`.
 fn play<R: Rules + Drop + Send + Sync, H: AllocGlobal + Threads + Wait + Sync>(

@@ -62,7 +62,8 @@ impl<T, S> FlaggedStorage<T, S> {
         &self.inner
     }
 
-    /// A storage of these: the layout that holds the parts, the channel, and whether emission is on.
+    /// A storage of these: the layout that holds the parts, the channel, and whether emission is on. What was changed in
+    /// the layout while it was apart is told by no event.
     pub fn from_parts(inner: S, channel: EventChannel<ComponentEvent>, emission: bool) -> Self
         ensures inner { result.inner ≡ inner }
         ensures channel { result.channel ≡ channel }
@@ -76,7 +77,8 @@ impl<T, S> FlaggedStorage<T, S> {
         }
     }
 
-    /// The layout that holds the parts, the channel, and whether emission is on.
+    /// The layout that holds the parts, the channel, and whether emission is on. Changes of the layout are told to nobody:
+    /// who makes some where someone reads (`is_telling`) has to write the events itself.
     pub fn into_parts(self) -> (S, EventChannel<ComponentEvent>, bool)
         ensures inner { result.0 ≡ self.inner }
         ensures channel { result.1 ≡ self.channel }

@@ -2,10 +2,14 @@
 use Rattle.std.proofs.Common.{◌≡◌, ◌≢◌, ℕ, ◌<◌, ◌≤◌, List, [], ◌∷◌, Bool, true, ◌&&◌, Option, Some, None, is_some, IsSome, ◌⊎◌, inl, inr, refl, sym, ap, subst, ◌∙◌, arith}
 use Rattle.std.proofs.lemmas.Bool.{cases_eq, and_parts}
 use Rattle.hibitset_sets.specs.Walk.{walk}
-use Rattle.specs_layouts.specs.Parts.{Puts, SameParts}
+use Rattle.specs_events.specs.Channels.{Log}
+use Rattle.specs_layouts.specs.Parts.{Puts, SameParts, told}
+use Rattle.specs_layouts.specs.Shows.{Shows}
+use Rattle.specs_layouts.specs.declared.track.ComponentEvent.{ComponentEvent}
+use Rattle.specs_layouts.specs.declared.track.ComponentEvent.TheVariants.{Modified}
 use Rattle.specs_layouts.specs.ToCome.{IsToCome}
 use Rattle.specs_join.specs.ChangeEach.{after, AreChanged, AreChangedBelow, IsRefused}
-use Rattle.specs_layouts.proofs.CallerLemmas.{walk-come}
+use Rattle.specs_layouts.proofs.CallerLemmas.{walk-come, shows-trans, shows-written}
 use Rattle.specs_join.proofs.NewLemmas.{walk-members}
 
 -- an index with a part and an item
@@ -47,6 +51,15 @@ ready-next members found items left rest index is ready =
       some = λ other come. ready.some other (subst (IsToCome other) (sym is) (inr come));
       same = λ other come. ready.same other (subst (IsToCome other) (sym is) (inr come));
     }
+
+-- what was shown is shown with a part written, too
+pub shows-next : {L T : Type 0} (part_at : L → ℕ → Option T) (events : L → Log ComponentEvent) (emits : L → Bool) (written : L → ℕ → T → L)
+    → ((s : L) (index : ℕ) (part : T) → IsSome (part_at s index) → Puts (part_at s) index (Some part) (part_at (written s index part)))
+    → ((s : L) (index : ℕ) (part : T) → events (written s index part) ≡ told (emits s) (events s) (Modified index))
+    → ((s : L) (index : ℕ) (part : T) → emits (written s index part) ≡ emits s)
+    → (old now : L) (index : ℕ) (part : T) → IsSome (part_at now index) → Shows part_at events emits old now → Shows part_at events emits old (written now index part)
+shows-next part_at events emits written puts tells emission old now index part there shown =
+    shows-trans part_at events emits old now (written now index part) shown (shows-written part_at events emits written puts tells emission now index part there)
 
 -- to put what is there changes nothing
 pub put-same : {T : Type 0} (before now : ℕ → Option T) (index : ℕ) (part part' : T) → before index ≡ Some part → Puts before index (Some part') now → part' ≡ part → SameParts before now

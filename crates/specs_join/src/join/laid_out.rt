@@ -124,8 +124,17 @@ where
     let (beside, values) = read.open();
     let mut steps = SharedSteps::new(mask, &beside);
     loop {
-        let (next, rest) = steps.stepped(mask, &beside);
-        steps = rest;
+        let next = match steps.in_word() {
+            Ok((index, rest)) => {
+                steps = rest;
+                Some(index)
+            }
+            Err(walk) => {
+                let (next, rest) = walk.searched(mask, &beside);
+                steps = rest;
+                next
+            }
+        };
         let Some(index) = next else {
             return Ok(());
         };

@@ -5,14 +5,14 @@ use Rattle.specs_join.specs.Cursors.{indices_left}
 use Rattle.specs_layouts.specs.Parts.{Puts}
 use Rattle.specs_layouts.specs.Shows.{Shows}
 use Rattle.specs_layouts.specs.ToCome.{IsToCome}
-use Rattle.specs_layouts.proofs.CallerLemmas.{shows-refl, shows-trans, shows-written}
+use Rattle.specs_layouts.proofs.CallerLemmas.{shows-refl}
 use Rattle.specs_join.proofs.NewLemmas.{walk-members}
 use Rattle.std.proofs.lemmas.Bool.{and_parts}
 use Rattle.specs_layouts.specs.Parts.{told}
 use Rattle.specs_layouts.specs.declared.track.ComponentEvent.TheVariants as event
 use Rattle.specs_join.specs.ChangeEach.{AreChangedBelow, IsRefused, told_each, shared_indices}
 use Rattle.specs_join.proofs.WalkedLemmas.{walk-later}
-use Rattle.specs_join.proofs.ChangeEachLemmas.{IsUnderWay, starts, steps, refuses, stops, put-same}
+use Rattle.specs_join.proofs.ChangeEachLemmas.{IsUnderWay, starts, steps, refuses, stops, put-same, shows-next}
 use Rattle.specs_join.proofs.join.change_each.change_each.Given as given
 use Rattle.specs_join.proofs.join.change_each.change_each.Goals as goal
 
@@ -46,13 +46,12 @@ pub loop-cursor-smaller : goal.loop-cursor-smaller
 loop-cursor-smaller g c = let next = c.loop-cursor-test.ensures.some refl in shorter _ _ next.0 next.2
 
 -- what was shown is shown with the part at the next index written, too
-shows-next : (g : given.Over) → let layout = g.T.Storage.UnprotectedStorage in (old now : g.row.T-Storage.Denot) (at : Option ℕ) (index : ℕ) (part : g.row.T.Denot) → at ≡ Some index → IsSome (layout.part_at now index) → Shows layout.part_at layout.events layout.emits old now → Shows layout.part_at layout.events layout.emits old (layout.written now (unwrap_or at 0) part)
-shows-next g old now at index part is there shown =
+shows-there : (g : given.Over) → let layout = g.T.Storage.UnprotectedStorage in (old now : g.row.T-Storage.Denot) (at : Option ℕ) (index : ℕ) (part : g.row.T.Denot) → at ≡ Some index → IsSome (layout.part_at now index) → Shows layout.part_at layout.events layout.emits old now → Shows layout.part_at layout.events layout.emits old (layout.written now (unwrap_or at 0) part)
+shows-there g old now at index part is there =
     let layout = g.T.Storage.UnprotectedStorage in
     let law = g.met.T.Storage.UnprotectedStorage in
-    let here = subst (λ i. IsSome (layout.part_at now i)) (sym (ap (λ o. unwrap_or o 0) is)) there in
-    shows-trans layout.part_at layout.events layout.emits old now (layout.written now (unwrap_or at 0) part) shown
-    (shows-written layout.part_at layout.events layout.emits layout.written law.written_puts law.written_tells law.written_emits now (unwrap_or at 0) part here)
+    shows-next layout.part_at layout.events layout.emits layout.written law.written_puts law.written_tells law.written_emits old now (unwrap_or at 0) part
+    (subst (λ i. IsSome (layout.part_at now i)) (sym (ap (λ o. unwrap_or o 0) is)) there)
 
 pub loop-cursor-preserved : goal.loop-cursor-preserved
 loop-cursor-preserved g c =
@@ -85,7 +84,7 @@ loop-cursor-preserved g c =
           ∙ (ap (λ i. told_each emits (told emits (g.T.Storage.UnprotectedStorage.events inner) (event.Modified i)) (indices_left g.R.Mask.BitSetLike.members c.advance.new.self)) (ap (λ o. unwrap_or o 0) next.1.0)
           ∙ (ap (told_each emits (g.T.Storage.UnprotectedStorage.events inner)) (sym next.2)
           ∙ (ap (λ m. told_each emits (g.T.Storage.UnprotectedStorage.events m.inner) (indices_left g.R.Mask.BitSetLike.members c.loop-cursor.cursor)) moved.storage ∙ invariant.events))));
-      shows = shows-next g c.args.storage.now.inner inner c.advance.new.self.index index part' next.1.0 (ap is_some there) (subst (λ m. Shows part_at layout.events layout.emits c.args.storage.now.inner m.inner) (sym moved.storage) invariant.shows);
+      shows = shows-there g c.args.storage.now.inner inner c.advance.new.self.index index part' next.1.0 (ap is_some there) (subst (λ m. Shows part_at layout.events layout.emits c.args.storage.now.inner m.inner) (sym moved.storage) invariant.shows);
       under = steps changed (part_at c.args.storage.now.inner) joins (part_at inner) _ index _ _ next.2 (walk-later _ index _ next.2) under _ part' _ there has c.in_default.ensures.done puts;
     }
 
@@ -146,6 +145,6 @@ returns-in-Err-change-clause-shows g c =
     let same = c.advance.ensures.same_reference ∙ (c.loop-cursor.invariant.same_reference ∙ c.new-cursor.ensures.same_reference) in
     let told_so = c.drop-cursor.ensures in
     let shown =
-    shows-next g c.args.storage.now.inner inner c.advance.new.self.index next.0 c.change.new.part next.1.0 (ap is_some there)
+    shows-there g c.args.storage.now.inner inner c.advance.new.self.index next.0 c.change.new.part next.1.0 (ap is_some there)
     (subst (λ m. Shows layout.part_at layout.events layout.emits c.args.storage.now.inner m.inner) (sym c.advance.ensures.storage) c.loop-cursor.invariant.shows) in
     search (shown, told_so, same, rules)
