@@ -1,4 +1,5 @@
 pub mod TextLemmas
 pub mod ShapeLemmas
 pub mod ReadingLemmas
+pub mod PairLemmas
 pub mod CallerLemmas

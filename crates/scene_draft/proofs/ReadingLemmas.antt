@@ -76,7 +76,7 @@ much_deeper (suc more) depth ts found is = subst (λ n. value n ts ≡ Some foun
 
 -- the outline of a value nests as deep as the value, and what stands blank as deep as it stood
 mutual
-  depth-outline : (d : Data) → tree.depth (outline d) ≡ view.depth d
+  pub depth-outline : (d : Data) → tree.depth (outline d) ≡ view.depth d
   depth-outline view.null = refl
   depth-outline (view.boolean b) = refl
   depth-outline (view.number n) = refl
@@ -119,30 +119,45 @@ first_of : Json → Option (Json × List Token) → Json
 first_of other None = other
 first_of other (Some p) = p.0
 
--- a text in the order of a value, which is read, nests as deep as the reader allows
-pub shallow-read : (text : List ℕ) (d found : Data) → IsInOrder text d → read text ≡ Some found → view.depth d ≤ max_depth
+-- a text of these tokens that is read nests as deep as the reader allows
+pub shallow-tokens : (text : List ℕ) (j : Json) (found : Data) → tokens text ≡ tree.json_tokens j → read text ≡ Some found → tree.depth j ≤ max_depth
 unfolding first_of last_read
-shallow-read text d found order is =
+shallow-tokens text j found is-text is =
     let last = last_read (value max_depth (tokens text)) found is in
-    let j = order.0 in
-    let within = ap (value max_depth) (sym (order.1 ∙ sym (append-nil (tree.json_tokens j)))) ∙ last.1 in
+    let within = ap (value max_depth) (sym (is-text ∙ sym (append-nil (tree.json_tokens j)))) ∙ last.1 in
     let deep = much_deeper (tree.depth j) max_depth (tree.json_tokens j ++ []) (last.0, []) within in
     let same : j ≡ last.0 = ap (first_of j) (sym (value-json_tokens j (tree.depth j + max_depth) [] (omega arith)) ∙ deep) in
     let fits = value-depth max_depth (tokens text) [] last.0 last.1 in
-    omega (arith, depth-outline d, depth-blank j, ap tree.depth order.2, ap tree.depth same, fits)
+    omega (arith, ap tree.depth same, fits)
 
--- a text that was written for a value reads back
-pub ReadsBack-written : (text : List ℕ) (d : Data) → IsUtf8 text → IsInOrder text d → (view.depth d ≤ max_depth → read text ≡ Some d) → ReadsBack text d
-ReadsBack-written text d utf8 order shallow =
+-- so does a text in the order of a value
+pub shallow-read : (text : List ℕ) (d found : Data) → IsInOrder text d → read text ≡ Some found → view.depth d ≤ max_depth
+shallow-read text d found order is = omega (arith, depth-outline d, depth-blank order.0, ap tree.depth order.2, shallow-tokens text order.0 found order.1 is)
+
+-- a text that reads as a value where that nests no deeper than the reader allows, and is read only then, reads back
+reads-back : (text : List ℕ) (d : Data) → IsUtf8 text → ((found : Data) → read text ≡ Some found → view.depth d ≤ max_depth) → (view.depth d ≤ max_depth → read text ≡ Some d) → ReadsBack text d
+reads-back text d utf8 fits shallow =
     let known : json_of text ≡ read text = ap (λ b. cond b (read text) None) (is_utf8-from_IsUtf8 text utf8) in
     record {
       only = λ found is. here (read text) refl found (sym known ∙ is);
-      shallow = λ fits. known ∙ shallow fits;
+      shallow = λ low. known ∙ shallow low;
     }
   where
     here : (o : Option Data) → read text ≡ o → (found : Data) → o ≡ Some found → found ≡ d
     here None is found same = absurd (none-some found same)
-    here (Some one) is found same = ap (λ o. unwrap_or o found) (sym (is ∙ same) ∙ shallow (shallow-read text d found order (is ∙ same)))
+    here (Some one) is found same = ap (λ o. unwrap_or o found) (sym (is ∙ same) ∙ shallow (fits found (is ∙ same)))
+
+-- a text that was written for a value reads back,
+pub ReadsBack-written : (text : List ℕ) (d : Data) → IsUtf8 text → IsInOrder text d → (view.depth d ≤ max_depth → read text ≡ Some d) → ReadsBack text d
+ReadsBack-written text d utf8 order = reads-back text d utf8 (λ found is. shallow-read text d found order is)
+
+-- and so does one with the tokens of a value's outline, where that is read as the value
+pub ReadsBack-printed : (text : List ℕ) (d : Data) → IsUtf8 text → tokens text ≡ tree.json_tokens (outline d) → (view.depth d ≤ max_depth → of_json (outline d) ≡ Some d) → ReadsBack text d
+ReadsBack-printed text d utf8 is-text outlined =
+    reads-back text d utf8 (λ found is. omega (arith, depth-outline d, shallow-tokens text (outline d) found is-text is))
+    (λ low. ap (λ o. option_and_then of_json (option_and_then (λ p. if_last p.0 p.1) o))
+    (ap (value max_depth) (is-text ∙ sym (append-nil (tree.json_tokens (outline d)))) ∙ value-json_tokens (outline d) max_depth [] (omega (arith, depth-outline d, low)))
+    ∙ outlined low)
 
 -- so does one that a writer gave
 pub IfOk-reads : {V E : Type 0} (items : V → List ℕ) (r : Result V E) (d : Data) → IfOk r (λ v. IsUtf8 (items v)) → IfOk r (λ v. IsInOrder (items v) d) → IfOk r (λ v. view.depth d ≤ max_depth → read (items v) ≡ Some d) → IfOk r (λ v. ReadsBack (items v) d)

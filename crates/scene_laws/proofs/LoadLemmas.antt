@@ -19,7 +19,8 @@ use Rattle.scene_draft.specs.Drafts.{draft_from}
 use Rattle.scene_document.specs.Documents.{listed_ids, has_unknown_kind, has_double, has_id_past_next, part_dangles, dangles, refusal_of, unless_refused, of_shape, document_from}
 use Rattle.scene_draft.specs.Texts.{members_with, entity_json, scene_json}
 use Rattle.scene_laws.specs.Printed.{CanBeRead, CanBeLoaded}
-use Rattle.scene_laws.proofs.PrintLemmas.{pairs_of, read_of, entity_read, draft_read, draft-back}
+use Rattle.scene_draft.proofs.CallerLemmas.{pairs_of}
+use Rattle.scene_laws.proofs.PrintLemmas.{read_of, entity_read, draft_read, draft-back}
 
 -- two tests that both fail
 both-false : (b c : Bool) → b ≡ false → c ≡ false → (b || c) ≡ false

@@ -1,34 +1,28 @@
--- Lemmas on the JSON of a scene that is kept: what its loops have made, and that no float stands in it.
-use Rattle.std.proofs.Common.{◌≡◌, ℕ, ◌+◌, ◌<◌, List, [], ◌∷◌, ◌++◌, map, length, get_or, take, false, Option, Some, None, option_map, option_and_then, IfSome, Bor, append-nil, refl, sym, ap, ◌∙◌}
+-- Lemmas on the scene that is kept: what the loops of its text have found, and which scene it is.
+use Rattle.std.proofs.Common.{◌≡◌, ℕ, ◌+◌, ◌<◌, List, [], ◌∷◌, ◌++◌, map, length, get_or, take, Option, Some, None, option_and_then, Bor, append-nil, refl, sym, ap, ◌∙◌}
 use Rattle.std.proofs.lemmas.List.{take_more, map-append}
-use Rattle.std.specs.Prelude.{slice_get}
 use Rattle.std.specs.FinMap as finite
-use Rattle.std.specs.List.{filter_map}
-use Rattle.serde_json.specs.Data.{Members}
-use Rattle.serde_json.specs.Written.{has_float, compact_text}
+use Rattle.std.specs.List.{filter_map, cons_option}
 use Rattle.scene_rules.specs.Parts.{Json, Name, Part, place_of}
 use Rattle.scene_rules.specs.Rulebook.{Book}
 use Rattle.scene_rules.specs.Scenes.{PlainScene}
 use Rattle.scene_rules.specs.Laws.{Ascend}
 use Rattle.scene_rules.specs.Declaring.{texts}
-use Rattle.scene_draft.specs.Texts.{members_with, entity_json, scene_json, text_of}
-use Rattle.scene_draft.specs.TextSteps.{with_found}
-use Rattle.scene_draft.proofs.CallerLemmas.{IsFloatFree, entries_more, scene_json_free}
-use Rattle.scene_kept.specs.Keeping.{Keeping, present}
+use Rattle.scene_draft.proofs.CallerLemmas.{entries_more}
+use Rattle.scene_kept.specs.Keeping.{present}
 use Rattle.scene_kept.specs.declared.columns.KeptScene.{KeptScene}
-use Rattle.scene_snapshot.specs.KeptScenes.{kept_datum, kept_part, kept_scene}
+use Rattle.scene_snapshot.specs.KeptScenes.{kept_scene}
 
--- ---- members that a loop puts in
+-- ---- pairs that a loop finds
 
--- what is read at one more place is put in under its name
-pub found-more : {X : Type 0} (written : Name → Option X → Option (Name × Json)) (at : ℕ → Option X) (listed : List Name) (names : List (Bor Name)) (k : ℕ) (unset : Bor Name) (found : Option X) (before after : Members)
+-- what is read at one more place is added under its name
+pub found-more : {X : Type 0} (written : Name → Option X → Option (Name × Json)) (at : ℕ → Option X) (listed : List Name) (names : List (Bor Name)) (k : ℕ) (unset : Bor Name) (found : Option X)
     → texts names ≡ listed → Ascend listed → k < length names → found ≡ at k
-    → before ≡ members_with (filter_map (λ name. written name (option_and_then at (place_of name listed))) (take k (texts names)))
-    → after ≡ with_found (written (get_or names k unset).now found) before
-    → after ≡ members_with (filter_map (λ name. written name (option_and_then at (place_of name listed))) (take (k + 1) (texts names)))
-found-more written at listed names k unset found before after same ascend below is was then =
-    entries_more names listed same ascend (λ name place. written name (option_and_then at place)) k unset before after below was
-    (then ∙ ap (λ one. with_found (written (get_or names k unset).now one) before) is)
+    → filter_map (λ name. written name (option_and_then at (place_of name listed))) (take (k + 1) (texts names))
+    ≡ filter_map (λ name. written name (option_and_then at (place_of name listed))) (take k (texts names)) ++ cons_option (written (get_or names k unset).now found) []
+found-more written at listed names k unset found same ascend below is =
+    entries_more names listed same ascend (λ name place. written name (option_and_then at place)) k unset below
+    ∙ ap (λ one. filter_map (λ name. written name (option_and_then at (place_of name listed))) (take k (texts names)) ++ cons_option (written (get_or names k unset).now one) []) (sym is)
 
 -- ---- entities that a loop adds
 
@@ -72,22 +66,3 @@ module _ {D G V : Type 0} (part_of : D → Part) (global_of : G → Json) (value
       → ((name : Name) → scene-kept.global name ≡ scene.global name) → scene-kept ≡ scene
   kept-scene-is scene next ids parts globals =
       λ i. record { next = next i; ids = ids i; part = λ id kind. parts id kind i; global = λ name. globals name i }
-
-  module _ (parts_free : (datum : D) → has_float (part_of datum).json ≡ false) (globals_free : (global : G) → has_float (global_of global) ≡ false) where
-    datum-free : (datum : Option D) → IfSome (option_map part_of datum) (λ part. has_float part.json ≡ false)
-    datum-free None = tt
-    datum-free (Some datum) = parts_free datum
-
-    value-free : (global : Option G) → IfSome (option_map global_of global) (λ value. has_float value ≡ false)
-    value-free None = tt
-    value-free (Some global) = globals_free global
-
-    kept-free : IsFloatFree scene-kept
-    kept-free = record {
-      parts = λ id kind. datum-free (option_and_then (kept_datum kept.columns.items id) (place_of kind book.part_names));
-      globals = λ name. value-free (option_and_then (value_at kept.living.globals) (place_of name book.global_names));
-    }
-
-    -- a value that is the JSON of the scene that is kept has no float, so its text is the scene's
-    pub kept-written : (json : Json) (text : List ℕ) → json ≡ scene_json book scene-kept → (has_float json ≡ false → text ≡ compact_text json) → text ≡ text_of book scene-kept
-    kept-written json text is written = written (ap has_float is ∙ scene_json_free book scene-kept kept-free) ∙ ap compact_text is

@@ -1,2 +1,3 @@
+pub mod PrintLemmas
 pub mod KeptTextLemmas
 pub mod CallerLemmas

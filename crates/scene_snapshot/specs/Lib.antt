@@ -1,1 +1,2 @@
 pub mod KeptScenes
+pub mod Printing

@@ -1,16 +1,18 @@
 //! The text of a scene that is kept.
-ghost use Rattle.std.specs.Prelude.{◌≡◌, Some, map, option_map, option_copied, IfOk, OnOk};
+ghost use Rattle.std.specs.Prelude.{◌≡◌, [], ◌∷◌, false, map, option_map, option_copied, IfOk, OnOk};
 ghost use Rattle.std.specs.FinMap as finite;
-ghost use Rattle.serde_json.specs.Data.{object};
-ghost use Rattle.serde_json.specs.View.{view, members_view};
+ghost use Rattle.serde_json.specs.Data.{array};
+ghost use Rattle.serde_json.specs.View.{view, items_of};
+ghost use Rattle.serde_json.specs.Written.{has_float};
 ghost use Rattle.scene_draft.specs.Texts.{globals_json, entity_json, scene_json, text_of, ReadsBack};
-ghost use Rattle.scene_draft.specs.TextSteps.{with_found};
 ghost use Rattle.scene_snapshot.specs.KeptScenes.{kept_scene, kept_datum, kept_part, entity_with, parts_with};
+ghost use Rattle.scene_snapshot.specs.Printing.{AddsJson, AddsMembers, AddsFound};
 
 use crate::by_place::ByPlace;
+use json::{Reader, Scratch, Writer};
 use scene_kept::{Kept, KeptScene};
 use scene_rules::DocumentRules;
-use serde_json::{Map, Value, put};
+use serde_json::Value;
 use std::alloc::{AllocError, Global};
 
 /// The text of the scene that is kept: the compact text of its JSON, with its entities in the order of their ids and
@@ -29,65 +31,72 @@ pub fn kept_text<R: DocumentRules, V: ByPlace<R::Global>>(
     ensures reads { IfOk result (λ text. ReadsBack text.items (scene_json (R.book rules.now)
         (kept_scene R.part_of R.global_of V.at_place (R.book rules.now) kept.now))) }
 {
-    kept_value(alloc, rules, kept)?.to_vec(alloc)
+    let mut out = Writer::new(Vec::with_capacity(alloc, 128)?);
+    put_scene(alloc, rules, kept, &mut out)?;
+    Ok(out.into_inner())
 }
 
-// The JSON of the scene that is kept.
-fn kept_value<R: DocumentRules, V: ByPlace<R::Global>>(
+// Prints the scene that is kept.
+fn put_scene<R: DocumentRules, V: ByPlace<R::Global>>(
     alloc: Global,
     rules: &R,
     kept: &KeptScene<R::Data, V>,
-) -> Result<Value, AllocError>
-    ensures { IfOk result (λ value. view value ≡ scene_json (R.book rules.now)
-        (kept_scene R.part_of R.global_of V.at_place (R.book rules.now) kept.now)) }
+    out: &mut Writer,
+) -> Result<(), AllocError>
+    ensures { OnOk result (AddsJson (scene_json (R.book rules.now)
+        (kept_scene R.part_of R.global_of V.at_place (R.book rules.now) kept.now)) out.old out.new) }
 {
-    let entities = entity_values(alloc, rules, kept)?;
-    let globals = globals_map(alloc, rules, kept)?;
-    let mut map = Map::new(alloc);
-    put(&mut map, alloc, "entities", Value::Array(entities))?;
-    put(&mut map, alloc, "globals", Value::Object(globals))?;
-    put(&mut map, alloc, "next", Value::from(kept.living.next()))?;
-    Ok(Value::Object(map))
+    out.begin_object()?;
+    out.key("entities")?;
+    put_entities(alloc, rules, kept, out)?;
+    out.key("globals")?;
+    put_globals(alloc, rules, kept, out)?;
+    out.key("next")?;
+    out.u64(kept.living.next())?;
+    out.end_object()
 }
 
-// The JSON of each entity, in the order of the ids.
-fn entity_values<R: DocumentRules, V: ByPlace<R::Global>>(
+// Prints each entity, in the order of the ids.
+fn put_entities<R: DocumentRules, V: ByPlace<R::Global>>(
     alloc: Global,
     rules: &R,
     kept: &KeptScene<R::Data, V>,
-) -> Result<Vec<Value>, AllocError>
-    ensures { IfOk result (λ values. map view values.items ≡ map (entity_json (R.book rules.now)
+    out: &mut Writer,
+) -> Result<(), AllocError>
+    ensures { OnOk result (AddsJson (array (items_of (map (entity_json (R.book rules.now)
         (kept_scene R.part_of R.global_of V.at_place (R.book rules.now) kept.now))
-        (finite.keys kept.now.living.entries)) }
+        (finite.keys kept.now.living.entries)))) out.old out.new) }
 {
     let slots = kept.living.slots();
     let columns = kept.columns.as_slice();
-    let mut values = Vec::with_capacity(alloc, slots.len())?;
+    out.begin_array()?;
     for (row, (id, slot)) in slots.iter().enumerate() {
         match slot {
-            Some(()) => values.push(entity_value(alloc, rules, *id, columns, row)?)?,
+            Some(()) => put_entity(alloc, rules, *id, columns, row, out)?,
             None => {}
         }
     }
-    Ok(values)
+    out.end_array()
 }
 
-// The JSON of an entity, of which the data in these columns are looked for at a row first.
-fn entity_value<R: DocumentRules>(
+// Prints an entity, of which the data in these columns are looked for at a row first.
+fn put_entity<R: DocumentRules>(
     alloc: Global,
     rules: &R,
     id: u64,
     columns: &[Kept<R::Data, ()>],
     row: usize,
-) -> Result<Value, AllocError>
-    ensures { IfOk result (λ value. view value
-        ≡ entity_with (R.book rules.now) (kept_part R.part_of (R.book rules.now) columns.now id) id) }
+    out: &mut Writer,
+) -> Result<(), AllocError>
+    ensures { OnOk result (AddsJson (entity_with (R.book rules.now)
+        (kept_part R.part_of (R.book rules.now) columns.now id) id) out.old out.new) }
 {
-    let parts = parts_map(alloc, rules, id, columns, row)?;
-    let mut map = Map::new(alloc);
-    put(&mut map, alloc, "id", Value::from(id))?;
-    put(&mut map, alloc, "parts", Value::Object(parts))?;
-    Ok(Value::Object(map))
+    out.begin_object()?;
+    out.key("id")?;
+    out.u64(id)?;
+    out.key("parts")?;
+    put_parts(alloc, rules, id, columns, row, out)?;
+    out.end_object()
 }
 
 // What is kept of an entity in the column at a place, if there is one. It is looked for at a row first.
@@ -97,86 +106,113 @@ fn datum_at<D>(columns: &[Kept<D, ()>], place: usize, id: u64, row: usize) -> Op
     columns.get(place)?.get_near(id, row)
 }
 
-// The parts of an entity that are there, under their kinds.
-fn parts_map<R: DocumentRules>(
+// Prints the parts of an entity that are there, under their kinds.
+fn put_parts<R: DocumentRules>(
     alloc: Global,
     rules: &R,
     id: u64,
     columns: &[Kept<R::Data, ()>],
     row: usize,
-) -> Result<Map<String, Value>, AllocError>
-    ensures { IfOk result (λ map. object (members_view map.entries)
-        ≡ parts_with (R.book rules.now) (kept_part R.part_of (R.book rules.now) columns.now id)) }
+    out: &mut Writer,
+) -> Result<(), AllocError>
+    ensures { OnOk result (AddsJson (parts_with (R.book rules.now)
+        (kept_part R.part_of (R.book rules.now) columns.now id)) out.old out.new) }
 {
-    let mut map = Map::new(alloc);
     let names = rules.part_names();
+    out.begin_object()?;
     for (place, kind) in names.iter().enumerate() {
-        put_part(
-            alloc,
-            rules,
-            &mut map,
-            kind,
-            datum_at(columns, place, id, row),
-        )?;
+        put_part(alloc, rules, kind, datum_at(columns, place, id, row), out)?;
     }
-    Ok(map)
+    out.end_object()
 }
 
-// Puts a datum under its kind, if there is one.
+// Prints a datum under its kind, if there is one.
 fn put_part<R: DocumentRules>(
     alloc: Global,
     rules: &R,
-    map: &mut Map<String, Value>,
     kind: &str,
     datum: Option<&R::Data>,
+    out: &mut Writer,
 ) -> Result<(), AllocError>
-    ensures { OnOk result (members_view map.new.entries
-        ≡ with_found (option_map (λ part. (kind.now, part.json)) (option_map R.part_of (option_copied datum.entry)))
-        (members_view map.old.entries)) }
+    ensures { OnOk result (AddsFound
+        (option_map (λ part. (kind.now, part.json)) (option_map R.part_of (option_copied datum.entry)))
+        out.old out.new) }
 {
     if let Some(datum) = datum {
-        put(map, alloc, kind, rules.write_data(alloc, datum)?)?;
+        put_member(alloc, kind, &rules.write_data(alloc, datum)?, out)?;
     }
     Ok(())
 }
 
-// The globals that have a value, under their names.
-fn globals_map<R: DocumentRules, V: ByPlace<R::Global>>(
+// Prints the globals that have a value, under their names.
+fn put_globals<R: DocumentRules, V: ByPlace<R::Global>>(
     alloc: Global,
     rules: &R,
     kept: &KeptScene<R::Data, V>,
-) -> Result<Map<String, Value>, AllocError>
-    ensures { IfOk result (λ map. object (members_view map.entries) ≡ globals_json (R.book rules.now)
-        (kept_scene R.part_of R.global_of V.at_place (R.book rules.now) kept.now)) }
+    out: &mut Writer,
+) -> Result<(), AllocError>
+    ensures { OnOk result (AddsJson (globals_json (R.book rules.now)
+        (kept_scene R.part_of R.global_of V.at_place (R.book rules.now) kept.now)) out.old out.new) }
 {
-    let mut map = Map::new(alloc);
     let names = rules.global_names();
+    out.begin_object()?;
     for (place, name) in names.iter().enumerate() {
-        put_global(
-            alloc,
-            rules,
-            &mut map,
-            name,
-            kept.living.globals().at(place),
-        )?;
+        put_global(alloc, rules, name, kept.living.globals().at(place), out)?;
     }
-    Ok(map)
+    out.end_object()
 }
 
-// Puts a global's value under its name, if there is one.
+// Prints a global's value under its name, if there is one.
 fn put_global<R: DocumentRules>(
     alloc: Global,
     rules: &R,
-    map: &mut Map<String, Value>,
     name: &str,
     global: Option<&R::Global>,
+    out: &mut Writer,
 ) -> Result<(), AllocError>
-    ensures { OnOk result (members_view map.new.entries
-        ≡ with_found (option_map (λ json. (name.now, json)) (option_map R.global_of (option_copied global.entry)))
-        (members_view map.old.entries)) }
+    ensures { OnOk result (AddsFound
+        (option_map (λ json. (name.now, json)) (option_map R.global_of (option_copied global.entry)))
+        out.old out.new) }
 {
     if let Some(global) = global {
-        put(map, alloc, name, rules.write_global(alloc, global)?)?;
+        put_member(alloc, name, &rules.write_global(alloc, global)?, out)?;
+    }
+    Ok(())
+}
+
+// Prints a value that has no float under a name.
+fn put_member(alloc: Global, name: &str, value: &Value, out: &mut Writer) -> Result<(), AllocError>
+    requires { has_float (view value.now) ≡ false }
+    ensures { OnOk result (AddsMembers [] ((name.now, view value.now) ∷ []) out.old out.new) }
+{
+    out.key(name)?;
+    put_value(alloc, value, out)
+}
+
+// Prints a value that has no float: a whole number by its digits, all else as its own text has it.
+fn put_value(alloc: Global, value: &Value, out: &mut Writer) -> Result<(), AllocError>
+    requires { has_float (view value.now) ≡ false }
+    ensures { OnOk result (AddsJson (view value.now) out.old out.new) }
+{
+    if let Some(number) = value.as_u64() {
+        return out.u64(number);
+    }
+    match value.as_i64() {
+        Some(number) if number < 0 => out.i64(number),
+        _ => put_tokens(alloc, value, out),
+    }
+}
+
+// Prints a value that has no float, token by token as its own text has them.
+fn put_tokens(alloc: Global, value: &Value, out: &mut Writer) -> Result<(), AllocError>
+    requires { has_float (view value.now) ≡ false }
+    ensures { OnOk result (AddsJson (view value.now) out.old out.new) }
+{
+    let text = value.to_string(alloc)?;
+    let mut scratch = Scratch::new(alloc);
+    let mut reader = Reader::new(text.as_str(), &mut scratch)?;
+    while let Some(token) = reader.next() {
+        out.token(token)?;
     }
     Ok(())
 }
