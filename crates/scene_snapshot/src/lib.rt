@@ -3,6 +3,8 @@
 
 pub mod by_place;
 pub mod text;
+#[cfg(test)]
+mod values;
 
 pub use by_place::ByPlace;
 pub use text::kept_text;

@@ -190,7 +190,7 @@ fn put_member(alloc: Global, name: &str, value: &Value, out: &mut Writer) -> Res
 }
 
 // Prints a value that has no float: a whole number by its digits, all else as its own text has it.
-fn put_value(alloc: Global, value: &Value, out: &mut Writer) -> Result<(), AllocError>
+pub(crate) fn put_value(alloc: Global, value: &Value, out: &mut Writer) -> Result<(), AllocError>
     requires { has_float (view value.now) ≡ false }
     ensures { OnOk result (AddsJson (view value.now) out.old out.new) }
 {
