@@ -1,3 +1,4 @@
 pub mod TurnLemmas
 pub mod OutcomeLemmas
 pub mod PlaceLemmas
+pub mod AloneLemmas

@@ -1,5 +1,5 @@
 -- What a scene is that runs in a world of entities: what is shown of it, and when it is ready for its next frame.
-use Rattle.std.specs.Prelude.{◌≡◌, ℕ, List, Ok, Some, None, Option, All, slice_get}
+use Rattle.std.specs.Prelude.{◌≡◌, ℕ, List, [], codes, Ok, Some, None, Option, All, slice_get}
 use Rattle.std.specs.Global.{Vec}
 use Rattle.shred_world.specs.Worlds.{Slots}
 use Rattle.shred_world.specs.Bundles.{holding_of}
@@ -7,7 +7,7 @@ use Rattle.shred.specs.Dispatching.{Dispatching}
 use Rattle.scene_rules.specs.declared.command.Command.{Command}
 use Rattle.scene_rules.specs.Parts.{Json, Name, Part}
 use Rattle.scene_rules.specs.Rulebook.{Access, Book}
-use Rattle.scene_rules.specs.Scenes.{PlainScene, PlainSystem, PlainFrame, IsProper}
+use Rattle.scene_rules.specs.Scenes.{PlainScene, PlainSystem, PlainFrame, IsProper, IsDescribed}
 use Rattle.scene_rules.specs.Lawful.{IsLawful}
 use Rattle.scene_rules.specs.Slots.{filled}
 use Rattle.scene_draft.specs.declared.draft.DocumentDraft.{DocumentDraft}
@@ -15,7 +15,7 @@ use Rattle.scene_draft.specs.Drafts.{Draft}
 use Rattle.scene_draft.specs.DraftViews.{IsDraft, AreMade}
 use Rattle.scene_draft.specs.Texts.{json_of}
 use Rattle.scene_document.specs.declared.loaded.Limits.{Limits}
-use Rattle.scene_document.specs.Documents.{document_from}
+use Rattle.scene_document.specs.Documents.{document_from, refusal_of}
 use Rattle.scene_document.specs.Openings.{first_scene, frames_of}
 use Rattle.scene_document.specs.Loading.{commands_at}
 use Rattle.scene_kept.specs.declared.columns.KeptScene.{KeptScene}
@@ -31,6 +31,7 @@ use Rattle.scene.specs.Runs.{CanBegin}
 use Rattle.scene.specs.Turns.{Shown, opening}
 use Rattle.scene.specs.declared.frame.Scene.{Scene}
 use Rattle.scene.specs.declared.load.Opened.{Opened}
+use Rattle.scene.specs.declared.load.Prepared.{Prepared}
 
 -- the frames of a scene: its systems in the order in which they take their turns, and the commands for each frame by its number from 1
 abbrev pub course_of : {D : Type 0} → (D → Part) → List PlainSystem → List (Vec (Command D)) → ℕ → PlainFrame
@@ -44,6 +45,28 @@ pub record IsUnrefused {D G S : Type 0} (part_of : D → Part) (global_of : G �
   pub is : document_from book indices json ≡ Ok plain
   pub says : IsDraft part_of global_of kind_of config_of book plain draft
   pub made : AreMade declared said_time made_by draft.entries.items
+
+-- a draft is that of a document that may be put into a world
+pub record IsOpenable {D G S : Type 0} (part_of : D → Part) (global_of : G → Json) (kind_of : S → Name) (config_of : S → Json) (book : Book) (draft : DocumentDraft D G S) : Type 0 where
+  pub plain : Draft
+  pub indices : ℕ
+  pub says : IsDraft part_of global_of kind_of config_of book plain draft
+  pub passed : refusal_of indices plain ≡ None
+
+-- the scene of a document alone, without systems and commands
+abbrev pub alone : Draft → Draft
+alone draft = record { next = draft.next; entities = draft.entities; globals = draft.globals; entries = []; frames = 0; commands = []; workers = 0; store = codes "vec" }
+
+-- of a draft, that of its scene alone
+pub record IsAlone {D G S : Type 0} (whole draft : DocumentDraft D G S) : Type 0 where
+  pub next : draft.next ≡ whole.next
+  pub entities : draft.entities ≡ whole.entities
+  pub globals : draft.globals ≡ whole.globals
+  pub entries : draft.entries.items ≡ []
+  pub frames : draft.frames ≡ 0
+  pub commands : draft.commands.items ≡ []
+  pub workers : draft.workers ≡ 0
+  pub store : draft.store.now ≡ codes "vec"
 
 -- what stands at a place of a list, if something does
 abbrev pub value_at : {X : Type 0} → Vec (Option X) → ℕ → Option X
@@ -59,6 +82,19 @@ pub record Stands {V P : Type 0} (kinds : Kinds V) (meaning : Meaning P) (book :
   pub none : NoneWaits kinds (seen_of w)
   pub places : AreTheirPlaces at_places (turn_order meaning.plain systems)
   pub same : plain_of kinds (seen_of w) ≡ scene
+
+-- a document is ready to be put into a world: its scene alone is at hand, and its systems and their places are those of its frames
+pub record IsPrepared {R V D G S : Type 0} (part_of : D → Part) (global_of : G → Json) (kind_of : S → Name) (config_of : S → Json) (meaning : Meaning (Placed R V D G S)) (book : Book) (limits : Limits) (json : Json) (prepared : Prepared R V D G S) : Type 0 where
+  pub draft : Draft
+  pub is : document_from book limits.indices json ≡ Ok draft
+  pub says : IsDraft part_of global_of kind_of config_of book (alone draft) prepared.draft
+  pub places : AreTheirPlaces prepared.places.items (turn_order meaning.plain prepared.course.dispatcher)
+  pub frames : (number : ℕ) → frames_of draft number ≡ course_of part_of (turn_order meaning.plain prepared.course.dispatcher) prepared.course.commands.items number
+  pub lawful : (number : ℕ) → All (IsLawful book) (commands_at part_of prepared.course.commands.items number)
+  pub staged : All (IsOfBook meaning book) prepared.course.dispatcher.staging.systems
+  pub locals : All (IsOfBook meaning book) prepared.course.dispatcher.locals
+  pub asked : prepared.course.asked ≡ draft.frames
+  pub described : (number : ℕ) → All (IsDescribed book) (frames_of draft number).order
 
 -- a document stands in a world, before anything is kept of its scene: no command waits there, its systems and their places are those of its
 -- frames, and it can begin

@@ -5,7 +5,7 @@ ghost use Rattle.scene_rules.specs.Queues.{plain_commands};
 ghost use Rattle.scene_document.specs.Loading.{commands_at};
 
 use crate::advance::advance;
-use crate::load::{Course, Opened, open_document};
+use crate::load::{Course, Opened, place_document, prepare_document};
 use scene_document::{Limits, LoadError};
 use scene_draft::{JsonError, read_json};
 use scene_keeping::keep_scene;
@@ -115,7 +115,11 @@ where
             value.now))
             (IsNotLoaded (R.book rules) limits.indices (view value.now)) }
     {
-        let opened = match open_document(alloc, &rules, limits, value) {
+        let prepared = match prepare_document(alloc, &rules, limits, value) {
+            Ok(prepared) => prepared,
+            Err(error) => return Err(error),
+        };
+        let opened = match place_document(alloc, &rules, limits, prepared) {
             Ok(opened) => opened,
             Err(error) => return Err(error),
         };
@@ -123,7 +127,7 @@ where
     }
 
     /// The scene of a document that was read as JSON, before any frame, as `load` makes it. The JSON is let go once it
-    /// stands in a world, before the scene is kept beside that.
+    /// was read, before a world is filled with what it says.
     ///
     /// Errors: those of `load`.
     pub fn load_out_of(
@@ -140,11 +144,15 @@ where
             value))
             (IsNotLoaded (R.book rules) limits.indices (view value)) }
     {
-        let opened = match open_document(alloc, &rules, limits, &value) {
-            Ok(opened) => opened,
+        let prepared = match prepare_document(alloc, &rules, limits, &value) {
+            Ok(prepared) => prepared,
             Err(error) => return Err(error),
         };
         drop(value);
+        let opened = match place_document(alloc, &rules, limits, prepared) {
+            Ok(opened) => opened,
+            Err(error) => return Err(error),
+        };
         Scene::keeping(alloc, rules, limits, opened)
     }
 

@@ -1,10 +1,12 @@
 //! A document is put into a world, with its systems on a dispatcher.
 ghost use Rattle.std.specs.Prelude.{◌≡◌, ◌≤◌, ℕ, List, All, length, map, IfOk, OnOk, MatchResult};
 ghost use Rattle.serde_json.specs.View.{view};
+ghost use Rattle.scene_rules.specs.Parts.{Json};
 ghost use Rattle.scene_rules.specs.Lawful.{IsLawful};
 ghost use Rattle.scene_draft.specs.Drafts.{Draft};
 ghost use Rattle.scene_draft.specs.DraftViews.{IsDraft};
 ghost use Rattle.scene_document.specs.Documents.{refusal_of};
+ghost use Rattle.scene_document.specs.declared.loaded.LoadError.TheVariants.{Memory};
 ghost use Rattle.scene_document.specs.Openings.{first_scene, frames_of, all_systems};
 ghost use Rattle.scene_document.specs.Loading.{commands_at, IsNotLoaded};
 ghost use Rattle.scene_world.specs.Standing.{plain_of, IsSceneWorld};
@@ -14,7 +16,7 @@ ghost use Rattle.scene_turns.specs.Turns.{placed_as, IsOfBook};
 ghost use Rattle.scene_systems.specs.Orders.{turn_order};
 ghost use Rattle.scene_frames.specs.Waiting.{NoneWaits};
 ghost use Rattle.scene.specs.Limits.{AreLimits};
-ghost use Rattle.scene.specs.Running.{IsUnrefused, course_of, IsPlaced};
+ghost use Rattle.scene.specs.Running.{IsUnrefused, IsOpenable, IsAlone, course_of, IsPrepared, IsPlaced};
 
 use scene_document::{Limits, LoadError, commands_of, read_document};
 use scene_draft::DocumentDraft;
@@ -44,6 +46,16 @@ pub(crate) struct Course<R: Rules> {
     pub(crate) asked: u32,
 }
 
+/// A document that was read, with its systems on a dispatcher, and the draft of its scene alone. It stands in no world yet,
+/// and holds on to no JSON.
+#[derive(Drop)]
+pub(crate) struct Prepared<R: Rules> {
+    pub(crate) draft: DocumentDraft<'static, R::Data, R::Global, R::System>,
+    pub(crate) store: Store,
+    pub(crate) places: Vec<u32>,
+    pub(crate) course: Course<R>,
+}
+
 /// A document that stands in a world, with its systems on a dispatcher. Nothing is kept of its scene yet.
 #[derive(Drop)]
 pub(crate) struct Opened<R: Rules>
@@ -55,10 +67,12 @@ where
     pub(crate) course: Course<R>,
 }
 
-/// The world in which the scene of a draft stands, with an empty queue at each of these places. Errors: want of memory.
-pub(crate) fn open_in_world<R: Rules>(
+/// The world in which the scene of a draft stands, in storages of this store, with an empty queue at each of these places.
+/// Errors: want of memory.
+fn open_in_world<R: Rules>(
     rules: &R,
     limits: Limits,
+    store: Store,
     draft: &DocumentDraft<'_, R::Data, R::Global, R::System>,
     places: &[u32],
     alloc: Global,
@@ -66,8 +80,7 @@ pub(crate) fn open_in_world<R: Rules>(
 where
     R::Value: Drop,
     requires limits { AreLimits limits }
-    requires document { IsUnrefused R.part_of R.global_of R.kind_of R.config_of
-        R.declared R.said_time (R.made_by rules.now) (R.book rules.now) draft.now }
+    requires document { IsOpenable R.part_of R.global_of R.kind_of R.config_of (R.book rules.now) draft.now }
     ensures stands { IfOk result (λ world. IsSceneWorld (kinds_of ⟦<R::Value as SceneValue<R::Data>>⟧.places
         R.part_of R.columns) (R.book rules.now) (seen_of world)) }
     ensures none { IfOk result (λ world. NoneWaits (kinds_of ⟦<R::Value as SceneValue<R::Data>>⟧.places R.part_of
@@ -80,7 +93,7 @@ where
 {
     let mut world = load_world(
         rules,
-        store_of(draft.store),
+        store,
         (limits.indices, limits.generation as u32),
         draft,
         alloc,
@@ -89,21 +102,19 @@ where
     Ok(world)
 }
 
-/// A document that was read as JSON, put into a world. Nothing that is answered holds on to the JSON, so that it can
-/// be let go before the scene is kept.
+/// A document that was read as JSON, ready to be put into a world. Nothing that is answered holds on to the JSON, so that it
+/// can be let go before the world is filled.
 ///
 /// Errors: `Document`, with the least refusal that stands; `Memory`.
-pub(crate) fn open_document<R: Rules>(
+pub(crate) fn prepare_document<R: Rules>(
     alloc: Global,
     rules: &R,
     limits: Limits,
     value: &Value,
-) -> Result<Opened<R>, LoadError>
+) -> Result<Prepared<R>, LoadError>
 where
     R::Value: Drop,
-    requires { AreLimits limits }
-    ensures { MatchResult result (IsPlaced (kinds_of ⟦<R::Value as SceneValue<R::Data>>⟧.places R.part_of R.columns)
-        R.part_of
+    ensures { MatchResult result (IsPrepared R.part_of R.global_of R.kind_of R.config_of
         (placed_as (λ placed. placed.position)
         (λ placed. placed.system) R.kind_of R.config_of R.declared R.sense R.does) (R.book rules.now) limits
         (view value.now))
@@ -116,10 +127,48 @@ where
     let Ok(places) = places_of_systems(draft.entries.as_slice(), alloc) else {
         return Err(LoadError::Memory);
     };
-    let Ok(world) = open_in_world(rules, limits, &draft, places.as_slice(), alloc) else {
+    let store = store_of(draft.store);
+    let Ok((course, draft)) = course_of(rules, draft, alloc) else {
         return Err(LoadError::Memory);
     };
-    let Ok(course) = course_of(rules, draft, alloc) else {
+    Ok(Prepared {
+        draft,
+        store,
+        places,
+        course,
+    })
+}
+
+/// A document that was prepared, put into a world. Errors: `Memory`.
+pub(crate) fn place_document<R: Rules>(
+    alloc: Global,
+    rules: &R,
+    limits: Limits,
+    prepared: Prepared<R>,
+) -> Result<Opened<R>, LoadError>
+where
+    R::Value: Drop,
+    requires limits { AreLimits limits }
+    requires prepared { (json : Json) × IsPrepared R.part_of R.global_of R.kind_of R.config_of
+        (placed_as (λ placed. placed.position)
+        (λ placed. placed.system) R.kind_of R.config_of R.declared R.sense R.does) (R.book rules.now) limits json
+        prepared }
+    ensures { MatchResult result (λ opened. (json : Json) → IsPrepared R.part_of R.global_of R.kind_of R.config_of
+        (placed_as (λ placed. placed.position)
+        (λ placed. placed.system) R.kind_of R.config_of R.declared R.sense R.does) (R.book rules.now) limits json
+        prepared → IsPlaced (kinds_of ⟦<R::Value as SceneValue<R::Data>>⟧.places R.part_of R.columns) R.part_of
+        (placed_as (λ placed. placed.position)
+        (λ placed. placed.system) R.kind_of R.config_of R.declared R.sense R.does) (R.book rules.now) limits json
+        opened)
+        (λ error. error ≡ Memory) }
+{
+    let Prepared {
+        draft,
+        store,
+        places,
+        course,
+    } = prepared;
+    let Ok(world) = open_in_world(rules, limits, store, &draft, places.as_slice(), alloc) else {
         return Err(LoadError::Memory);
     };
     Ok(Opened {
@@ -129,35 +178,42 @@ where
     })
 }
 
-/// The course of a draft. Errors: want of memory.
-pub(crate) fn course_of<R: Rules>(
+/// The course of a draft, and the draft of its scene alone. Errors: want of memory.
+fn course_of<R: Rules>(
     rules: &R,
     draft: DocumentDraft<'_, R::Data, R::Global, R::System>,
     alloc: Global,
-) -> Result<Course<R>, AllocError>
+) -> Result<
+    (
+        Course<R>,
+        DocumentDraft<'static, R::Data, R::Global, R::System>,
+    ),
+    AllocError,
+>
 where
     R::Value: Drop,
     requires document { IsUnrefused R.part_of R.global_of R.kind_of R.config_of
         R.declared R.said_time (R.made_by rules.now) (R.book rules.now) draft }
-    ensures frames { IfOk result (λ course. (plain : Draft) → (frame : ℕ)
+    ensures frames { IfOk result (λ drawn. (plain : Draft) → (frame : ℕ)
         → IsDraft R.part_of R.global_of R.kind_of R.config_of (R.book rules.now) plain draft.entry
         → frames_of plain frame ≡ course_of R.part_of (turn_order (placed_as (λ placed. placed.position) (λ placed.
         placed.system)
-        R.kind_of R.config_of R.declared R.sense R.does).plain course.dispatcher) course.commands.items
+        R.kind_of R.config_of R.declared R.sense R.does).plain drawn.0.dispatcher) drawn.0.commands.items
         frame) }
-    ensures lawful { IfOk result (λ course. (frame : ℕ)
-        → All (IsLawful (R.book rules.now)) (commands_at R.part_of course.commands.items frame)) }
-    ensures staged { IfOk result (λ course. All (IsOfBook (placed_as (λ placed. placed.position) (λ placed.
+    ensures lawful { IfOk result (λ drawn. (frame : ℕ)
+        → All (IsLawful (R.book rules.now)) (commands_at R.part_of drawn.0.commands.items frame)) }
+    ensures staged { IfOk result (λ drawn. All (IsOfBook (placed_as (λ placed. placed.position) (λ placed.
         placed.system)
         R.kind_of R.config_of R.declared R.sense R.does) (R.book rules.now))
-        course.dispatcher.staging.systems) }
-    ensures locals { IfOk result (λ course. All (IsOfBook (placed_as (λ placed. placed.position) (λ placed.
+        drawn.0.dispatcher.staging.systems) }
+    ensures locals { IfOk result (λ drawn. All (IsOfBook (placed_as (λ placed. placed.position) (λ placed.
         placed.system)
-        R.kind_of R.config_of R.declared R.sense R.does) (R.book rules.now)) course.dispatcher.locals) }
-    ensures asked { IfOk result (λ course. course.asked ≡ draft.entry.frames) }
+        R.kind_of R.config_of R.declared R.sense R.does) (R.book rules.now)) drawn.0.dispatcher.locals) }
+    ensures alone { IfOk result (λ drawn. IsAlone draft.entry drawn.1) }
+    ensures asked { IfOk result (λ drawn. drawn.0.asked ≡ draft.entry.frames) }
 {
     let DocumentDraft {
-        next: _,
+        next,
         entities,
         globals,
         entries,
@@ -166,13 +222,22 @@ where
         workers,
         store: _,
     } = draft;
-    drop(entities);
-    drop(globals);
+    let alone = DocumentDraft {
+        next,
+        entities,
+        globals,
+        entries: Vec::new(alloc),
+        frames: 0,
+        commands: Vec::new(alloc),
+        workers: 0,
+        store: "vec",
+    };
     let commands = commands_of::<R>(alloc, commands)?;
     let dispatcher = stage_systems(rules, entries, workers as usize, alloc)?;
-    Ok(Course {
+    let course = Course {
         dispatcher,
         commands,
         asked: frames,
-    })
+    };
+    Ok((course, alone))
 }

@@ -1,5 +1,4 @@
 use Rattle.std.proofs.Common.{◌≡◌, [], ◌∙◌, ap}
-use Rattle.scene_document.proofs.CallerLemmas.{unrefused}
 use Rattle.scene_turns.specs.Places.{kinds_of}
 use Rattle.std.proofs.lemmas.List.Elements.{All-weaker}
 use Rattle.shred_world.specs.Bundles.{readable, slot_of}
@@ -13,7 +12,7 @@ use Rattle.scene.proofs.load.open_in_world.Goals as goal
 pub returns-clause-stands : goal.returns-clause-stands
 returns-clause-stands g c =
     let document = c.requires.document in
-    let passed = unrefused (g.R.DocumentRules.book c.args.rules.now) document.indices document.json document.plain document.is in
+    let passed = document.passed in
     opened-stands g.R.Value.SceneValue.places g.R.DocumentRules.part_of g.R.Rules.columns g.met.R.Rules.apart (g.R.DocumentRules.book c.args.rules.now) c.args.places.now c.in_ok-world.world c.open_queues.new.world c.in_ok-open_queues.ensures.others (c.in_ok-world.ensures.stands document.plain document.indices document.says passed).world
 
 pub returns-clause-none : goal.returns-clause-none
