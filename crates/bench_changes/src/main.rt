@@ -9,8 +9,8 @@ mod telling;
 mod ways;
 
 use parts::{Plain, Scene, make_plain, make_scene, sum_of, sum_of_plain};
-use specs_changes::store_all;
 use specs_entity::EntitiesRes;
+use specs_join::store_all;
 use specs_storage::Storage;
 use std::alloc::Global;
 use std::thread::Threads;

@@ -1,6 +1,5 @@
 //! The parts that are changed, in storages and in plain vectors.
-use specs_flagged::FlaggedStorage;
-use specs_layouts::{Component, DenseVecStorage, MaskedStorage, TryDefault};
+use specs_layouts::{Component, DenseVecStorage, FlaggedStorage, MaskedStorage, TryDefault};
 use std::alloc::{AllocError, Global};
 
 /// Where an entity is.

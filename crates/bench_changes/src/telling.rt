@@ -1,8 +1,7 @@
 //! Parts that are put into a storage whose changes are told to a reader, and into one that tells of nothing.
 use crate::each;
 use crate::parts::{Made, Place, Told, empty, fill};
-use specs_events::ReaderId;
-use specs_layouts::{ComponentEvent, MaskedStorage};
+use specs_layouts::{ComponentEvent, MaskedStorage, ReaderId};
 use std::alloc::{AllocError, Global};
 use std::io;
 use std::time::{Clock, Instant};

@@ -6,7 +6,7 @@ ghost use Rattle.specs_storage.specs.EntryCursors.{index_of, indices_left};
 ghost use Rattle.bench_changes.specs.Drifts.{drifted};
 
 use crate::parts::{Drift, Place, Plain};
-use specs_changes::laws::a_join_has_an_item_for_each_index;
+use specs_join::laws::a_join_has_an_item_for_each_index;
 use specs_join::{Change, Join, JoinCursor, ParJoin, change_each};
 use specs_layouts::MaskedStorage;
 use specs_storage::{EntryCursor, WriteStorage};

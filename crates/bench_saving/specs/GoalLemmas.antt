@@ -1,8 +1,8 @@
 -- Goals, which name no entity.
 use Rattle.std.proofs.Common.{◌≡◌, ◌↔◌, ℤ, [], Option, Some, IsSome, refl, sym, ap}
 use Rattle.specs_entity.specs.Life.{LifeAt}
-use Rattle.specs_saving.specs.Bearing.{IsAmong}
-use Rattle.specs_saving.specs.LoadingLemmas.{the-same}
+use Rattle.specs_saveload.specs.Bearing.{IsAmong}
+use Rattle.specs_saveload.specs.LoadingLemmas.{the-same}
 use Rattle.bench_saving.specs.declared.goals.Goal.{Goal}
 
 -- a goal that was loaded is saved as it was

@@ -4,7 +4,7 @@ ghost use Rattle.std.specs.Prelude.{◌≡◌};
 use specs_entity::{EntitiesRes, Entity, Error};
 use specs_layouts::{Component, MaskedStorage, VecStorage};
 use specs_markers::MarkerAllocator;
-use specs_saving::{ConvertSaveload, Names, SavedMarker};
+use specs_saveload::{ConvertSaveload, Names, SavedMarker};
 use std::alloc::{AllocError, Global};
 
 /// Where an entity wants to be, if anywhere.

@@ -1,13 +1,12 @@
 //! Entities with three parts each, which are saved and loaded.
 use crate::goals::Goal;
 use hibitset::BitSetLike;
-use saves_tests::kinds::{Health, Owner};
+use saveload_tests::kinds::{Health, Owner};
 use serde_json::Value;
 use specs_entity::{EntitiesRes, Entity, Error};
-use specs_forms::{EntityData, FormError, JsonForm};
 use specs_layouts::{DenseVecStorage, MaskedStorage, TryDefault, VecStorage};
 use specs_markers::{MarkerAllocator, SimpleMarker, SimpleMarkerAllocator};
-use specs_saving::{DeserializeComponents, SerializeComponents};
+use specs_saveload::{DeserializeComponents, EntityData, FormError, JsonForm, SerializeComponents};
 use std::alloc::{AllocError, Global};
 
 /// What the markers are for.

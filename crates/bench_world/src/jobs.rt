@@ -1,14 +1,13 @@
 //! Parts that are put by jobs, and at once.
 use hibitset::BitSetLike;
-use lazy_tests::tasks::{Health, Task};
-use lazy_tests::values::Value;
 use shred::World;
 use specs_entity::{EntitiesRes, Error};
 use specs_layouts::{Component, MaskedStorage, TryDefault};
-use specs_lazy::{LazyUpdate, LazyWorld, Maintained};
-use specs_world::WorldExt;
+use specs_world::{LazyUpdate, LazyWorld, Maintained, WorldExt};
 use std::alloc::Global;
 use std::sync::Wait;
+use world_tests::lazy::tasks::{Health, Task};
+use world_tests::lazy::values::Value;
 
 /// A world of so many entities, with a job for each that puts its health.
 ///

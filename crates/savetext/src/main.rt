@@ -3,13 +3,14 @@
 //! Entity 0 owns entity 1, which owns entity 0; a third has health alone; a fourth has no marker, and isn't saved.
 #![tactic(auto)]
 
-use saves_tests::kinds::{Health, Owner};
+use saveload_tests::kinds::{Health, Owner};
 use serde_json::Value;
 use specs_entity::{EntitiesRes, Entity, Error};
-use specs_forms::{EntityData, FormError, JsonForm, PartForms};
 use specs_layouts::{DenseVecStorage, MaskedStorage, TryDefault, VecStorage};
 use specs_markers::{MarkerAllocator, SimpleMarker, SimpleMarkerAllocator};
-use specs_saving::{DeserializeComponents, SerializeComponents};
+use specs_saveload::{
+    DeserializeComponents, EntityData, FormError, JsonForm, PartForms, SerializeComponents,
+};
 use std::alloc::{AllocError, Global};
 use std::io;
 

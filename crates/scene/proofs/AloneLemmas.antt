@@ -3,12 +3,12 @@ use Rattle.std.proofs.Common.{◌≡◌, ℕ, List, [], Bool, true, false, ◌||
 use Rattle.std.specs.List.{list_any}
 use Rattle.std.proofs.lemmas.Bool.{or_parts, le-ltb}
 use Rattle.std.proofs.lemmas.List.Elements.{All-nil}
-use Rattle.scene_rules.specs.Parts.{Json, Name, Part}
-use Rattle.scene_rules.specs.Rulebook.{Book}
-use Rattle.scene_draft.specs.declared.draft.DocumentDraft.{DocumentDraft}
-use Rattle.scene_draft.specs.Drafts.{Draft}
-use Rattle.scene_draft.specs.DraftViews.{IsDraft, plain_entity, plain_draft, plain_list, named, IsPlaced, IsAdmitted, IsOfBook, IsLawfulDraft, plain_asked}
-use Rattle.scene_rules.specs.declared.refusals.DocRefusal.{DocRefusal}
+use Rattle.scene_model.specs.Parts.{Json, Name, Part}
+use Rattle.scene_model.specs.Rulebook.{Book}
+use Rattle.scene_document.specs.declared.draft.DocumentDraft.{DocumentDraft}
+use Rattle.scene_document.specs.Drafts.{Draft}
+use Rattle.scene_document.specs.DraftViews.{IsDraft, plain_entity, plain_draft, plain_list, named, IsPlaced, IsAdmitted, IsOfBook, IsLawfulDraft, plain_asked}
+use Rattle.scene_model.specs.declared.refusals.DocRefusal.{DocRefusal}
 use Rattle.scene_document.specs.Documents.{refusal_of, has_unknown_kind, names_unknown}
 use Rattle.scene_document.proofs.CallerLemmas.{no_past, no_double, no_dangling}
 use Rattle.scene.specs.Running.{alone, IsAlone}

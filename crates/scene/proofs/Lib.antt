@@ -1,3 +1,11 @@
+pub mod QueueLemmas
+pub mod WorldLemmas
+pub mod CountLemmas
+pub mod CommandLemmas
+pub mod SpareLemmas
+pub mod CallerLemmas
+pub mod KeptPlaceLemmas
+pub mod KeepLemmas
 pub mod TurnLemmas
 pub mod OutcomeLemmas
 pub mod PlaceLemmas

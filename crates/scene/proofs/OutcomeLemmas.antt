@@ -1,12 +1,12 @@
 -- Lemmas on what a whole run answers.
 use Rattle.std.proofs.Common.{◌≡◌, ℕ, List, Some, Ok, sym, ◌∙◌, ap, subst}
-use Rattle.scene_rules.specs.declared.refusals.Report.{Report}
-use Rattle.scene_rules.specs.Rulebook.{Book}
-use Rattle.scene_rules.specs.Scenes.{IsProper}
-use Rattle.scene_rules.specs.Parts.{Json}
-use Rattle.scene_draft.specs.Drafts.{Draft}
+use Rattle.scene_model.specs.declared.refusals.Report.{Report}
+use Rattle.scene_model.specs.Rulebook.{Book}
+use Rattle.scene_model.specs.Scenes.{IsProper}
+use Rattle.scene_model.specs.Parts.{Json}
+use Rattle.scene_document.specs.Drafts.{Draft}
 use Rattle.scene_document.specs.Documents.{of_reading, document_from}
-use Rattle.scene_draft.specs.Texts.{json_of, scene_json, text_of, ReadsBack}
+use Rattle.scene_document.specs.Texts.{json_of, scene_json, text_of, ReadsBack}
 use Rattle.scene.specs.Runs.{CanBegin, Ran}
 use Rattle.scene.specs.Turns.{Shown, opening, RunsOut}
 use Rattle.scene.specs.Outcomes.{Bounds, IsRunOf}

@@ -7,20 +7,20 @@ use Rattle.std.proofs.lemmas.Bool.{eq-eqb}
 use Rattle.std.proofs.lemmas.Option.{none-some, same_Some}
 use Rattle.std.proofs.lemmas.List.Elements.{All-nil, All-cons, All-head, All-tail, All-append, All-weaker}
 use Rattle.std.proofs.lemmas.List.Kept.{AllPairs-cons}
-use Rattle.scene_rules.specs.declared.command.Command.{Command}
-use Rattle.scene_rules.specs.Parts.{Json, Name, Part}
-use Rattle.scene_rules.specs.Rulebook.{Book, Facts}
-use Rattle.scene_rules.specs.Scenes.{PlainSystem, IsDescribed, lives}
-use Rattle.scene_rules.specs.Lawful.{IsLawful}
-use Rattle.scene_rules.specs.Queues.{plain_commands}
-use Rattle.scene_draft.specs.declared.draft.EntryDraft.{EntryDraft}
-use Rattle.scene_draft.specs.declared.draft.EntryDraft.TheVariants as entry
-use Rattle.scene_draft.specs.declared.draft.MadeDraft.{MadeDraft}
-use Rattle.scene_draft.specs.declared.draft.CommandDraft.{CommandDraft}
-use Rattle.scene_draft.specs.DraftViews.{plain_draft, plain_system, plain_list, plain_asked, facts_of, seen, config_seen, IsMadeAs, IsOfBook, IsLawfulDraft}
+use Rattle.scene_model.specs.declared.command.Command.{Command}
+use Rattle.scene_model.specs.Parts.{Json, Name, Part}
+use Rattle.scene_model.specs.Rulebook.{Book, Facts}
+use Rattle.scene_model.specs.Scenes.{PlainSystem, IsDescribed, lives}
+use Rattle.scene_model.specs.Lawful.{IsLawful}
+use Rattle.scene_model.specs.Queues.{plain_commands}
+use Rattle.scene_document.specs.declared.draft.EntryDraft.{EntryDraft}
+use Rattle.scene_document.specs.declared.draft.EntryDraft.TheVariants as entry
+use Rattle.scene_document.specs.declared.draft.MadeDraft.{MadeDraft}
+use Rattle.scene_document.specs.declared.draft.CommandDraft.{CommandDraft}
+use Rattle.scene_document.specs.DraftViews.{plain_draft, plain_system, plain_list, plain_asked, facts_of, seen, config_seen, IsMadeAs, IsOfBook, IsLawfulDraft}
 use Rattle.scene_document.specs.Loading.{commands_at}
 use Rattle.scene_document.proofs.CallerLemmas.{commands-plain, lists-lawful}
-use Rattle.scene_draft.specs.Drafts.{Draft, DraftEntry, DraftSystem, barrier, system}
+use Rattle.scene_document.specs.Drafts.{Draft, DraftEntry, DraftSystem, barrier, system}
 use Rattle.scene_document.specs.Openings.{with_facts, systems_at, all_systems, local_systems, staged_systems, frames_of, staged, same_resource, command_of, commands_in, commands_for}
 use Rattle.shred_plan.specs.Plan.{order}
 

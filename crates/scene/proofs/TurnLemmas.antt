@@ -2,14 +2,14 @@
 use Rattle.std.proofs.lemmas.Bool.{true≢false}
 use Rattle.std.proofs.Common.{◌≡◌, ◌<◌, ◌++◌, MatchOption, ℕ, suc, List, [], Option, Some, None, is_some, false, refl, sym, ◌∙◌, ap, subst, arith}
 use Rattle.std.proofs.lemmas.Option.{MatchOption-at_none, none-some}
-use Rattle.scene_rules.specs.declared.refusals.FrameRefusal.{FrameRefusal}
-use Rattle.scene_rules.specs.declared.refusals.Report.{Report}
-use Rattle.scene_rules.specs.declared.refusals.Skip.{Skip}
-use Rattle.scene_rules.specs.Rulebook.{Book}
-use Rattle.scene_rules.specs.Commands.{skips_of}
-use Rattle.scene_draft.specs.Drafts.{Draft}
+use Rattle.scene_model.specs.declared.refusals.FrameRefusal.{FrameRefusal}
+use Rattle.scene_model.specs.declared.refusals.Report.{Report}
+use Rattle.scene_model.specs.declared.refusals.Skip.{Skip}
+use Rattle.scene_model.specs.Rulebook.{Book}
+use Rattle.scene_model.specs.Commands.{skips_of}
+use Rattle.scene_document.specs.Drafts.{Draft}
 use Rattle.scene_document.specs.Openings.{first_scene, frames_of}
-use Rattle.scene_rules.specs.Frames.{Accepts, Refuses, Reaches, Ended}
+use Rattle.scene_model.specs.Frames.{Accepts, Refuses, Reaches, Ended}
 use Rattle.scene.specs.Turns.{Shown, opening, nothing_yet, frames_left, next_frame, SameCourse, Advances, IsRefused, Stays, Going, RunsOut}
 
 -- a scene before any of its frames

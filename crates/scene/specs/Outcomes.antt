@@ -3,18 +3,18 @@ use Rattle.std.specs.Prelude.{◌≡◌, ◌≤◌, ℕ, List, length, Option, I
 use Rattle.std.specs.Io.KnownBytes.{Appends, IsAtEnd}
 use Rattle.scene_devices.specs.Faults.{HasFailed}
 use Rattle.scene_devices.specs.Reading.{GivesAtLeast}
-use Rattle.scene_rules.specs.declared.refusals.DocRefusal.{DocRefusal}
-use Rattle.scene_rules.specs.declared.refusals.Report.{Report}
+use Rattle.scene_model.specs.declared.refusals.DocRefusal.{DocRefusal}
+use Rattle.scene_model.specs.declared.refusals.Report.{Report}
 use Rattle.scene_document.specs.declared.loaded.LoadError.{LoadError}
 use Rattle.scene_document.specs.declared.loaded.LoadError.TheVariants.{Document, Memory}
 use Rattle.scene_document.specs.declared.loaded.Limits.{Limits}
 use Rattle.scene.specs.declared.runner.RunError.{RunError}
 use Rattle.scene.specs.declared.runner.RunError.TheVariants as run
-use Rattle.scene_rules.specs.Rulebook.{Book}
-use Rattle.scene_rules.specs.Scenes.{PlainScene, IsProper}
-use Rattle.scene_draft.specs.Drafts.{Draft}
+use Rattle.scene_model.specs.Rulebook.{Book}
+use Rattle.scene_model.specs.Scenes.{PlainScene, IsProper}
+use Rattle.scene_document.specs.Drafts.{Draft}
 use Rattle.scene_document.specs.Documents.{document_of}
-use Rattle.scene_draft.specs.Texts.{scene_json, text_of, ReadsBack}
+use Rattle.scene_document.specs.Texts.{scene_json, text_of, ReadsBack}
 use Rattle.scene.specs.Runs.{CanBegin, Ran}
 
 -- the limits that a run is under: how many entities a document may list, and how many commands a frame may have

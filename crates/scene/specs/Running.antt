@@ -4,29 +4,29 @@ use Rattle.std.specs.Global.{Vec}
 use Rattle.shred_world.specs.Worlds.{Slots}
 use Rattle.shred_world.specs.Bundles.{holding_of}
 use Rattle.shred.specs.Dispatching.{Dispatching}
-use Rattle.scene_rules.specs.declared.command.Command.{Command}
-use Rattle.scene_rules.specs.Parts.{Json, Name, Part}
-use Rattle.scene_rules.specs.Rulebook.{Access, Book}
-use Rattle.scene_rules.specs.Scenes.{PlainScene, PlainSystem, PlainFrame, IsProper, IsDescribed}
-use Rattle.scene_rules.specs.Lawful.{IsLawful}
-use Rattle.scene_rules.specs.Slots.{filled}
-use Rattle.scene_draft.specs.declared.draft.DocumentDraft.{DocumentDraft}
-use Rattle.scene_draft.specs.Drafts.{Draft}
-use Rattle.scene_draft.specs.DraftViews.{IsDraft, AreMade}
-use Rattle.scene_draft.specs.Texts.{json_of}
+use Rattle.scene_model.specs.declared.command.Command.{Command}
+use Rattle.scene_model.specs.Parts.{Json, Name, Part}
+use Rattle.scene_model.specs.Rulebook.{Access, Book}
+use Rattle.scene_model.specs.Scenes.{PlainScene, PlainSystem, PlainFrame, IsProper, IsDescribed}
+use Rattle.scene_model.specs.Lawful.{IsLawful}
+use Rattle.scene_model.specs.Slots.{filled}
+use Rattle.scene_document.specs.declared.draft.DocumentDraft.{DocumentDraft}
+use Rattle.scene_document.specs.Drafts.{Draft}
+use Rattle.scene_document.specs.DraftViews.{IsDraft, AreMade}
+use Rattle.scene_document.specs.Texts.{json_of}
 use Rattle.scene_document.specs.declared.loaded.Limits.{Limits}
 use Rattle.scene_document.specs.Documents.{document_from, refusal_of}
 use Rattle.scene_document.specs.Openings.{first_scene, frames_of}
 use Rattle.scene_document.specs.Loading.{commands_at}
-use Rattle.scene_kept.specs.declared.columns.KeptScene.{KeptScene}
+use Rattle.scene_snapshot.specs.declared.columns.KeptScene.{KeptScene}
 use Rattle.scene_snapshot.specs.KeptScenes.{kept_scene}
 use Rattle.scene_world.specs.Standing.{Kinds, plain_of, IsSceneWorld}
-use Rattle.scene_turns.specs.Turns.{Meaning, IsOfBook}
-use Rattle.scene_turns.specs.declared.placed.Placed.{Placed}
-use Rattle.scene_systems.specs.Orders.{turn_order}
-use Rattle.scene_systems.specs.Frames.{AreReady}
-use Rattle.scene_acts.specs.Acts.{seen_of}
-use Rattle.scene_frames.specs.Waiting.{AreTheirPlaces, NoneWaits}
+use Rattle.scene_world.specs.Turns.{Meaning, IsOfBook}
+use Rattle.scene_world.specs.declared.placed.Placed.{Placed}
+use Rattle.scene_dispatch.specs.Orders.{turn_order}
+use Rattle.scene_dispatch.specs.Frames.{AreReady}
+use Rattle.scene_commands.specs.Acts.{seen_of}
+use Rattle.scene.specs.Waiting.{AreTheirPlaces, NoneWaits}
 use Rattle.scene.specs.Runs.{CanBegin}
 use Rattle.scene.specs.Turns.{Shown, opening}
 use Rattle.scene.specs.declared.frame.Scene.{Scene}

@@ -1,12 +1,12 @@
 -- A run: from a document to the scene that its frames reach.
 use Rattle.std.specs.Prelude.{ℕ, All}
-use Rattle.scene_rules.specs.declared.refusals.Report.{Report}
-use Rattle.scene_rules.specs.Rulebook.{Book}
-use Rattle.scene_rules.specs.Scenes.{PlainScene, IsProper, PartsStand, IsDescribed}
-use Rattle.scene_rules.specs.Lawful.{IsLawful}
-use Rattle.scene_draft.specs.Drafts.{Draft}
+use Rattle.scene_model.specs.declared.refusals.Report.{Report}
+use Rattle.scene_model.specs.Rulebook.{Book}
+use Rattle.scene_model.specs.Scenes.{PlainScene, IsProper, PartsStand, IsDescribed}
+use Rattle.scene_model.specs.Lawful.{IsLawful}
+use Rattle.scene_document.specs.Drafts.{Draft}
 use Rattle.scene_document.specs.Openings.{first_scene, frames_of}
-use Rattle.scene_rules.specs.Frames.{Reaches, Ended}
+use Rattle.scene_model.specs.Frames.{Reaches, Ended}
 
 -- a document can begin: the scene that it gives is proper, its parts stand under the rules' kinds, and in each frame the systems are
 -- as the rules describe them, and the document's commands are ones that they know

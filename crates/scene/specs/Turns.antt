@@ -1,13 +1,13 @@
 -- A scene between two frames: what is shown of it, and what one call of `run_frame` does.
 use Rattle.std.specs.Prelude.{◌≡◌, ◌-◌, ◌≤◌, ◌++◌, ℕ, suc, List, [], None, Some, MatchOption}
-use Rattle.scene_rules.specs.declared.refusals.Report.{Report}
-use Rattle.scene_rules.specs.declared.refusals.FrameRefusal.{FrameRefusal}
-use Rattle.scene_rules.specs.Rulebook.{Book}
-use Rattle.scene_rules.specs.Scenes.{PlainScene, PlainFrame}
-use Rattle.scene_rules.specs.Commands.{skips_of}
-use Rattle.scene_draft.specs.Drafts.{Draft}
+use Rattle.scene_model.specs.declared.refusals.Report.{Report}
+use Rattle.scene_model.specs.declared.refusals.FrameRefusal.{FrameRefusal}
+use Rattle.scene_model.specs.Rulebook.{Book}
+use Rattle.scene_model.specs.Scenes.{PlainScene, PlainFrame}
+use Rattle.scene_model.specs.Commands.{skips_of}
+use Rattle.scene_document.specs.Drafts.{Draft}
 use Rattle.scene_document.specs.Openings.{first_scene, frames_of}
-use Rattle.scene_rules.specs.Frames.{Accepts, Refuses, Reaches, Ended}
+use Rattle.scene_model.specs.Frames.{Accepts, Refuses, Reaches, Ended}
 
 -- what is shown of a scene: the last accepted scene, its frames by their numbers from 1, how many commands one may have, how
 -- many frames are asked for, and the report so far

@@ -1,21 +1,20 @@
 //! One frame of a scene that stands in a world, and what is kept of the scene after it.
 ghost use Rattle.std.specs.Prelude.{◌≡◌, ◌++◌, ◌≤◌, ℕ, List, All, IfErr, OnOk, OnErr, take};
-ghost use Rattle.scene_rules.specs.Lawful.{IsLawful};
-ghost use Rattle.scene_rules.specs.Commands.{skips_of};
-ghost use Rattle.scene_rules.specs.Frames.{Accepts, Refuses};
-ghost use Rattle.scene_rules.specs.Queues.{plain_commands};
-ghost use Rattle.scene_turns.specs.Places.{kinds_of};
-ghost use Rattle.scene_turns.specs.Turns.{placed_as};
-ghost use Rattle.scene_systems.specs.Orders.{turn_order};
+ghost use Rattle.scene_model.specs.Lawful.{IsLawful};
+ghost use Rattle.scene_model.specs.Commands.{skips_of};
+ghost use Rattle.scene_model.specs.Frames.{Accepts, Refuses};
+ghost use Rattle.scene_model.specs.Queues.{plain_commands};
+ghost use Rattle.scene_world.specs.Places.{kinds_of};
+ghost use Rattle.scene_world.specs.Turns.{placed_as};
+ghost use Rattle.scene_dispatch.specs.Orders.{turn_order};
 ghost use Rattle.scene.specs.Running.{Stands, listed_scene};
 
-use scene_frames::laws::a_refusal_in_a_world_is_one_of_the_scene;
-use scene_frames::run_frame;
-use scene_keeping::keep_scene;
-use scene_kept::KeptScene;
-use scene_rules::{Command, FrameRefusal, Skip};
-use scene_systems::SceneDispatcher;
-use scene_turns::{Rules, SceneValue};
+use crate::laws::a_refusal_in_a_world_is_one_of_the_scene;
+use crate::{keep_scene, run_frame};
+use scene_dispatch::SceneDispatcher;
+use scene_model::{Command, FrameRefusal, Skip};
+use scene_snapshot::KeptScene;
+use scene_world::{Rules, SceneValue};
 use shred_world::World;
 use std::sync::Wait;
 use std::thread::Threads;

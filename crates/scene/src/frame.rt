@@ -1,19 +1,17 @@
 //! A scene that runs frame by frame in a world of entities.
 ghost use Rattle.std.specs.Prelude.{◌≡◌, ◌<◌, OnOk, OnErr, IfOk, MatchResult};
-ghost use Rattle.scene_rules.specs.Parts.{Part};
-ghost use Rattle.scene_rules.specs.Queues.{plain_commands};
+ghost use Rattle.scene_model.specs.Parts.{Part};
+ghost use Rattle.scene_model.specs.Queues.{plain_commands};
 ghost use Rattle.scene_document.specs.Loading.{commands_at};
 
 use crate::advance::advance;
+use crate::keep_scene;
 use crate::load::{Course, Opened, place_document, prepare_document};
-use scene_document::{Limits, LoadError};
-use scene_draft::{JsonError, read_json};
-use scene_keeping::keep_scene;
-use scene_kept::KeptScene;
-use scene_rules::{Command, DocRefusal, Report, Skips};
-use scene_snapshot::kept_text;
-use scene_systems::SceneDispatcher;
-use scene_turns::{Rules, SceneValue};
+use scene_dispatch::SceneDispatcher;
+use scene_document::{JsonError, Limits, LoadError, read_json};
+use scene_model::{Command, DocRefusal, Report, Skips};
+use scene_snapshot::{KeptScene, kept_text};
+use scene_world::{Rules, SceneValue};
 use serde_json::Value;
 use shred_world::World;
 use std::alloc::{AllocError, Global};
@@ -65,11 +63,11 @@ where
     ghost use Rattle.scene.specs.Turns.{Advances, Stays, frames_left};
     ghost use Rattle.scene.specs.Outcomes.{IsNoDocument, bounds_of};
     ghost use Rattle.scene_document.specs.Loading.{IsNotLoaded};
-    ghost use Rattle.scene_draft.specs.Texts.{scene_json, text_of, ReadsBack};
-    ghost use Rattle.scene_turns.specs.Places.{kinds_of};
-    ghost use Rattle.scene_turns.specs.Turns.{placed_as};
+    ghost use Rattle.scene_document.specs.Texts.{scene_json, text_of, ReadsBack};
+    ghost use Rattle.scene_world.specs.Places.{kinds_of};
+    ghost use Rattle.scene_world.specs.Turns.{placed_as};
     ghost use Rattle.scene.specs.Running.{shown_of, rules_of, IsReady, IsPlaced, IsOpened, IsOpenedFrom};
-    ghost use Rattle.scene_rules.specs.Parts.{Json};
+    ghost use Rattle.scene_model.specs.Parts.{Json};
     ghost use Rattle.scene_document.specs.declared.loaded.LoadError.TheVariants.{Memory};
 
     /// The scene of the document in these bytes, before any frame.
@@ -293,8 +291,8 @@ where
     R::System: Send + Sync,
 {
     ghost use Rattle.scene.specs.Turns.{Advances, Stays, frames_left};
-    ghost use Rattle.scene_turns.specs.Places.{kinds_of};
-    ghost use Rattle.scene_turns.specs.Turns.{placed_as};
+    ghost use Rattle.scene_world.specs.Places.{kinds_of};
+    ghost use Rattle.scene_world.specs.Turns.{placed_as};
     ghost use Rattle.scene.specs.Running.{shown_of, rules_of, IsReady};
 
     /// Runs the next frame: its systems on the dispatcher, then its commands.

@@ -8,18 +8,28 @@
 #![tactic(auto)]
 
 mod advance;
+mod commands;
 mod frame;
+mod keeping;
+pub mod laws;
 mod load;
+mod queues;
 mod runner;
+mod running;
+mod taking;
 
+pub use commands::run_commands;
 pub use frame::{Refused, Scene};
+pub use keeping::keep_scene;
 pub use runner::{RunError, run, run_to_end, run_with};
+pub use running::run_frame;
 pub use scene_devices::{Counted, CountedRead, CountedWrite, Faults};
 pub use scene_document::{Limits, LoadError};
-pub use scene_rules::{
+pub use scene_model::{
     Accessor, Command, DocRefusal, DocumentRules, FrameRefusal, NotQueued, Queue, ReadError,
     Report, RunningTime, Skip, Skips, Text,
 };
-pub use scene_stores::{AnyStore, SceneMarker, SceneMarkerAllocator, SceneStorage, Store};
-pub use scene_turns::{QueueValue, Rules, SceneValue};
+pub use scene_world::{
+    AnyStore, QueueValue, Rules, SceneMarker, SceneMarkerAllocator, SceneStorage, SceneValue, Store,
+};
 pub use shred_stages::Stop;

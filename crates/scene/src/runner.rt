@@ -3,16 +3,15 @@ ghost use Rattle.std.specs.Prelude.{◌≡◌, MatchResult};
 ghost use Rattle.scene.specs.Limits.{AreLimits};
 ghost use Rattle.scene.specs.Turns.{RunsOut, nothing_yet};
 ghost use Rattle.scene.specs.Outcomes.{IsRunOf, IsNoDocument, RunsDocument, reading, writing, bounds_of, full_bounds};
-ghost use Rattle.scene_turns.specs.Places.{kinds_of};
-ghost use Rattle.scene_turns.specs.Turns.{placed_as};
+ghost use Rattle.scene_world.specs.Places.{kinds_of};
+ghost use Rattle.scene_world.specs.Turns.{placed_as};
 ghost use Rattle.scene.specs.Running.{shown_of, rules_of, IsReady};
 
 use crate::frame::Scene;
 use scene_devices::{CountedRead, CountedWrite, ReadFailure, read_document, write_text};
-use scene_document::{Limits, LoadError};
-use scene_draft::{JsonError, read_json};
-use scene_rules::{DocRefusal, Report};
-use scene_turns::{Rules, SceneValue};
+use scene_document::{JsonError, Limits, LoadError, read_json};
+use scene_model::{DocRefusal, Report};
+use scene_world::{Rules, SceneValue};
 use std::sync::Wait;
 use std::thread::Threads;
 

@@ -11,7 +11,7 @@ use Rattle.specs_join.specs.declared.join.change.EachError.{EachError}
 use Rattle.specs_join.specs.declared.join.change.EachError.TheVariants as error
 use Rattle.specs_join.specs.ChangeEach.{IsRefused}
 use Rattle.specs_join.specs.EachErrors.{OnRefused}
-use Rattle.scene_rules.specs.Parts.{Name}
+use Rattle.scene_model.specs.Parts.{Name}
 use Rattle.scene_basics.specs.declared.data.Gain.{Gain}
 use Rattle.scene_basics.specs.declared.values.Value.{Value}
 use Rattle.scene_basics.specs.Values.{Numbers, whole_at}

@@ -3,15 +3,15 @@ use Rattle.std.proofs.Common.{◌≡◌, ◌<◌, ◌+◌, ℕ, zero, suc, List,
 use Rattle.std.specs.List.{filter_map, cons_option}
 use Rattle.std.specs.Option.{option_to_list}
 use Rattle.std.proofs.lemmas.List.Elements.{filter_map-append}
-use Rattle.scene_rules.specs.Rulebook.{Fragment, Command, queue_room}
+use Rattle.scene_model.specs.Rulebook.{Fragment, Command, queue_room}
 use Rattle.std.proofs.lemmas.List.{length-map}
-use Rattle.scene_rules.specs.declared.command.Command.{Command as CodeCommand}
-use Rattle.scene_rules.specs.declared.command.NotQueued.{NotQueued}
-use Rattle.scene_rules.specs.declared.command.NotQueued.TheVariants as refusals
-use Rattle.scene_rules.specs.Queues.{plain_command, plain_commands, IsFull}
+use Rattle.scene_model.specs.declared.command.Command.{Command as CodeCommand}
+use Rattle.scene_model.specs.declared.command.NotQueued.{NotQueued}
+use Rattle.scene_model.specs.declared.command.NotQueued.TheVariants as refusals
+use Rattle.scene_model.specs.Queues.{plain_command, plain_commands, IsFull}
 use Rattle.shred_stages.specs.declared.stop.Stop.{Stop}
 use Rattle.shred_stages.specs.declared.stop.Stop.TheVariants as stop
-use Rattle.scene_turns.specs.Stops.{stop_for}
+use Rattle.scene_world.specs.Stops.{stop_for}
 use Rattle.scene_basics.specs.declared.data.Datum.{Datum}
 use Rattle.scene_basics.specs.Numbers.{part_of}
 use Rattle.scene_basics.specs.declared.data.Ask.{Ask}

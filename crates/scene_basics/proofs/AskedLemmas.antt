@@ -11,7 +11,7 @@ use Rattle.specs_layouts.specs.Masked.{Agrees}
 use Rattle.std.specs.Option.{option_map_or}
 use Rattle.std.proofs.lemmas.Bool.{false≢true, eqb-true}
 use Rattle.shred_world.specs.Bundles.{Holding, readable}
-use Rattle.scene_rules.specs.Rulebook.{kill}
+use Rattle.scene_model.specs.Rulebook.{kill}
 use Rattle.scene_world.specs.Rolls.{index_of, ids_in}
 use Rattle.scene_basics.specs.declared.data.Ask.{Ask}
 use Rattle.scene_basics.specs.declared.data.Ask.TheVariants.{Deaths, Births}

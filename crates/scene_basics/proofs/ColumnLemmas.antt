@@ -14,10 +14,10 @@ use Rattle.shred_world.proofs.CallerLemmas.{ids_total}
 use Rattle.specs_entity.specs.Life.{LifeAt}
 use Rattle.specs_layouts.specs.Masked.{Agrees}
 use Rattle.specs_layouts.specs.Parts.{Puts, HasNone}
-use Rattle.scene_rules.specs.Parts.{Name}
+use Rattle.scene_model.specs.Parts.{Name}
 use Rattle.scene_world.specs.Changes.{but_at}
-use Rattle.scene_turns.specs.Putting.{named_in, part_read, each_there, AreReadAt, PutsIn, Registers}
-use Rattle.scene_turns.proofs.CallerLemmas.{each-same, each-none, each-mapped}
+use Rattle.scene_world.specs.Putting.{named_in, part_read, each_there, AreReadAt, PutsIn, Registers}
+use Rattle.scene_world.proofs.CallerLemmas.{each-same, each-none, each-mapped}
 use Rattle.scene_basics.specs.Names.{hp_kind, owner_kind, pos_kind, vel_kind}
 use Rattle.scene_basics.specs.Numbers.{counting, referring, part_of}
 use Rattle.scene_basics.specs.Values.{Numbers, Owners, whole_at, owner_at}

@@ -7,14 +7,14 @@ use Rattle.std.proofs.lemmas.Slice.Eq.{bytes_eq-Decides}
 use Rattle.std.proofs.lemmas.List.Elements.{All-nil, All-cons}
 use Rattle.std.proofs.lemmas.List.Kept.{AllPairs-cons}
 use Rattle.std.specs.List.{filter_map, cons_option}
-use Rattle.scene_rules.specs.Parts.{Name, Part, is_among}
-use Rattle.scene_rules.specs.Rulebook.{Access, Fragment, leaves, refuses, fills, queue_room, Command, kill}
-use Rattle.scene_rules.specs.Scenes.{lives, RefLives, RefsLive, PartsAdmitted, GlobalsReadable, KeepsValues}
+use Rattle.scene_model.specs.Parts.{Name, Part, is_among}
+use Rattle.scene_model.specs.Rulebook.{Access, Fragment, leaves, refuses, fills, queue_room, Command, kill}
+use Rattle.scene_model.specs.Scenes.{lives, RefLives, RefsLive, PartsAdmitted, GlobalsReadable, KeepsValues}
 use Rattle.scene_basics.specs.declared.data.BasicSystem.{BasicSystem}
 use Rattle.scene_basics.specs.declared.data.BasicSystem.TheVariants.{Drift, Pull, Decay, Reap, Bud}
 use Rattle.scene_basics.specs.declared.data.Ask.TheVariants.{Deaths, Births}
 use Rattle.scene_basics.specs.Asks.{asked_for, asked_of, death_by, newborn, birth_at, birth_by}
-use Rattle.scene_rules.specs.Lawful.{IsKnownPart, IsLawful}
+use Rattle.scene_model.specs.Lawful.{IsKnownPart, IsLawful}
 use Rattle.scene_basics.specs.Names.{number_kinds, pos_kind, vel_kind, hp_kind, g_name}
 use Rattle.scene_basics.specs.Numbers.{counting, admits}
 use Rattle.scene_basics.specs.Gains.{Gains, sum_at, number_at, global_number, Overflows}

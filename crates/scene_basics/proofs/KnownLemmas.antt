@@ -14,9 +14,9 @@ use Rattle.shred_world.specs.Bundles.{Holding, readable}
 use Rattle.specs_entity.specs.Births.{Births, living, living_of, none_born}
 use Rattle.specs_entity.specs.Life.{Life, LifeAt}
 use Rattle.specs_markers.specs.Simple.{Noting, noted_under, none_noted}
-use Rattle.scene_rules.specs.Ids.{ascending}
-use Rattle.scene_rules.specs.Scenes.{lives, IdsAscend}
-use Rattle.scene_rules.proofs.CallerLemmas.{lives-ascending, in_order-ascends, same-ids, lives-kept}
+use Rattle.scene_model.specs.Ids.{ascending}
+use Rattle.scene_model.specs.Scenes.{lives, IdsAscend}
+use Rattle.scene_model.proofs.CallerLemmas.{lives-ascending, in_order-ascends, same-ids, lives-kept}
 use Rattle.scene_world.specs.Rolls.{Roll, is_life, is_id, index_of, ids_in}
 use Rattle.scene_world.proofs.CallerLemmas.{is-id, id-marks, id-at-index, lives-index, ids-ascend}
 use Rattle.scene_basics.specs.Known.{known_at}

@@ -2,9 +2,9 @@
 use Rattle.std.proofs.Common.{◌≡◌, ℕ, ℤ, negsuc, List, Option, Some, None, sym, ◌∙◌, subst, All}
 use Rattle.std.proofs.lemmas.Option.{same_Some}
 use Rattle.std.proofs.lemmas.List.Elements.{All-nil}
-use Rattle.scene_rules.specs.Parts.{Name, Part}
-use Rattle.scene_rules.specs.Rulebook.{Access, Fragment, Outcome, leaves, refuses, fills, Command}
-use Rattle.scene_rules.specs.Scenes.{RefLives}
+use Rattle.scene_model.specs.Parts.{Name, Part}
+use Rattle.scene_model.specs.Rulebook.{Access, Fragment, Outcome, leaves, refuses, fills, Command}
+use Rattle.scene_model.specs.Scenes.{RefLives}
 use Rattle.scene_laws.specs.OneOutcome.{SameOutcome}
 use Rattle.scene_laws.specs.References.{RefsLiveUnder}
 use Rattle.scene_basics.specs.declared.data.BasicSystem.{BasicSystem}

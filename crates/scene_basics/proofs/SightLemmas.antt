@@ -4,8 +4,8 @@ use Rattle.std.specs.Prelude.{option_and_then, option_map}
 use Rattle.std.specs.Str.{bytes_eq}
 use Rattle.shred_world.specs.Bundles.{Holding, readable}
 use Rattle.specs_entity.specs.Life.{LifeAt}
-use Rattle.scene_rules.specs.Parts.{Name, Ref, is_among}
-use Rattle.scene_rules.specs.Rulebook.{Access, declares}
+use Rattle.scene_model.specs.Parts.{Name, Ref, is_among}
+use Rattle.scene_model.specs.Rulebook.{Access, declares}
 use Rattle.scene_world.specs.Stored.{part_under}
 use Rattle.scene_world.specs.Rolls.{index_of, ref_to, part_in}
 use Rattle.scene_world.specs.Standing.{seen_in, column_of, fragment_of}

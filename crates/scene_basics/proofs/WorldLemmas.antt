@@ -14,19 +14,19 @@ use Rattle.shred_world.proofs.CallerLemmas.{same_id-itself}
 use Rattle.shred_stages.specs.declared.stop.Stop.{Stop}
 use Rattle.shred_stages.specs.declared.stop.Stop.TheVariants as stop
 use Rattle.shred_stages.specs.Views.{error_of}
-use Rattle.specs_events.specs.Channels.{log_of, no_log}
-use Rattle.specs_flagged.specs.Flagged.{tells}
+use Rattle.specs_layouts.specs.Channels.{log_of, no_log}
+use Rattle.specs_layouts.specs.Flagged.{tells}
 use Rattle.specs_layouts.specs.Shows.{Shows, Names}
 use Rattle.specs_join.specs.ChangeEach.{AreChanged, IsRefused, after as changed_to}
-use Rattle.scene_rules.specs.Parts.{Name, is_among}
-use Rattle.scene_rules.specs.Rulebook.{Access, Fragment, Outcome, leaves, refuses, fills, Command, declares}
-use Rattle.scene_rules.specs.Scenes.{PartsOwned, PlainScene, IsLawfullyLeft, lives, fragment}
+use Rattle.scene_model.specs.Parts.{Name, is_among}
+use Rattle.scene_model.specs.Rulebook.{Access, Fragment, Outcome, leaves, refuses, fills, Command, declares}
+use Rattle.scene_model.specs.Scenes.{PartsOwned, PlainScene, IsLawfullyLeft, lives, fragment}
 use Rattle.scene_world.specs.Rolls.{index_of, ids_in}
 use Rattle.scene_world.specs.Standing.{seen_in, column_of, column_in, events_in, emits_in, fragment_of, plain_of, IsWithin}
 use Rattle.scene_world.proofs.CallerLemmas.{lives-index}
-use Rattle.scene_turns.specs.Turns.{Meaning, sense_of, rules_by, IsLentFit, LeavesLawfully, Ends, Runs, ShowsChanges, meaning_of}
-use Rattle.scene_turns.specs.Writes.{WritesOne}
-use Rattle.scene_turns.proofs.CallerLemmas.{written-roll, left-ids, left-others, left-globals, owned-plain}
+use Rattle.scene_world.specs.Turns.{Meaning, sense_of, rules_by, IsLentFit, LeavesLawfully, Ends, Runs, ShowsChanges, meaning_of}
+use Rattle.scene_world.specs.Writes.{WritesOne}
+use Rattle.scene_world.proofs.CallerLemmas.{written-roll, left-ids, left-others, left-globals, owned-plain}
 use Rattle.scene_basics.specs.declared.data.BasicSystem.{BasicSystem}
 use Rattle.scene_basics.specs.declared.data.BasicSystem.TheVariants.{Drift, Pull}
 use Rattle.scene_basics.specs.declared.data.Ask.{Ask}

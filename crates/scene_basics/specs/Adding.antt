@@ -4,15 +4,15 @@ use Rattle.std.specs.String.{string_bytes}
 use Rattle.shred_world.specs.Bundles.{Holding, readable, out, owned, with_slot}
 use Rattle.shred_stages.specs.declared.stop.Stop.{Stop}
 use Rattle.shred_stages.specs.declared.stop.Stop.TheVariants as stop
-use Rattle.specs_events.specs.Channels.{log_of}
-use Rattle.specs_flagged.specs.Flagged.{Flagged, tells}
+use Rattle.specs_layouts.specs.Channels.{log_of}
+use Rattle.specs_layouts.specs.Flagged.{Flagged, tells}
 use Rattle.specs_layouts.specs.Shows.{Shows}
 use Rattle.specs_join.specs.declared.join.change.EachError.{EachError}
 use Rattle.specs_join.specs.declared.join.change.EachError.TheVariants as error
 use Rattle.specs_join.specs.ChangeEach.{AreChanged, IsRefused}
-use Rattle.scene_stores.specs.declared.any_store.AnyStore.{AnyStore}
-use Rattle.scene_stores.specs.Stores.{store_part}
-use Rattle.scene_rules.specs.Parts.{Name}
+use Rattle.scene_world.specs.declared.any_store.AnyStore.{AnyStore}
+use Rattle.scene_world.specs.Stores.{store_part}
+use Rattle.scene_model.specs.Parts.{Name}
 use Rattle.scene_world.specs.Rolls.{index_of}
 use Rattle.scene_basics.specs.declared.data.Gain.{Gain}
 use Rattle.scene_basics.specs.declared.data.Gain.TheVariants.{Under, Each}

@@ -6,7 +6,7 @@ use Rattle.std.proofs.lemmas.Bool.{false≢true}
 use Rattle.std.proofs.lemmas.Slice.Eq.{bytes_eq-Decides}
 use Rattle.shred_world.specs.declared.resource_id.ResourceId.{ResourceId}
 use Rattle.shred_world.specs.ResourceIds.{id_of, same_id}
-use Rattle.scene_rules.specs.Parts.{Name, is_among}
+use Rattle.scene_model.specs.Parts.{Name, is_among}
 use Rattle.scene_world.specs.Lent.{Place, entities, markers, allocator, parts, value, queue, id_of_place, is_known, same_place, StandApart}
 use Rattle.scene_basics.specs.Names.{hp_kind, owner_kind, pos_kind, vel_kind, g_name, part_kinds}
 use Rattle.scene_basics.specs.Columns.{part_id, global_id, basic_kinds}

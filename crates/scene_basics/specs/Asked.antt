@@ -4,8 +4,8 @@ use Rattle.std.specs.Option.{option_map_or}
 use Rattle.shred_world.specs.Bundles.{Holding, readable}
 use Rattle.shred_stages.specs.declared.stop.Stop.{Stop}
 use Rattle.shred_stages.specs.declared.stop.Stop.TheVariants as stop
-use Rattle.scene_rules.specs.Parts.{Name}
-use Rattle.scene_rules.specs.Rulebook.{Fragment, Command, fills, queue_room}
+use Rattle.scene_model.specs.Parts.{Name}
+use Rattle.scene_model.specs.Rulebook.{Fragment, Command, fills, queue_room}
 use Rattle.scene_world.specs.Rolls.{index_of}
 use Rattle.scene_world.specs.Standing.{fragment_of}
 use Rattle.scene_basics.specs.declared.data.Ask.{Ask}

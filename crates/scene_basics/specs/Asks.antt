@@ -1,8 +1,8 @@
 -- What the systems ask for that change nothing themselves: a command for each id that passes a test.
 use Rattle.std.specs.Prelude.{◌≡◌, ◌<◌, ◌≤◌, ℕ, ℤ, pos, int_le, Bool, List, [], ◌∷◌, length, take, Option, Some, None, if◌then◌else◌}
 use Rattle.std.specs.List.{filter_map}
-use Rattle.scene_rules.specs.Parts.{Part}
-use Rattle.scene_rules.specs.Rulebook.{Fragment, Outcome, leaves, refuses, fills, queue_room, Command, spawn, kill}
+use Rattle.scene_model.specs.Parts.{Part}
+use Rattle.scene_model.specs.Rulebook.{Fragment, Outcome, leaves, refuses, fills, queue_room, Command, spawn, kill}
 use Rattle.shred_stages.specs.declared.stop.Stop.{Stop}
 use Rattle.shred_stages.specs.declared.stop.Stop.TheVariants as stop
 use Rattle.scene_basics.specs.declared.data.Ask.{Ask}

@@ -6,13 +6,13 @@ use Rattle.std.specs.Str.{bytes_eq}
 use Rattle.serde_json.specs.Data.{number, unsigned}
 use Rattle.shred_world.specs.declared.resource_id.ResourceId.{ResourceId}
 use Rattle.shred_world.specs.ResourceIds.{id_of}
-use Rattle.specs_events.specs.Channels.{log_of, no_log}
-use Rattle.specs_flagged.specs.Flagged.{tells}
-use Rattle.scene_stores.specs.Markers.{marker_at}
-use Rattle.scene_rules.specs.Parts.{Name}
+use Rattle.specs_layouts.specs.Channels.{log_of, no_log}
+use Rattle.specs_layouts.specs.Flagged.{tells}
+use Rattle.scene_world.specs.Markers.{marker_at}
+use Rattle.scene_model.specs.Parts.{Name}
 use Rattle.scene_world.specs.Stored.{Stored}
 use Rattle.scene_world.specs.Standing.{Kinds}
-use Rattle.scene_turns.specs.Places.{Places, Columns, kinds_of}
+use Rattle.scene_world.specs.Places.{Places, Columns, kinds_of}
 use Rattle.scene_basics.specs.declared.data.Datum.{Datum}
 use Rattle.scene_basics.specs.declared.values.Whole.{Whole}
 use Rattle.scene_basics.specs.declared.values.Owner.{Owner}

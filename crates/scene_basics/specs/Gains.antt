@@ -2,9 +2,9 @@
 use Rattle.std.specs.Prelude.{◌≡◌, ℕ, ℤ, ◌+ℤ◌, true, false, [], Option, Some, None, option_and_then, FitsSigned}
 use Rattle.std.specs.Int.{w64}
 use Rattle.std.specs.Str.{bytes_eq}
-use Rattle.scene_rules.specs.Parts.{Name}
-use Rattle.scene_rules.specs.Rulebook.{Fragment, Outcome, leaves, refuses, fills}
-use Rattle.scene_rules.specs.Scenes.{lives}
+use Rattle.scene_model.specs.Parts.{Name}
+use Rattle.scene_model.specs.Rulebook.{Fragment, Outcome, leaves, refuses, fills}
+use Rattle.scene_model.specs.Scenes.{lives}
 use Rattle.scene_basics.specs.Names.{overflow}
 use Rattle.scene_basics.specs.Numbers.{counting, whole_in, number_of}
 

@@ -1,6 +1,6 @@
 -- The names of the parts, of the global and of the systems, by their bytes.
 use Rattle.std.specs.Prelude.{codes, List, [], ◌∷◌}
-use Rattle.scene_rules.specs.Parts.{Name}
+use Rattle.scene_model.specs.Parts.{Name}
 
 abbrev pub hp_kind : Name
 hp_kind = codes "hp"

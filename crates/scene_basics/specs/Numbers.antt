@@ -3,7 +3,7 @@ use Rattle.std.specs.Prelude.{ℕ, ◌^◌, nat_lt, ℤ, pos, negsuc, Bool, true
 use Rattle.std.specs.Str.{bytes_eq}
 use Rattle.serde_json.specs.Data.{unsigned, number}
 use Rattle.serde_json.specs.Find.{as_number, as_u64, as_integer, of_integer}
-use Rattle.scene_rules.specs.Parts.{Json, Name, Ref, living, gone, Part, is_among}
+use Rattle.scene_model.specs.Parts.{Json, Name, Ref, living, gone, Part, is_among}
 use Rattle.scene_basics.specs.declared.data.Datum.{Datum}
 use Rattle.scene_basics.specs.declared.data.Datum.TheVariants.{Whole, Owner}
 use Rattle.scene_basics.specs.Names.{owner_kind, number_kinds}

@@ -1,6 +1,6 @@
 -- What the program does: a run of the document that its reader gives, its status and its line.
 use Rattle.std.specs.Prelude.{◌≡◌, ℕ, List, Option, Result}
-use Rattle.scene_rules.specs.declared.refusals.Report.{Report}
+use Rattle.scene_model.specs.declared.refusals.Report.{Report}
 use Rattle.scene.specs.declared.runner.RunError.{RunError}
 use Rattle.scene.specs.Outcomes.{full_bounds, Reading, Writing, RunsDocument}
 use Rattle.scene_basics.specs.Systems.{basics}

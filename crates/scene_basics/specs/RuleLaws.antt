@@ -14,9 +14,9 @@ use Rattle.std.proofs.lemmas.List.Kept.{AllPairs-cons}
 use Rattle.serde_json.specs.Data.{unsigned, negative, float, null, boolean, number, string, array, object}
 use Rattle.serde_json.specs.Find.{as_number, as_i64, as_null}
 use Rattle.serde_json.specs.Written.{has_float}
-use Rattle.scene_rules.specs.Parts.{Json, Name, Part, is_among}
-use Rattle.scene_rules.specs.Rulebook.{Facts, known, misshapen}
-use Rattle.scene_rules.specs.Laws.{Ascend, DeclaresKnown}
+use Rattle.scene_model.specs.Parts.{Json, Name, Part, is_among}
+use Rattle.scene_model.specs.Rulebook.{Facts, known, misshapen}
+use Rattle.scene_model.specs.Laws.{Ascend, DeclaresKnown}
 use Rattle.scene_basics.specs.declared.data.Datum.{Datum}
 use Rattle.scene_basics.specs.declared.data.Datum.TheVariants.{Whole, Owner}
 use Rattle.scene_basics.specs.declared.data.BasicSystem.{BasicSystem}

@@ -2,8 +2,8 @@
 use Rattle.std.specs.Prelude.{negsuc, false, [], ◌∷◌, Option, Some, None, is_some, if◌then◌else◌}
 use Rattle.std.specs.Str.{bytes_eq}
 use Rattle.serde_json.specs.Find.{as_null}
-use Rattle.scene_rules.specs.Parts.{Json, Name}
-use Rattle.scene_rules.specs.Rulebook.{Access, Facts, Described, misshapen, unknown, known, Fragment, Outcome, Book}
+use Rattle.scene_model.specs.Parts.{Json, Name}
+use Rattle.scene_model.specs.Rulebook.{Access, Facts, Described, misshapen, unknown, known, Fragment, Outcome, Book}
 use Rattle.scene_basics.specs.declared.data.BasicSystem.{BasicSystem}
 use Rattle.scene_basics.specs.declared.data.BasicSystem.TheVariants.{Drift, Pull, Decay, Reap, Bud}
 use Rattle.scene_basics.specs.declared.data.Ask.TheVariants.{Deaths, Births}

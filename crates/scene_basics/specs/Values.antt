@@ -1,13 +1,13 @@
 -- What a world of the program's scenes holds.
 use Rattle.std.specs.Prelude.{ℕ, ℤ, Option, Some, None}
 use Rattle.specs_entity.specs.Births.{Births}
-use Rattle.specs_flagged.specs.Flagged.{Flagged}
+use Rattle.specs_layouts.specs.Flagged.{Flagged}
 use Rattle.specs_layouts.specs.Masked.{Masked}
 use Rattle.specs_layouts.specs.declared.storages.vec.VecStorage.{VecStorage}
 use Rattle.specs_markers.specs.Simple.{Noting}
-use Rattle.scene_rules.specs.declared.command.Queue.{Queue}
-use Rattle.scene_stores.specs.declared.any_store.AnyStore.{AnyStore}
-use Rattle.scene_stores.specs.Stores.{store_part}
+use Rattle.scene_model.specs.declared.command.Queue.{Queue}
+use Rattle.scene_world.specs.declared.any_store.AnyStore.{AnyStore}
+use Rattle.scene_world.specs.Stores.{store_part}
 use Rattle.scene_basics.specs.declared.data.Datum.{Datum}
 use Rattle.scene_basics.specs.declared.values.Whole.{Whole}
 use Rattle.scene_basics.specs.declared.values.Owner.{Owner}

@@ -1,7 +1,7 @@
 -- A law of the program's rules over a world.
 use Rattle.std.proofs.Common.{Option, Some, refl, sym, subst}
 use Rattle.serde_json.specs.Data.{null}
-use Rattle.scene_turns.specs.Turns.{sense_of, IsOfBook, meaning_of}
+use Rattle.scene_world.specs.Turns.{sense_of, IsOfBook, meaning_of}
 use Rattle.scene_basics.specs.declared.data.BasicSystem.{BasicSystem}
 use Rattle.scene_basics.specs.Systems.{basics, kind_of, facts_of, Makes}
 use Rattle.scene_basics.specs.RuleLaws.{system_named-kind_of}

@@ -15,7 +15,7 @@ use crate::columns::part_id;
 use crate::data::Gain;
 use crate::known::id_known;
 use crate::values::{Value, Whole};
-use scene_stores::{AnyStore, change_parts};
+use scene_world::{AnyStore, change_parts};
 use shred_stages::Stop;
 use shred_world::{Holder, ResourceId};
 use specs_join::{Change, EachError, Join, LaidOut};

@@ -1,7 +1,7 @@
 //! The parts of the four kinds in the values of a world.
 ghost use Rattle.std.specs.Prelude.{◌≡◌, ◌<◌, ◌++◌, [], length, map, None, IfOk, OnOk, OnErr, option_map};
 ghost use Rattle.specs_layouts.specs.Masked.{Agrees};
-ghost use Rattle.scene_turns.specs.Putting.{named_in, part_read, each_there, PutsIn, TakesOut, SameColumn, Registers};
+ghost use Rattle.scene_world.specs.Putting.{named_in, part_read, each_there, PutsIn, TakesOut, SameColumn, Registers};
 ghost use Rattle.scene_basics.specs.declared.data.Datum.TheVariants.{Whole as DatumWhole};
 ghost use Rattle.scene_basics.specs.Values.{whole_at};
 ghost use Rattle.scene_basics.specs.Numbers.{counting, referring, part_of};
@@ -11,7 +11,7 @@ ghost use Rattle.scene_basics.specs.Registering.{HasNumbers, HasOwners};
 use crate::data::{Datum, HP, OWNER, POS, VEL};
 use crate::values::{Owner, Value, Whole};
 use hibitset::BitSet;
-use scene_stores::{AnyStore, Store, scene_storage};
+use scene_world::{AnyStore, Store, scene_storage};
 use shred_world::{ResourceId, World};
 use specs_entity::Entity;
 use specs_layouts::{MaskedStorage, UnprotectedStorage};

@@ -1,14 +1,14 @@
 //! Who is known in a world by an id, as a system sees it.
 ghost use Rattle.std.specs.Prelude.{◌≡◌, IfOk};
 ghost use Rattle.std.specs.List.{filter_map};
-ghost use Rattle.scene_rules.specs.Ids.{ascending};
+ghost use Rattle.scene_model.specs.Ids.{ascending};
 ghost use Rattle.specs_entity.specs.Births.{living};
 ghost use Rattle.specs_markers.specs.Simple.{noted_under};
 ghost use Rattle.scene_world.specs.Rolls.{is_life, index_of};
 ghost use Rattle.scene_basics.specs.Known.{basic_roll, known_at};
 
 use crate::values::Value;
-use scene_stores::SceneMarkerAllocator;
+use scene_world::SceneMarkerAllocator;
 use shred_world::{Holder, Resource, ResourceId};
 use specs_entity::{EntitiesRes, Entity};
 use specs_markers::{Marker, MarkerAllocator};

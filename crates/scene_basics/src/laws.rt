@@ -1,11 +1,11 @@
 //! Laws of the program's rules, and what the laws of scenes say of them: public functions whose contracts say them.
 ghost use Rattle.std.specs.Prelude.{◌≡◌, ℕ, List, Ok};
-ghost use Rattle.scene_rules.specs.Scenes.{PlainScene, PlainFrame};
-ghost use Rattle.scene_rules.specs.declared.refusals.Report.{Report};
-ghost use Rattle.scene_rules.specs.declared.refusals.Skip.{Skip};
-ghost use Rattle.scene_draft.specs.Drafts.{Draft};
+ghost use Rattle.scene_model.specs.Scenes.{PlainScene, PlainFrame};
+ghost use Rattle.scene_model.specs.declared.refusals.Report.{Report};
+ghost use Rattle.scene_model.specs.declared.refusals.Skip.{Skip};
+ghost use Rattle.scene_document.specs.Drafts.{Draft};
 ghost use Rattle.scene_document.specs.Documents.{document_of};
-ghost use Rattle.scene_rules.specs.Frames.{Reaches};
+ghost use Rattle.scene_model.specs.Frames.{Reaches};
 ghost use Rattle.scene.specs.Runs.{CanBegin, Ran};
 ghost use Rattle.scene.specs.Outcomes.{Bounds, IsRunOf};
 ghost use Rattle.scene_laws.specs.OneOutcome.{OneOutcome, HadMeans, SameButPlace};

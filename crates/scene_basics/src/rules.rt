@@ -2,7 +2,7 @@
 ghost use Rattle.std.specs.Prelude.{◌≡◌, None, Some};
 ghost use Rattle.std.proofs.Common.{rules};
 ghost use Rattle.serde_json.specs.View.{view};
-ghost use Rattle.scene_rules.specs.Parts.{is_among};
+ghost use Rattle.scene_model.specs.Parts.{is_among};
 ghost use Rattle.scene_basics.specs.Names.{number_kinds};
 ghost use Rattle.serde_json.specs.Data.{null};
 ghost use Rattle.scene_basics.specs.Numbers.{part_of, json_of, signed_in};

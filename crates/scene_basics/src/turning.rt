@@ -1,6 +1,6 @@
 //! The program's rules over a world.
 ghost use Rattle.std.specs.Prelude.{Some, refl};
-ghost use Rattle.scene_turns.specs.Turns.{sense_of};
+ghost use Rattle.scene_world.specs.Turns.{sense_of};
 ghost use Rattle.scene_basics.specs.Systems.{basics, Makes};
 ghost use Rattle.scene_basics.specs.Columns.{basic_columns};
 ghost use Rattle.scene_basics.specs.Apart.{basic-apart};
@@ -15,9 +15,8 @@ use crate::columns::{
 use crate::data::{Ask, BasicSystem, Datum, Gain, HP, OWNER, POS, VEL};
 use crate::rules::Basics;
 use crate::values::Value;
-use scene_rules::Queue;
-use scene_stores::Store;
-use scene_turns::Rules;
+use scene_model::Queue;
+use scene_world::{Rules, Store};
 use shred_stages::Stop;
 use shred_world::{Holder, ResourceId, World};
 use specs_entity::Entity;

@@ -7,9 +7,8 @@ ghost use Rattle.scene_basics.specs.declared.values.Value.TheVariants.{EntitiesV
 ghost use Rattle.scene_basics.specs.declared.values.Value.TheVariants.{QueueValue};
 
 use crate::data::Datum;
-use scene_rules::Queue;
-use scene_stores::{SceneMarker, SceneMarkerAllocator, SceneStorage};
-use scene_turns::QueueValue;
+use scene_model::Queue;
+use scene_world::{QueueValue, SceneMarker, SceneMarkerAllocator, SceneStorage};
 use shred_world::Resource;
 use specs_entity::{EntitiesRes, Entity};
 use specs_layouts::{Component, MaskedStorage};

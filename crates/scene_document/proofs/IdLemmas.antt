@@ -5,10 +5,10 @@ use Rattle.std.specs.Ordering.{nat_cmp, is_eq}
 use Rattle.std.specs.BTreeSet.{insert_key}
 use Rattle.std.proofs.Math.Seq.{drop-cons}
 use Rattle.std.proofs.lemmas.Bool.Decides.{nat_tests}
-use Rattle.scene_rules.specs.Scenes.{lives}
+use Rattle.scene_model.specs.Scenes.{lives}
 use Rattle.scene_document.specs.Documents.{has_double}
-use Rattle.scene_rules.specs.Ids.{ascending}
-use Rattle.scene_rules.proofs.CallerLemmas.{is_eq-nat_cmp, lives-ascending}
+use Rattle.scene_model.specs.Ids.{ascending}
+use Rattle.scene_model.proofs.CallerLemmas.{is_eq-nat_cmp, lives-ascending}
 
 -- a set has an id exactly where it stands among its keys
 pub contains-lives : (id : ℕ) (keys : List ℕ) → list_any (λ other. is_eq (nat_cmp id other)) keys ≡ lives id keys

@@ -1,7 +1,11 @@
+pub mod TextLemmas
+pub mod ShapeLemmas
+pub mod ReadingLemmas
+pub mod PairLemmas
+pub mod CallerLemmas
 pub mod PlaceLemmas
 pub mod IdLemmas
 pub mod NameLemmas
 pub mod RefusalLemmas
 pub mod CommandLemmas
 pub mod LoadedLemmas
-pub mod CallerLemmas

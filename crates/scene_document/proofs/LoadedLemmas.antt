@@ -1,6 +1,6 @@
 -- Lemmas on what is loaded of a draft that no refusal stands against.
-use Rattle.scene_rules.specs.declared.refusals.DocRefusal.TheVariants.{NotWhole}
-use Rattle.scene_rules.specs.declared.refusals.DocRefusal.{DocRefusal}
+use Rattle.scene_model.specs.declared.refusals.DocRefusal.TheVariants.{NotWhole}
+use Rattle.scene_model.specs.declared.refusals.DocRefusal.{DocRefusal}
 use Rattle.serde_json.specs.Written.{has_float}
 use Rattle.std.proofs.Common.{◌≡◌, ℕ, zero, suc, ◌<◌, ◌≤◌, Bool, true, false, not, cond, eqb, ltb, List, [], ◌∷◌, map, length, Option, Some, None, AllPairs, option_map, slice_get, vec_len, refl, ap, sym, subst, ◌∙◌, arith, Result, Ok, Err}
 use Rattle.std.specs.List.{All, AllByRecursion, list_any, filter_map, cons_option}
@@ -15,24 +15,24 @@ use Rattle.std.proofs.lemmas.Option.{slice_get-map}
 use Rattle.std.proofs.lemmas.List.{length-map}
 use Rattle.std.proofs.lemmas.List.Kept.{AllPairs-cons}
 use Rattle.std.proofs.lemmas.Map.Views.{All-insert_key}
-use Rattle.scene_rules.proofs.CallerLemmas.{lives-ascending}
+use Rattle.scene_model.proofs.CallerLemmas.{lives-ascending}
 use Rattle.std.proofs.lemmas.Slice.Eq.{bytes_eq-Decides}
 use Rattle.std.proofs.lemmas.List.Elements.{All-head, All-tail, All-cons, All-nil, All-map, All-weaker}
-use Rattle.scene_draft.specs.declared.draft.EntityDraft.{EntityDraft}
-use Rattle.scene_draft.specs.declared.draft.CommandDraft.{CommandDraft}
-use Rattle.scene_draft.specs.declared.draft.DocumentDraft.{DocumentDraft}
-use Rattle.scene_rules.specs.declared.command.Command.{Command}
-use Rattle.scene_rules.specs.Parts.{Json, Name, Ref, living, gone, Part, name_at}
-use Rattle.scene_rules.specs.Rulebook.{Book, Facts}
-use Rattle.scene_rules.specs.Rulebook as plain
-use Rattle.scene_rules.specs.Queues.{plain_commands}
-use Rattle.scene_rules.specs.Scenes.{lives, RefLives, RefsLive, PartsAdmitted, GlobalsReadable}
-use Rattle.scene_rules.specs.Commands.{ref_lives}
-use Rattle.scene_rules.specs.Lawful.{IsKnownPart, IsLawful}
-use Rattle.scene_draft.specs.Drafts.{Draft, DraftPart, DraftEntity, DraftCommand, spawn, kill, put, take, draft_from}
+use Rattle.scene_document.specs.declared.draft.EntityDraft.{EntityDraft}
+use Rattle.scene_document.specs.declared.draft.CommandDraft.{CommandDraft}
+use Rattle.scene_document.specs.declared.draft.DocumentDraft.{DocumentDraft}
+use Rattle.scene_model.specs.declared.command.Command.{Command}
+use Rattle.scene_model.specs.Parts.{Json, Name, Ref, living, gone, Part, name_at}
+use Rattle.scene_model.specs.Rulebook.{Book, Facts}
+use Rattle.scene_model.specs.Rulebook as plain
+use Rattle.scene_model.specs.Queues.{plain_commands}
+use Rattle.scene_model.specs.Scenes.{lives, RefLives, RefsLive, PartsAdmitted, GlobalsReadable}
+use Rattle.scene_model.specs.Commands.{ref_lives}
+use Rattle.scene_model.specs.Lawful.{IsKnownPart, IsLawful}
+use Rattle.scene_document.specs.Drafts.{Draft, DraftPart, DraftEntity, DraftCommand, spawn, kill, put, take, draft_from}
 use Rattle.scene_document.specs.Documents.{listed_ids, systems_of, has_unknown_kind, has_double, has_id_past_next, dangles, part_dangles, has_unknown_system, has_taken_name, has_unknown_dependency, lacks_global, writes_reserved, refusal_of, document_from, of_shape, unless_refused}
-use Rattle.scene_draft.specs.DraftViews.{named, plain_entity, plain_draft, plain_asked, plain_list, IsAdmitted, IsReadable, IsDraft, IsKnownDraft, Differ, AreApart, IsLawfulDraft}
-use Rattle.scene_rules.specs.Ids.{ascending}
+use Rattle.scene_document.specs.DraftViews.{named, plain_entity, plain_draft, plain_asked, plain_list, IsAdmitted, IsReadable, IsDraft, IsKnownDraft, Differ, AreApart, IsLawfulDraft}
+use Rattle.scene_model.specs.Ids.{ascending}
 use Rattle.scene_document.specs.Openings.{part_in, part_among, global_among, command_of, commands_in}
 use Rattle.scene_document.specs.Loading.{commands_found}
 use Rattle.scene_document.proofs.PlaceLemmas.{or_false}

@@ -6,15 +6,15 @@ use Rattle.std.specs.Ordering.{nat_cmp, is_eq}
 use Rattle.std.specs.Cmp.Lexicographic.{slice_cmp}
 use Rattle.std.specs.Str.{bytes_eq}
 use Rattle.std.proofs.lemmas.Map.Text.{is_eq-slice_cmp}
-use Rattle.scene_rules.specs.Parts.{Name, is_among}
-use Rattle.scene_rules.specs.Declaring.{texts}
-use Rattle.scene_draft.specs.declared.draft.EntryDraft.{EntryDraft}
-use Rattle.scene_draft.specs.declared.draft.EntryDraft.TheVariants as entry
-use Rattle.scene_draft.specs.Drafts.{DraftSystem}
+use Rattle.scene_model.specs.Parts.{Name, is_among}
+use Rattle.scene_model.specs.Declaring.{texts}
+use Rattle.scene_document.specs.declared.draft.EntryDraft.{EntryDraft}
+use Rattle.scene_document.specs.declared.draft.EntryDraft.TheVariants as entry
+use Rattle.scene_document.specs.Drafts.{DraftSystem}
 use Rattle.scene_document.specs.Documents.{has_taken_name, has_unknown_dependency}
-use Rattle.scene_draft.specs.DraftViews.{systems_in}
+use Rattle.scene_document.specs.DraftViews.{systems_in}
 use Rattle.scene_document.specs.Names.{has_name, takes_name, lacks_one_of, comes_after_other}
-use Rattle.scene_draft.proofs.CallerLemmas.{bytes_eq-symmetric}
+use Rattle.scene_document.proofs.ShapeLemmas.{bytes_eq-symmetric}
 
 -- a set has a name exactly where it is among its texts
 pub contains-among : (name : Name) (keys : List (Bor Name)) → list_any (λ key. is_eq (slice_cmp nat_cmp name key.now)) keys ≡ is_among name (texts keys)

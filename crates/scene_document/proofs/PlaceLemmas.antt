@@ -6,10 +6,10 @@ use Rattle.std.specs.declared.cmp.Ordering.TheVariants.{Less}
 use Rattle.std.proofs.lemmas.Bool.{cases_lt, false≢true}
 use Rattle.std.proofs.lemmas.Slice.Eq.{bytes_eq-Decides}
 use Rattle.std.proofs.lemmas.Map.Text.{is_eq-slice_cmp}
-use Rattle.scene_draft.specs.declared.draft.EntityDraft.{EntityDraft}
-use Rattle.scene_rules.specs.Parts.{Name, Part, name_at}
-use Rattle.scene_rules.specs.Laws.{Ascend}
-use Rattle.scene_draft.specs.DraftViews.{plain_entity}
+use Rattle.scene_document.specs.declared.draft.EntityDraft.{EntityDraft}
+use Rattle.scene_model.specs.Parts.{Name, Part, name_at}
+use Rattle.scene_model.specs.Laws.{Ascend}
+use Rattle.scene_document.specs.DraftViews.{plain_entity}
 
 -- no name is less than itself
 not_below_itself : (name : Name) → slice_cmp nat_cmp name name ≡ Less → ⊥

@@ -9,30 +9,30 @@ use Rattle.std.proofs.lemmas.Bool.Decides.{same_from_decides, nat_tests}
 use Rattle.std.proofs.lemmas.List.{get_or-map, length-map}
 use Rattle.std.proofs.lemmas.List.Elements.{All-head, All-tail}
 use Rattle.std.proofs.lemmas.List.Folds.{list_any-append}
-use Rattle.scene_rules.specs.declared.refusals.DocRefusal.{DocRefusal}
-use Rattle.scene_rules.specs.declared.refusals.DocRefusal.TheVariants.{UnknownKind, DoubleId, IdNotBelowNext, Dangling, UnknownSystem, NameTaken, UnknownDependency, MissingGlobal, ReservedWrite, TooManyWorkers, TooManySystems, UnknownStore, TooManyEntities}
-use Rattle.scene_draft.specs.declared.draft.EntityDraft.{EntityDraft}
-use Rattle.scene_draft.specs.declared.draft.EntryDraft.{EntryDraft}
-use Rattle.scene_draft.specs.declared.draft.EntryDraft.TheVariants as entry
-use Rattle.scene_draft.specs.declared.draft.DocumentDraft.{DocumentDraft}
-use Rattle.scene_draft.specs.declared.draft.MadeDraft.{MadeDraft}
-use Rattle.scene_draft.specs.declared.draft.CommandDraft.{CommandDraft}
-use Rattle.scene_draft.specs.declared.draft.CommandDraft.TheVariants as asked
+use Rattle.scene_model.specs.declared.refusals.DocRefusal.{DocRefusal}
+use Rattle.scene_model.specs.declared.refusals.DocRefusal.TheVariants.{UnknownKind, DoubleId, IdNotBelowNext, Dangling, UnknownSystem, NameTaken, UnknownDependency, MissingGlobal, ReservedWrite, TooManyWorkers, TooManySystems, UnknownStore, TooManyEntities}
+use Rattle.scene_document.specs.declared.draft.EntityDraft.{EntityDraft}
+use Rattle.scene_document.specs.declared.draft.EntryDraft.{EntryDraft}
+use Rattle.scene_document.specs.declared.draft.EntryDraft.TheVariants as entry
+use Rattle.scene_document.specs.declared.draft.DocumentDraft.{DocumentDraft}
+use Rattle.scene_document.specs.declared.draft.MadeDraft.{MadeDraft}
+use Rattle.scene_document.specs.declared.draft.CommandDraft.{CommandDraft}
+use Rattle.scene_document.specs.declared.draft.CommandDraft.TheVariants as asked
 use Rattle.std.specs.Global.{Vec}
-use Rattle.scene_rules.specs.declared.access.Accessor.{Accessor}
-use Rattle.scene_rules.specs.Parts.{Json, Name, Ref, living, gone, Part, is_among, name_at}
-use Rattle.scene_rules.specs.Rulebook.{Book, Access}
-use Rattle.scene_rules.specs.Scenes.{lives}
-use Rattle.scene_rules.specs.Commands.{ref_lives}
-use Rattle.scene_rules.specs.Laws.{refs_to}
-use Rattle.scene_draft.specs.Drafts.{Draft, system_of_entry, stores}
+use Rattle.scene_model.specs.declared.access.Accessor.{Accessor}
+use Rattle.scene_model.specs.Parts.{Json, Name, Ref, living, gone, Part, is_among, name_at}
+use Rattle.scene_model.specs.Rulebook.{Book, Access}
+use Rattle.scene_model.specs.Scenes.{lives}
+use Rattle.scene_model.specs.Commands.{ref_lives}
+use Rattle.scene_model.specs.Laws.{refs_to}
+use Rattle.scene_document.specs.Drafts.{Draft, system_of_entry, stores}
 use Rattle.scene_document.specs.Documents.{listed_ids, systems_of, declares_that, names_unknown, has_unknown_kind, has_double, has_id_past_next, dangles, part_dangles, has_unknown_system, has_taken_name, has_unknown_dependency, is_named, lacks_global, writes_reserved, refusal_of}
-use Rattle.scene_draft.specs.DraftViews.{named, plain_entity, plain_draft, systems_in, plain_part, plain_asked, plain_list, facts_of, IsPlaced, IsDraft}
-use Rattle.scene_rules.specs.Ids.{ascending}
-use Rattle.scene_rules.specs.Declaring.{texts, access_of}
+use Rattle.scene_document.specs.DraftViews.{named, plain_entity, plain_draft, systems_in, plain_part, plain_asked, plain_list, facts_of, IsPlaced, IsDraft}
+use Rattle.scene_model.specs.Ids.{ascending}
+use Rattle.scene_model.specs.Declaring.{texts, access_of}
 use Rattle.scene_document.specs.Refusals.{datum_dangles, entity_dangles, asks_unknown, stands_for, lacks_one, lacks_declared, is_unmade, made_that, entry_that, has_unknown, number_refusal, draft_refusal}
 use Rattle.scene_document.proofs.PlaceLemmas.{ids-plain}
-use Rattle.scene_rules.proofs.CallerLemmas.{lives-ascending}
+use Rattle.scene_model.proofs.CallerLemmas.{lives-ascending}
 
 -- references to ids dangle where one of the ids is not listed
 pub dangle-refs_to : (ids wanted : List ℕ) → list_any (λ ref. not (ref_lives ids ref)) (refs_to wanted) ≡ list_any (λ id. not (lives id ids)) wanted

@@ -3,14 +3,14 @@ use Rattle.std.specs.Prelude.{ℕ, Bool, false, not, ◌&&◌, ◌||◌, List, [
 use Rattle.std.specs.List.{list_any, filter_map}
 use Rattle.std.specs.Str.{bytes_eq}
 use Rattle.serde_json.specs.Written.{has_float}
-use Rattle.scene_rules.specs.declared.refusals.DocRefusal.{DocRefusal}
-use Rattle.scene_rules.specs.declared.refusals.DocRefusal.TheVariants.{Unreadable, NotWhole, WrongShape, UnknownKind, DoubleId, IdNotBelowNext, Dangling, UnknownSystem, NameTaken, UnknownDependency, MissingGlobal, ReservedWrite, TooManyWorkers, TooManySystems, UnknownStore, TooManyEntities}
-use Rattle.scene_rules.specs.Parts.{Json, Name, is_among}
-use Rattle.scene_rules.specs.Rulebook.{Book, Facts, Access}
-use Rattle.scene_rules.specs.Scenes.{lives}
-use Rattle.scene_rules.specs.Commands.{ref_lives}
-use Rattle.scene_draft.specs.Drafts.{Draft, DraftPart, DraftSystem, system_of_entry, DraftCommand, spawn, kill, put, take, stores, draft_from}
-use Rattle.scene_draft.specs.Texts.{json_of}
+use Rattle.scene_model.specs.declared.refusals.DocRefusal.{DocRefusal}
+use Rattle.scene_model.specs.declared.refusals.DocRefusal.TheVariants.{Unreadable, NotWhole, WrongShape, UnknownKind, DoubleId, IdNotBelowNext, Dangling, UnknownSystem, NameTaken, UnknownDependency, MissingGlobal, ReservedWrite, TooManyWorkers, TooManySystems, UnknownStore, TooManyEntities}
+use Rattle.scene_model.specs.Parts.{Json, Name, is_among}
+use Rattle.scene_model.specs.Rulebook.{Book, Facts, Access}
+use Rattle.scene_model.specs.Scenes.{lives}
+use Rattle.scene_model.specs.Commands.{ref_lives}
+use Rattle.scene_document.specs.Drafts.{Draft, DraftPart, DraftSystem, system_of_entry, DraftCommand, spawn, kill, put, take, stores, draft_from}
+use Rattle.scene_document.specs.Texts.{json_of}
 
 -- the ids of the listed entities, in the order of the list
 abbrev pub listed_ids : Draft → List ℕ

@@ -1,6 +1,8 @@
 -- The definitions that the contracts of this crate cite, in the order in which a reader needs them.
-pub use Rattle.scene_draft.specs.Drafts
-pub use Rattle.scene_draft.specs.Texts
+pub mod Drafts
+pub mod Texts
+pub mod DraftViews
+pub mod ShapeWords
 pub mod Documents
 pub mod Openings
 pub mod Loading

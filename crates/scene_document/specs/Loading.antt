@@ -1,13 +1,13 @@
 -- What is read of a document, in plain terms.
 use Rattle.std.specs.Prelude.{◌≡◌, ℕ, zero, suc, List, [], slice_get, Option, Some, None, Err}
 use Rattle.std.specs.Global.{Vec}
-use Rattle.scene_rules.specs.declared.command.Command.{Command}
+use Rattle.scene_model.specs.declared.command.Command.{Command}
 use Rattle.scene_document.specs.declared.loaded.LoadError.{LoadError}
 use Rattle.scene_document.specs.declared.loaded.LoadError.TheVariants.{Document, Memory}
-use Rattle.scene_rules.specs.Parts.{Json, Part}
-use Rattle.scene_rules.specs.Rulebook.{Book}
-use Rattle.scene_rules.specs.Rulebook as plain
-use Rattle.scene_rules.specs.Queues.{plain_commands}
+use Rattle.scene_model.specs.Parts.{Json, Part}
+use Rattle.scene_model.specs.Rulebook.{Book}
+use Rattle.scene_model.specs.Rulebook as plain
+use Rattle.scene_model.specs.Queues.{plain_commands}
 use Rattle.scene_document.specs.Documents.{document_from}
 
 -- the commands of a list that may be missing

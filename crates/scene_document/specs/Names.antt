@@ -2,10 +2,10 @@
 use Rattle.std.specs.Prelude.{Bool, false, not, ◌&&◌, ◌||◌, List, []}
 use Rattle.std.specs.List.{list_any}
 use Rattle.std.specs.Str.{bytes_eq}
-use Rattle.scene_draft.specs.declared.draft.EntryDraft.{EntryDraft}
-use Rattle.scene_draft.specs.declared.draft.EntryDraft.TheVariants as entry
-use Rattle.scene_rules.specs.Parts.{Name, is_among}
-use Rattle.scene_rules.specs.Declaring.{texts}
+use Rattle.scene_document.specs.declared.draft.EntryDraft.{EntryDraft}
+use Rattle.scene_document.specs.declared.draft.EntryDraft.TheVariants as entry
+use Rattle.scene_model.specs.Parts.{Name, is_among}
+use Rattle.scene_model.specs.Declaring.{texts}
 
 -- whether a name is that of an entry's system
 abbrev pub has_name : {S : Type 0} → Name → EntryDraft S → Bool

@@ -2,12 +2,12 @@
 use Rattle.std.specs.Prelude.{◌==◌, ℕ, zero, suc, Bool, true, false, List, [], ◌∷◌, ◌++◌, map, slice_get, Option, Some, None, option_map, if◌then◌else◌}
 use Rattle.std.specs.List.{filter_map, find}
 use Rattle.std.specs.Str.{bytes_eq}
-use Rattle.scene_rules.specs.Parts.{Json, Name, Part}
-use Rattle.scene_rules.specs.Rulebook.{Book, Facts, Access, Command}
-use Rattle.scene_rules.specs.Rulebook as book
-use Rattle.scene_rules.specs.Scenes.{PlainScene, PlainSystem, PlainFrame}
-use Rattle.scene_rules.specs.Ids.{ascending}
-use Rattle.scene_draft.specs.Drafts.{Draft, DraftPart, DraftEntity, DraftSystem, DraftEntry, barrier, system, DraftCommand, spawn, kill, put, take}
+use Rattle.scene_model.specs.Parts.{Json, Name, Part}
+use Rattle.scene_model.specs.Rulebook.{Book, Facts, Access, Command}
+use Rattle.scene_model.specs.Rulebook as book
+use Rattle.scene_model.specs.Scenes.{PlainScene, PlainSystem, PlainFrame}
+use Rattle.scene_model.specs.Ids.{ascending}
+use Rattle.scene_document.specs.Drafts.{Draft, DraftPart, DraftEntity, DraftSystem, DraftEntry, barrier, system, DraftCommand, spawn, kill, put, take}
 use Rattle.scene_document.specs.Documents.{listed_ids}
 use Rattle.shred_plan.specs.Plan.{Added, fence, placing, order}
 

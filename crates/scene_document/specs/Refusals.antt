@@ -1,26 +1,26 @@
 -- The tests of a document by what the code holds of it; no public clause cites this.
-use Rattle.scene_draft.specs.Drafts.{stores}
+use Rattle.scene_document.specs.Drafts.{stores}
 use Rattle.std.specs.Prelude.{ℕ, Bool, false, not, ◌&&◌, ◌||◌, List, [], map, length, nat_lt, Option, Some, None, is_none, if◌then◌else◌}
 use Rattle.std.specs.List.{list_any}
 use Rattle.std.specs.Option.{option_or}
 use Rattle.std.specs.Str.{bytes_eq}
-use Rattle.scene_rules.specs.declared.refusals.DocRefusal.{DocRefusal}
-use Rattle.scene_rules.specs.declared.refusals.DocRefusal.TheVariants.{UnknownKind, DoubleId, IdNotBelowNext, Dangling, UnknownSystem, NameTaken, UnknownDependency, MissingGlobal, ReservedWrite, TooManyWorkers, TooManySystems, UnknownStore, TooManyEntities}
-use Rattle.scene_rules.specs.declared.access.Accessor.{Accessor}
-use Rattle.scene_draft.specs.declared.draft.EntityDraft.{EntityDraft}
-use Rattle.scene_draft.specs.declared.draft.MadeDraft.{MadeDraft}
-use Rattle.scene_draft.specs.declared.draft.EntryDraft.{EntryDraft}
-use Rattle.scene_draft.specs.declared.draft.EntryDraft.TheVariants as entry
-use Rattle.scene_draft.specs.declared.draft.CommandDraft.{CommandDraft}
-use Rattle.scene_draft.specs.declared.draft.CommandDraft.TheVariants as asked
-use Rattle.scene_draft.specs.declared.draft.DocumentDraft.{DocumentDraft}
-use Rattle.scene_rules.specs.Parts.{Name, Part, name_at, is_among}
-use Rattle.scene_rules.specs.Rulebook.{Access}
-use Rattle.scene_rules.specs.Declaring.{access_of}
-use Rattle.scene_rules.specs.Commands.{ref_lives}
+use Rattle.scene_model.specs.declared.refusals.DocRefusal.{DocRefusal}
+use Rattle.scene_model.specs.declared.refusals.DocRefusal.TheVariants.{UnknownKind, DoubleId, IdNotBelowNext, Dangling, UnknownSystem, NameTaken, UnknownDependency, MissingGlobal, ReservedWrite, TooManyWorkers, TooManySystems, UnknownStore, TooManyEntities}
+use Rattle.scene_model.specs.declared.access.Accessor.{Accessor}
+use Rattle.scene_document.specs.declared.draft.EntityDraft.{EntityDraft}
+use Rattle.scene_document.specs.declared.draft.MadeDraft.{MadeDraft}
+use Rattle.scene_document.specs.declared.draft.EntryDraft.{EntryDraft}
+use Rattle.scene_document.specs.declared.draft.EntryDraft.TheVariants as entry
+use Rattle.scene_document.specs.declared.draft.CommandDraft.{CommandDraft}
+use Rattle.scene_document.specs.declared.draft.CommandDraft.TheVariants as asked
+use Rattle.scene_document.specs.declared.draft.DocumentDraft.{DocumentDraft}
+use Rattle.scene_model.specs.Parts.{Name, Part, name_at, is_among}
+use Rattle.scene_model.specs.Rulebook.{Access}
+use Rattle.scene_model.specs.Declaring.{access_of}
+use Rattle.scene_model.specs.Commands.{ref_lives}
 use Rattle.scene_document.specs.Documents.{has_double, has_taken_name, has_unknown_dependency}
-use Rattle.scene_draft.specs.DraftViews.{systems_in}
-use Rattle.scene_rules.specs.Ids.{ascending}
+use Rattle.scene_document.specs.DraftViews.{systems_in}
+use Rattle.scene_model.specs.Ids.{ascending}
 
 -- a reference of a datum names none of the ids
 abbrev pub datum_dangles : {D : Type 0} → (D → Part) → List ℕ → Option (ℕ × D) → Bool

@@ -1,12 +1,12 @@
 //! The commands of a document that is not refused.
 ghost use Rattle.std.specs.Prelude.{◌≡◌, ◌++◌, [], map, option_map, IfOk, OnOk};
 ghost use Rattle.std.specs.List.{filter_map, cons_option};
-ghost use Rattle.scene_rules.specs.Queues.{plain_entry, plain_command, plain_commands};
-ghost use Rattle.scene_draft.specs.DraftViews.{plain_part, plain_asked, plain_list};
+ghost use Rattle.scene_model.specs.Queues.{plain_entry, plain_command, plain_commands};
+ghost use Rattle.scene_document.specs.DraftViews.{plain_part, plain_asked, plain_list};
 ghost use Rattle.scene_document.specs.Openings.{command_of};
 
-use scene_draft::CommandDraft;
-use scene_rules::{Command, DocumentRules};
+use crate::CommandDraft;
+use scene_model::{Command, DocumentRules};
 use std::alloc::{AllocError, Global};
 
 /// Puts what there is to the others.

@@ -1,9 +1,9 @@
 //! The ids that a document lists.
 ghost use Rattle.std.specs.Prelude.{◌≡◌, map, length, nat_lt, IfOk};
 ghost use Rattle.scene_document.specs.Documents.{has_double};
-ghost use Rattle.scene_rules.specs.Ids.{ascending};
+ghost use Rattle.scene_model.specs.Ids.{ascending};
 
-use scene_draft::EntityDraft;
+use crate::EntityDraft;
 use std::alloc::{AllocError, Global};
 use std::collections::BTreeSet;
 

@@ -1,15 +1,15 @@
 //! Reading a document.
 ghost use Rattle.std.specs.Prelude.{◌≡◌, Ok, MatchResult};
 ghost use Rattle.serde_json.specs.View.{view};
-ghost use Rattle.scene_draft.specs.Drafts.{Draft};
-ghost use Rattle.scene_draft.specs.DraftViews.{IsDraft, AreMade};
+ghost use Rattle.scene_document.specs.Drafts.{Draft};
+ghost use Rattle.scene_document.specs.DraftViews.{IsDraft, AreMade};
 ghost use Rattle.scene_document.specs.Documents.{document_from};
 ghost use Rattle.scene_document.specs.Loading.{IsNotLoaded};
 
 use crate::loaded::{Limits, LoadError};
 use crate::refusal::refusal;
-use scene_draft::{DocumentDraft, has_float, read_draft};
-use scene_rules::{DocRefusal, DocumentRules, ReadError};
+use crate::{DocumentDraft, has_float, read_draft};
+use scene_model::{DocRefusal, DocumentRules, ReadError};
 use serde_json::Value;
 use std::alloc::Global;
 

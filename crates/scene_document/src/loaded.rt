@@ -1,7 +1,7 @@
 //! The limits of a run, and why a document is not loaded.
 ghost use Rattle.std.specs.Prelude.{◌≡◌};
 
-use scene_rules::DocRefusal;
+use scene_model::DocRefusal;
 use std::alloc::{AllocError, AllocFailed};
 
 /// Bounds on what a run may use; tests hand in smaller ones.

@@ -1,13 +1,13 @@
 //! The names of systems: whether two have one, and whether each system comes after earlier ones.
 ghost use Rattle.std.specs.Prelude.{◌≡◌, ◌||◌, [], IfOk, OnOk};
 ghost use Rattle.std.specs.Str.{bytes_eq};
-ghost use Rattle.scene_rules.specs.Parts.{Name, is_among};
-ghost use Rattle.scene_rules.specs.Declaring.{texts};
+ghost use Rattle.scene_model.specs.Parts.{Name, is_among};
+ghost use Rattle.scene_model.specs.Declaring.{texts};
 ghost use Rattle.scene_document.specs.Documents.{has_taken_name, has_unknown_dependency};
-ghost use Rattle.scene_draft.specs.DraftViews.{systems_in};
+ghost use Rattle.scene_document.specs.DraftViews.{systems_in};
 ghost use Rattle.scene_document.specs.Names.{has_name, takes_name, lacks_one_of, comes_after_other};
 
-use scene_draft::EntryDraft;
+use crate::EntryDraft;
 use std::alloc::{AllocError, Global};
 use std::collections::BTreeSet;
 

@@ -2,12 +2,12 @@
 ghost use Rattle.std.specs.Prelude.{◌≡◌, ℕ, ◌≤◌, not, ◌||◌, ◌++◌, nat_lt, None, is_none, map, length, IfOk};
 ghost use Rattle.std.specs.List.{list_any};
 ghost use Rattle.std.specs.Str.{bytes_eq};
-ghost use Rattle.scene_rules.specs.Declaring.{texts, access_of};
-ghost use Rattle.scene_rules.specs.Scenes.{lives};
-ghost use Rattle.scene_draft.specs.Drafts.{Draft};
+ghost use Rattle.scene_model.specs.Declaring.{texts, access_of};
+ghost use Rattle.scene_model.specs.Scenes.{lives};
+ghost use Rattle.scene_document.specs.Drafts.{Draft};
 ghost use Rattle.scene_document.specs.Documents.{refusal_of, has_double};
-ghost use Rattle.scene_draft.specs.DraftViews.{IsDraft};
-ghost use Rattle.scene_rules.specs.Ids.{ascending};
+ghost use Rattle.scene_document.specs.DraftViews.{IsDraft};
+ghost use Rattle.scene_model.specs.Ids.{ascending};
 ghost use Rattle.scene_document.specs.Refusals.{datum_dangles, entity_dangles, asks_unknown, stands_for};
 ghost use Rattle.scene_document.specs.Refusals.{lacks_declared, is_unmade, entry_that, has_unknown, declared_refusal};
 ghost use Rattle.scene_document.specs.Refusals.{number_refusal, system_refusal, later_refusal, entity_refusal};
@@ -16,8 +16,8 @@ ghost use Rattle.scene_document.specs.Refusals.{draft_refusal};
 use crate::ids::ids_of;
 use crate::loaded::Limits;
 use crate::names::{has_taken_name, has_unknown_dependency};
-use scene_draft::{CommandDraft, DocumentDraft, EntityDraft, EntryDraft, is_store};
-use scene_rules::{Accessor, DocRefusal, DocumentRules};
+use crate::{CommandDraft, DocumentDraft, EntityDraft, EntryDraft, is_store};
+use scene_model::{Accessor, DocRefusal, DocumentRules};
 use std::alloc::{AllocError, Global};
 use std::collections::BTreeSet;
 

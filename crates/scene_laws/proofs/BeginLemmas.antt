@@ -1,12 +1,12 @@
 -- Lemmas on the scene that a document gives: its ids fit.
 use Rattle.std.proofs.Common.{◌≡◌, ℕ, List}
 use Rattle.std.specs.Prelude.{Ok}
-use Rattle.scene_rules.specs.Rulebook.{Book}
-use Rattle.scene_rules.specs.Scenes.{IdsFit}
-use Rattle.scene_draft.specs.Drafts.{Draft}
+use Rattle.scene_model.specs.Rulebook.{Book}
+use Rattle.scene_model.specs.Scenes.{IdsFit}
+use Rattle.scene_document.specs.Drafts.{Draft}
 use Rattle.scene_document.specs.Documents.{listed_ids, document_of}
 use Rattle.scene_document.specs.Openings.{first_scene}
-use Rattle.scene_rules.proofs.CallerLemmas.{in_order-ascends}
+use Rattle.scene_model.proofs.CallerLemmas.{in_order-ascends}
 use Rattle.scene_document.proofs.CallerLemmas.{ids-below, no_past, unrefused}
 use Rattle.scene_laws.proofs.ReadyLemmas.{from_bytes}
 

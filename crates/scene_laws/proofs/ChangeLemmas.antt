@@ -2,10 +2,10 @@
 use Rattle.std.proofs.Common.{◌≡◌, Bool, true, false, cond, List, [], ◌∷◌, refl, sym, ◌∙◌, subst}
 use Rattle.std.proofs.lemmas.Bool.{false≢true, or_parts}
 use Rattle.std.specs.List.{list_any}
-use Rattle.scene_rules.specs.Parts.{is_among}
-use Rattle.scene_rules.specs.Rulebook.{Book, Command}
-use Rattle.scene_rules.specs.Scenes.{PlainScene, PlainSystem, Steps}
-use Rattle.scene_rules.specs.Frames.{Queues, SystemsRun}
+use Rattle.scene_model.specs.Parts.{is_among}
+use Rattle.scene_model.specs.Rulebook.{Book, Command}
+use Rattle.scene_model.specs.Scenes.{PlainScene, PlainSystem, Steps}
+use Rattle.scene_model.specs.Frames.{Queues, SystemsRun}
 use Rattle.scene_laws.specs.Changes.{ChangesDeclared, ChangesDeclaredBy}
 
 -- what isn't put in stays

@@ -7,13 +7,13 @@ use Rattle.std.proofs.lemmas.List.Elements.{All-cons, All-filter}
 use Rattle.std.proofs.lemmas.List.Kept.{AllPairs-filter}
 use Rattle.std.proofs.lemmas.List.Quantifiers.{all_pairs_push}
 use Rattle.std.proofs.lemmas.List.Folds.{list_any-append}
-use Rattle.scene_rules.specs.declared.refusals.Skip.{Skip}
-use Rattle.scene_rules.specs.Parts.{Name, Part}
-use Rattle.scene_rules.specs.Rulebook.{Book, Command, spawn, kill, put, take}
-use Rattle.scene_rules.specs.Scenes.{PlainScene, PlainSystem, PlainFrame, IdsFit, lives}
-use Rattle.scene_rules.specs.Commands.{changed, apply, Played, played, spent, play}
-use Rattle.scene_rules.specs.Frames.{Queues, SystemsRun, all_commands, Accepts, Reaches}
-use Rattle.scene_rules.proofs.CallerLemmas.{spawned, spawn-makes, tested-makes, play-keeps}
+use Rattle.scene_model.specs.declared.refusals.Skip.{Skip}
+use Rattle.scene_model.specs.Parts.{Name, Part}
+use Rattle.scene_model.specs.Rulebook.{Book, Command, spawn, kill, put, take}
+use Rattle.scene_model.specs.Scenes.{PlainScene, PlainSystem, PlainFrame, IdsFit, lives}
+use Rattle.scene_model.specs.Commands.{changed, apply, Played, played, spent, play}
+use Rattle.scene_model.specs.Frames.{Queues, SystemsRun, all_commands, Accepts, Reaches}
+use Rattle.scene_model.proofs.CallerLemmas.{spawned, spawn-makes, tested-makes, play-keeps}
 use Rattle.scene_laws.specs.Ids.{IdsGoOn, Gives, TakesAway}
 
 -- the places that were skipped

@@ -9,17 +9,17 @@ use Rattle.std.proofs.lemmas.Bool.Decides.{nat_tests}
 use Rattle.serde_json.specs.Data.{Members, no_members, member, put}
 use Rattle.serde_json.specs.View.{items_of}
 use Rattle.serde_json.specs.Written.{has_float, items_have_float, members_have_float}
-use Rattle.scene_rules.specs.declared.refusals.DocRefusal.TheVariants.{NotWhole, UnknownKind, DoubleId, IdNotBelowNext, Dangling, TooManyEntities}
-use Rattle.scene_rules.specs.Parts.{Json, Name, Ref, living, gone, Part}
-use Rattle.scene_rules.specs.Rulebook.{Book}
-use Rattle.scene_rules.specs.Scenes.{PlainScene, RefLives, lives}
-use Rattle.scene_rules.specs.Commands.{ref_lives}
-use Rattle.scene_rules.specs.Laws.{Ascend}
-use Rattle.scene_draft.specs.Drafts.{draft_from}
+use Rattle.scene_model.specs.declared.refusals.DocRefusal.TheVariants.{NotWhole, UnknownKind, DoubleId, IdNotBelowNext, Dangling, TooManyEntities}
+use Rattle.scene_model.specs.Parts.{Json, Name, Ref, living, gone, Part}
+use Rattle.scene_model.specs.Rulebook.{Book}
+use Rattle.scene_model.specs.Scenes.{PlainScene, RefLives, lives}
+use Rattle.scene_model.specs.Commands.{ref_lives}
+use Rattle.scene_model.specs.Laws.{Ascend}
+use Rattle.scene_document.specs.Drafts.{draft_from}
 use Rattle.scene_document.specs.Documents.{listed_ids, has_unknown_kind, has_double, has_id_past_next, part_dangles, dangles, refusal_of, unless_refused, of_shape, document_from}
-use Rattle.scene_draft.specs.Texts.{members_with, entity_json, scene_json}
+use Rattle.scene_document.specs.Texts.{members_with, entity_json, scene_json}
 use Rattle.scene_laws.specs.Printed.{CanBeRead, CanBeLoaded}
-use Rattle.scene_draft.proofs.CallerLemmas.{pairs_of}
+use Rattle.scene_document.proofs.CallerLemmas.{pairs_of}
 use Rattle.scene_laws.proofs.PrintLemmas.{read_of, entity_read, draft_read, draft-back}
 
 -- two tests that both fail

@@ -1,18 +1,18 @@
 -- Lemmas on the runs of documents.
 use Rattle.std.proofs.Common.{◌≡◌, ℕ, List, sym, ◌∙◌, ap, subst, All}
 use Rattle.std.specs.Prelude.{Result, Ok, Err}
-use Rattle.scene_rules.specs.declared.refusals.Report.{Report}
-use Rattle.scene_rules.specs.declared.refusals.DocRefusal.{DocRefusal}
-use Rattle.scene_rules.specs.Parts.{Json, Name}
-use Rattle.scene_rules.specs.Rulebook.{Book, Facts, known}
-use Rattle.scene_rules.specs.Laws.{DeclaresKnown}
-use Rattle.scene_rules.specs.Lawful.{IsLawful}
-use Rattle.scene_rules.specs.Scenes.{PlainScene, PlainFrame, IsDescribed}
-use Rattle.scene_draft.specs.Drafts.{Draft}
+use Rattle.scene_model.specs.declared.refusals.Report.{Report}
+use Rattle.scene_model.specs.declared.refusals.DocRefusal.{DocRefusal}
+use Rattle.scene_model.specs.Parts.{Json, Name}
+use Rattle.scene_model.specs.Rulebook.{Book, Facts, known}
+use Rattle.scene_model.specs.Laws.{DeclaresKnown}
+use Rattle.scene_model.specs.Lawful.{IsLawful}
+use Rattle.scene_model.specs.Scenes.{PlainScene, PlainFrame, IsDescribed}
+use Rattle.scene_document.specs.Drafts.{Draft}
 use Rattle.scene_document.specs.Documents.{document_of}
 use Rattle.scene_document.specs.Openings.{first_scene, frames_of}
-use Rattle.scene_draft.specs.Texts.{text_of}
-use Rattle.scene_rules.specs.Frames.{Reaches, Ended}
+use Rattle.scene_document.specs.Texts.{text_of}
+use Rattle.scene_model.specs.Frames.{Reaches, Ended}
 use Rattle.scene.specs.Runs.{CanBegin, Ran}
 use Rattle.scene.specs.Outcomes.{Bounds, IsRunOf}
 use Rattle.scene_laws.specs.OneOutcome.{OneOutcome, HadMeans, SameButPlace}

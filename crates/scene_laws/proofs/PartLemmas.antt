@@ -2,17 +2,17 @@
 use Rattle.std.proofs.Common.{◌≡◌, ◌<◌, ◌+◌, ℕ, zero, suc, List, [], ◌∷◌, ◌++◌, drop, slice_get, Option, Some, None, option_map, MatchOption, refl, sym, ◌∙◌, ap, subst, arith}
 use Rattle.std.proofs.lemmas.List.{append-nil, append_assoc}
 use Rattle.std.proofs.lemmas.Option.{MatchOption-at_none}
-use Rattle.scene_rules.specs.declared.refusals.FrameRefusal.{FrameRefusal}
-use Rattle.scene_rules.specs.declared.refusals.Report.{Report}
-use Rattle.scene_rules.specs.declared.refusals.Skip.{Skip}
-use Rattle.scene_rules.specs.Parts.{Json, Name}
-use Rattle.scene_rules.specs.Rulebook.{Book, Facts, known}
-use Rattle.scene_rules.specs.Laws.{DeclaresKnown}
-use Rattle.scene_rules.specs.Scenes.{PlainScene, PlainFrame}
-use Rattle.scene_rules.specs.Commands.{skips_of}
-use Rattle.scene_draft.specs.Drafts.{Draft}
+use Rattle.scene_model.specs.declared.refusals.FrameRefusal.{FrameRefusal}
+use Rattle.scene_model.specs.declared.refusals.Report.{Report}
+use Rattle.scene_model.specs.declared.refusals.Skip.{Skip}
+use Rattle.scene_model.specs.Parts.{Json, Name}
+use Rattle.scene_model.specs.Rulebook.{Book, Facts, known}
+use Rattle.scene_model.specs.Laws.{DeclaresKnown}
+use Rattle.scene_model.specs.Scenes.{PlainScene, PlainFrame}
+use Rattle.scene_model.specs.Commands.{skips_of}
+use Rattle.scene_document.specs.Drafts.{Draft}
 use Rattle.scene_document.specs.Openings.{first_scene, frames_of, commands_in}
-use Rattle.scene_rules.specs.Frames.{Accepts, Refuses, Reaches, Ended}
+use Rattle.scene_model.specs.Frames.{Accepts, Refuses, Reaches, Ended}
 use Rattle.scene.specs.Runs.{CanBegin, Ran}
 use Rattle.scene_laws.specs.OneOutcome.{OneOutcome, HadMeans}
 use Rattle.scene_laws.specs.Parts.{frames_behind, later_skip, later_skips, later_refused, joined, IsInTwoParts}

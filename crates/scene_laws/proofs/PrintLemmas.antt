@@ -15,16 +15,16 @@ use Rattle.std.proofs.lemmas.Option.{none-some}
 use Rattle.std.proofs.lemmas.Slice.Eq.{bytes_eq-Decides}
 use Rattle.serde_json.specs.Data.{Members, no_members, member, put}
 use Rattle.serde_json.specs.View.{items_of}
-use Rattle.scene_rules.specs.Parts.{Json, Name, Part, is_among}
-use Rattle.scene_rules.specs.Rulebook.{Book}
-use Rattle.scene_rules.specs.Scenes.{PlainScene, lives}
-use Rattle.scene_rules.specs.Laws.{Ascend}
-use Rattle.scene_draft.specs.Drafts.{Draft, DraftEntity, items_list, members_list, each, part_under, global_under, entity_from, draft_from, DraftEntry, DraftCommand, entries_from, whole_32, commands_from}
+use Rattle.scene_model.specs.Parts.{Json, Name, Part, is_among}
+use Rattle.scene_model.specs.Rulebook.{Book}
+use Rattle.scene_model.specs.Scenes.{PlainScene, lives}
+use Rattle.scene_model.specs.Laws.{Ascend}
+use Rattle.scene_document.specs.Drafts.{Draft, DraftEntity, items_list, members_list, each, part_under, global_under, entity_from, draft_from, DraftEntry, DraftCommand, entries_from, whole_32, commands_from}
 use Rattle.scene_document.specs.Documents.{listed_ids}
-use Rattle.scene_rules.specs.Ids.{ascending}
+use Rattle.scene_model.specs.Ids.{ascending}
 use Rattle.scene_document.specs.Openings.{part_in, part_among, global_among, first_scene}
-use Rattle.scene_draft.specs.Texts.{members_with, entity_json, scene_json}
-use Rattle.scene_draft.proofs.CallerLemmas.{pairs_of, members-pairs, ordered-pairs}
+use Rattle.scene_document.specs.Texts.{members_with, entity_json, scene_json}
+use Rattle.scene_document.proofs.CallerLemmas.{pairs_of, members-pairs, ordered-pairs}
 use Rattle.scene_laws.specs.Printed.{CanBeRead, document_json}
 
 -- what a test finds in a longer list

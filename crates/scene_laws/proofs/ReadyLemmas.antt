@@ -4,17 +4,17 @@ use Rattle.std.proofs.lemmas.Option.{none-some, same_Some}
 use Rattle.std.specs.Global.{Vec}
 use Rattle.std.specs.Prelude.{Result, Ok, Err, MatchResult, IfOk, IfErr}
 use Rattle.serde_json.specs.Written.{has_float}
-use Rattle.scene_rules.specs.declared.refusals.DocRefusal.{DocRefusal}
-use Rattle.scene_rules.specs.declared.refusals.DocRefusal.TheVariants.{NotWhole}
-use Rattle.scene_rules.specs.Parts.{Json, Name, Part, is_among, place_of}
-use Rattle.scene_rules.specs.Rulebook.{Book}
-use Rattle.scene_rules.specs.Scenes.{PlainScene, IsProper}
-use Rattle.scene_rules.specs.Laws.{Ascend}
-use Rattle.scene_kept.specs.declared.columns.KeptScene.{KeptScene}
+use Rattle.scene_model.specs.declared.refusals.DocRefusal.{DocRefusal}
+use Rattle.scene_model.specs.declared.refusals.DocRefusal.TheVariants.{NotWhole}
+use Rattle.scene_model.specs.Parts.{Json, Name, Part, is_among, place_of}
+use Rattle.scene_model.specs.Rulebook.{Book}
+use Rattle.scene_model.specs.Scenes.{PlainScene, IsProper}
+use Rattle.scene_model.specs.Laws.{Ascend}
+use Rattle.scene_snapshot.specs.declared.columns.KeptScene.{KeptScene}
 use Rattle.scene_snapshot.specs.KeptScenes.{kept_datum}
-use Rattle.scene_draft.specs.Drafts.{Draft, draft_from}
-use Rattle.scene_draft.specs.Texts.{json_of, scene_json}
-use Rattle.scene_draft.proofs.CallerLemmas.{is_some-place_of}
+use Rattle.scene_document.specs.Drafts.{Draft, draft_from}
+use Rattle.scene_document.specs.Texts.{json_of, scene_json}
+use Rattle.scene_document.proofs.CallerLemmas.{is_some-place_of}
 use Rattle.scene_document.specs.Documents.{document_from, document_of, of_reading, of_shape, unless_refused, refusal_of}
 use Rattle.scene_document.specs.Openings.{first_scene}
 use Rattle.scene_document.specs.declared.loaded.LoadError.{LoadError}

@@ -7,14 +7,14 @@ use Rattle.std.proofs.lemmas.Bool.Decides.{Decides-eqb}
 use Rattle.std.proofs.lemmas.Option.{none-some}
 use Rattle.std.proofs.lemmas.List.Elements.{All-cons}
 use Rattle.std.proofs.lemmas.List.Folds.{list_any-append}
-use Rattle.scene_rules.specs.declared.refusals.Skip.{Skip}
-use Rattle.scene_rules.specs.Parts.{Name, Ref, living, gone, Part, is_among, under}
-use Rattle.scene_rules.specs.Rulebook.{Book, Command, spawn, kill, put, take}
-use Rattle.scene_rules.specs.Scenes.{PlainScene, PlainSystem, PlainFrame, RefLives, with_left, lives}
-use Rattle.scene_rules.specs.Commands.{apply, changed, ref_lives, refs_live, without_ref, part_without, is_gone, holds_gone, first_gone}
-use Rattle.scene_rules.specs.Frames.{Queues, SystemsRun, all_commands, Accepts, Reaches}
+use Rattle.scene_model.specs.declared.refusals.Skip.{Skip}
+use Rattle.scene_model.specs.Parts.{Name, Ref, living, gone, Part, is_among, under}
+use Rattle.scene_model.specs.Rulebook.{Book, Command, spawn, kill, put, take}
+use Rattle.scene_model.specs.Scenes.{PlainScene, PlainSystem, PlainFrame, RefLives, with_left, lives}
+use Rattle.scene_model.specs.Commands.{apply, changed, ref_lives, refs_live, without_ref, part_without, is_gone, holds_gone, first_gone}
+use Rattle.scene_model.specs.Frames.{Queues, SystemsRun, all_commands, Accepts, Reaches}
 use Rattle.scene_laws.specs.References.{RefsLiveUnder}
-use Rattle.scene_rules.proofs.CallerLemmas.{spawn-makes, tested-makes, play-keeps, lives-longer, lives-passed, find-none, none-of-ids, none-of-names}
+use Rattle.scene_model.proofs.CallerLemmas.{spawn-makes, tested-makes, play-keeps, lives-longer, lives-passed, find-none, none-of-ids, none-of-names}
 use Rattle.scene_laws.proofs.IdLemmas.{lives-filter, any-command}
 
 -- a reference names a living id, or is gone

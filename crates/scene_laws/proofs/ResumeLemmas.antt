@@ -2,12 +2,12 @@
 use Rattle.std.proofs.Common.{◌≡◌, ℕ, List, Some, None, sym, ◌∙◌, ap, subst}
 use Rattle.std.proofs.lemmas.Option.{same_Some}
 use Rattle.scene_document.specs.declared.loaded.Limits.{Limits}
-use Rattle.scene_rules.specs.declared.refusals.Report.{Report}
-use Rattle.scene_rules.specs.Parts.{Json, Name}
-use Rattle.scene_rules.specs.Rulebook.{Book, Facts, known}
-use Rattle.scene_rules.specs.Laws.{Ascend, DeclaresKnown}
-use Rattle.scene_draft.specs.Drafts.{Draft, draft_from}
-use Rattle.scene_draft.specs.Texts.{json_of, scene_json, text_of}
+use Rattle.scene_model.specs.declared.refusals.Report.{Report}
+use Rattle.scene_model.specs.Parts.{Json, Name}
+use Rattle.scene_model.specs.Rulebook.{Book, Facts, known}
+use Rattle.scene_model.specs.Laws.{Ascend, DeclaresKnown}
+use Rattle.scene_document.specs.Drafts.{Draft, draft_from}
+use Rattle.scene_document.specs.Texts.{json_of, scene_json, text_of}
 use Rattle.scene.specs.Runs.{CanBegin, Ran}
 use Rattle.scene_laws.specs.OneOutcome.{OneOutcome}
 use Rattle.scene_laws.specs.Parts.{IsInTwoParts}

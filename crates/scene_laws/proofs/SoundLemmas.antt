@@ -7,13 +7,13 @@ use Rattle.std.proofs.lemmas.Slice.Eq.{bytes_eq-Decides}
 use Rattle.std.proofs.lemmas.List.Elements.{All-head, All-tail, All-nil, All-cons, All-append}
 use Rattle.std.specs.Ordering.{nat_cmp, match_ordering}
 use Rattle.std.specs.BTreeMap.{insert_entry}
-use Rattle.scene_rules.specs.Parts.{Json, Name, is_among}
-use Rattle.scene_rules.specs.Rulebook.{Book, Access, Facts, known, Outcome, Command}
-use Rattle.scene_rules.specs.Laws.{DeclaresKnown}
-use Rattle.scene_rules.specs.Lawful.{IsLawful}
-use Rattle.scene_rules.specs.Scenes.{PlainScene, PlainSystem, PlainFrame, Steps, IsProper, IsDescribed, PartsStand, PartsOwned, RefsLive, fragment, with_left, lives}
-use Rattle.scene_rules.proofs.CallerLemmas.{admitted-fragment, living-fragment, readable-fragment, admitted-left, living-left, readable-left, play-keeps, IsBetween, apply-between, admitted-again, proper-between}
-use Rattle.scene_rules.specs.Frames.{Queues, SystemsRun, entered, by_place, all_commands, Accepts}
+use Rattle.scene_model.specs.Parts.{Json, Name, is_among}
+use Rattle.scene_model.specs.Rulebook.{Book, Access, Facts, known, Outcome, Command}
+use Rattle.scene_model.specs.Laws.{DeclaresKnown}
+use Rattle.scene_model.specs.Lawful.{IsLawful}
+use Rattle.scene_model.specs.Scenes.{PlainScene, PlainSystem, PlainFrame, Steps, IsProper, IsDescribed, PartsStand, PartsOwned, RefsLive, fragment, with_left, lives}
+use Rattle.scene_model.proofs.CallerLemmas.{admitted-fragment, living-fragment, readable-fragment, admitted-left, living-left, readable-left, play-keeps, IsBetween, apply-between, admitted-again, proper-between}
+use Rattle.scene_model.specs.Frames.{Queues, SystemsRun, entered, by_place, all_commands, Accepts}
 use Rattle.scene_laws.specs.OneOutcome.{IsSoundFragment, OneOutcome, SameOutcome}
 use Rattle.scene_laws.proofs.IdLemmas.{accepts-goes-on}
 use Rattle.scene_laws.proofs.ReferenceLemmas.{accepts-live}

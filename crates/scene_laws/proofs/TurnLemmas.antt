@@ -5,18 +5,18 @@ use Rattle.std.proofs.Math.Path.{fun_ext}
 use Rattle.std.proofs.lemmas.Bool.{cases_lt, cases_eq}
 use Rattle.std.proofs.lemmas.Bool.Decides.{nat_tests}
 use Rattle.std.proofs.lemmas.Option.{none-some}
-use Rattle.scene_rules.specs.declared.refusals.FrameRefusal.{FrameRefusal}
-use Rattle.scene_rules.specs.declared.refusals.FrameRefusal.TheVariants.{System, GoneReference, IdsSpent, IndicesSpent, GenerationsSpent, TooManyCommands, Memory, Threads}
-use Rattle.scene_rules.specs.declared.refusals.Report.{Report}
-use Rattle.scene_rules.specs.declared.refusals.Skip.{Skip}
+use Rattle.scene_model.specs.declared.refusals.FrameRefusal.{FrameRefusal}
+use Rattle.scene_model.specs.declared.refusals.FrameRefusal.TheVariants.{System, GoneReference, IdsSpent, IndicesSpent, GenerationsSpent, TooManyCommands, Memory, Threads}
+use Rattle.scene_model.specs.declared.refusals.Report.{Report}
+use Rattle.scene_model.specs.declared.refusals.Skip.{Skip}
 use Rattle.std.proofs.lemmas.List.Elements.{All-head, All-tail}
-use Rattle.scene_rules.specs.Parts.{Name, is_among}
-use Rattle.scene_rules.specs.Rulebook.{Book, Access, Fragment, Outcome, Command, leaves, refuses, fills}
-use Rattle.scene_rules.specs.Scenes.{PlainScene, PlainSystem, PlainFrame, Steps, fragment, with_left}
-use Rattle.scene_rules.specs.Commands.{Played, played, spent, play, first_gone, CommandsAccepted, CommandsRefused, skips_of}
-use Rattle.scene_rules.specs.Frames.{Queues, SystemsRun, SystemsRefuse, SystemsFill, all_commands, Accepts, Refuses, Reaches, Ended}
+use Rattle.scene_model.specs.Parts.{Name, is_among}
+use Rattle.scene_model.specs.Rulebook.{Book, Access, Fragment, Outcome, Command, leaves, refuses, fills}
+use Rattle.scene_model.specs.Scenes.{PlainScene, PlainSystem, PlainFrame, Steps, fragment, with_left}
+use Rattle.scene_model.specs.Commands.{Played, played, spent, play, first_gone, CommandsAccepted, CommandsRefused, skips_of}
+use Rattle.scene_model.specs.Frames.{Queues, SystemsRun, SystemsRefuse, SystemsFill, all_commands, Accepts, Refuses, Reaches, Ended}
 use Rattle.scene_laws.specs.OneOutcome.{SameLeft, SameOutcome, IsOfScene, HadMeans}
-use Rattle.scene_rules.proofs.CallerLemmas.{led_to}
+use Rattle.scene_model.proofs.CallerLemmas.{led_to}
 use Rattle.scene_laws.proofs.IdLemmas.{skipped_in}
 
 -- a scene that one of two leavings is put into is that of the other, where they are one under what is written

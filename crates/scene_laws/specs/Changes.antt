@@ -1,9 +1,9 @@
 -- What turns of systems leave as it was.
 use Rattle.std.specs.Prelude.{◌≡◌, ℕ, false, List}
 use Rattle.std.specs.List.{list_any}
-use Rattle.scene_rules.specs.Parts.{Name, is_among}
-use Rattle.scene_rules.specs.Rulebook.{Access}
-use Rattle.scene_rules.specs.Scenes.{PlainScene, PlainSystem}
+use Rattle.scene_model.specs.Parts.{Name, is_among}
+use Rattle.scene_model.specs.Rulebook.{Access}
+use Rattle.scene_model.specs.Scenes.{PlainScene, PlainSystem}
 
 -- ids and the next id stay, and so do the parts of each kind and the value of each global that is not written
 pub record ChangesDeclared (access : Access) (scene after : PlainScene) : Type 0 where

@@ -1,6 +1,6 @@
 -- How the ids of a scene go on to those of a later one.
 use Rattle.std.specs.Prelude.{◌≡◌, ◌<◌, ◌≤◌, ℕ, suc, true, false}
-use Rattle.scene_rules.specs.Scenes.{PlainScene, IdsFit, lives}
+use Rattle.scene_model.specs.Scenes.{PlainScene, IdsFit, lives}
 
 -- ids go on from a scene to a later one: the next id does not fall, ids ascend and are below it, an id that was given and does
 -- not live does not come back, and an id that is new was not given before

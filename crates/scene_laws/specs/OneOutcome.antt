@@ -1,12 +1,12 @@
 -- One outcome: what a system is lent determines what becomes of its turn.
 use Rattle.std.specs.Prelude.{◌≡◌, ℕ, true, MatchOption}
-use Rattle.scene_rules.specs.declared.refusals.FrameRefusal.{FrameRefusal}
-use Rattle.scene_rules.specs.declared.refusals.FrameRefusal.TheVariants.{System, GoneReference, IdsSpent, IndicesSpent, GenerationsSpent, TooManyCommands, Memory, Threads}
-use Rattle.scene_rules.specs.declared.refusals.Report.{Report}
-use Rattle.scene_rules.specs.Parts.{Json, Name, is_among}
-use Rattle.scene_rules.specs.Rulebook.{Book, Access, Facts, known, Fragment, Outcome, leaves, refuses, fills}
-use Rattle.scene_rules.specs.Scenes.{IdsAscend, PartsAdmitted, RefsLive, GlobalsReadable}
-use Rattle.scene_draft.specs.Drafts.{Draft}
+use Rattle.scene_model.specs.declared.refusals.FrameRefusal.{FrameRefusal}
+use Rattle.scene_model.specs.declared.refusals.FrameRefusal.TheVariants.{System, GoneReference, IdsSpent, IndicesSpent, GenerationsSpent, TooManyCommands, Memory, Threads}
+use Rattle.scene_model.specs.declared.refusals.Report.{Report}
+use Rattle.scene_model.specs.Parts.{Json, Name, is_among}
+use Rattle.scene_model.specs.Rulebook.{Book, Access, Facts, known, Fragment, Outcome, leaves, refuses, fills}
+use Rattle.scene_model.specs.Scenes.{IdsAscend, PartsAdmitted, RefsLive, GlobalsReadable}
+use Rattle.scene_document.specs.Drafts.{Draft}
 
 -- two fragments that a system may leave are one under what it writes
 pub record SameLeft (access : Access) (one other : Fragment) : Type 0 where

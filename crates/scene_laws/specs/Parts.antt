@@ -1,10 +1,10 @@
 -- A run in two parts: some frames, and then the rest of them from the scene that those reached.
 use Rattle.std.specs.Prelude.{◌≡◌, ◌+◌, ℕ, List, map, drop, ◌++◌, option_map}
-use Rattle.scene_rules.specs.declared.refusals.FrameRefusal.{FrameRefusal}
-use Rattle.scene_rules.specs.declared.refusals.Report.{Report}
-use Rattle.scene_rules.specs.declared.refusals.Skip.{Skip}
-use Rattle.scene_rules.specs.Scenes.{PlainFrame}
-use Rattle.scene_draft.specs.Drafts.{Draft}
+use Rattle.scene_model.specs.declared.refusals.FrameRefusal.{FrameRefusal}
+use Rattle.scene_model.specs.declared.refusals.Report.{Report}
+use Rattle.scene_model.specs.declared.refusals.Skip.{Skip}
+use Rattle.scene_model.specs.Scenes.{PlainFrame}
+use Rattle.scene_document.specs.Drafts.{Draft}
 
 -- the frames behind the first ones, by their numbers from 1
 abbrev pub frames_behind : ℕ → (ℕ → PlainFrame) → ℕ → PlainFrame

@@ -2,11 +2,11 @@
 use Rattle.std.specs.Prelude.{◌≡◌, ℕ, List, true, false, codes, Some}
 use Rattle.serde_json.specs.Data.{null, boolean, number, string, array, object, Members, put}
 use Rattle.serde_json.specs.Written.{has_float}
-use Rattle.scene_rules.specs.Parts.{Json, Name, Part, is_among}
-use Rattle.scene_rules.specs.Rulebook.{Book}
-use Rattle.scene_rules.specs.Scenes.{PlainScene, IdsFit, RefsLive, PartsOwned}
-use Rattle.scene_draft.specs.Drafts.{Draft, DraftEntry, DraftCommand}
-use Rattle.scene_draft.specs.Texts.{scene_json}
+use Rattle.scene_model.specs.Parts.{Json, Name, Part, is_among}
+use Rattle.scene_model.specs.Rulebook.{Book}
+use Rattle.scene_model.specs.Scenes.{PlainScene, IdsFit, RefsLive, PartsOwned}
+use Rattle.scene_document.specs.Drafts.{Draft, DraftEntry, DraftCommand}
+use Rattle.scene_document.specs.Texts.{scene_json}
 use Rattle.scene_document.specs.Documents.{document_from}
 use Rattle.scene_laws.specs.References.{StandUnder}
 

@@ -1,8 +1,8 @@
 -- References of a scene under the rules' kinds.
 use Rattle.std.specs.Prelude.{◌≡◌, ℕ, true, List, Option, Some, All}
-use Rattle.scene_rules.specs.Parts.{Json, Name, Part, is_among}
-use Rattle.scene_rules.specs.Rulebook.{Book, Fragment, Command, leaves}
-use Rattle.scene_rules.specs.Scenes.{RefLives, lives}
+use Rattle.scene_model.specs.Parts.{Json, Name, Part, is_among}
+use Rattle.scene_model.specs.Rulebook.{Book, Fragment, Command, leaves}
+use Rattle.scene_model.specs.Scenes.{RefLives, lives}
 
 -- each reference of a living id's part, under one of these kinds, names a living id
 abbrev pub RefsLiveUnder : List Name → List ℕ → (ℕ → Name → Option Part) → Type 0

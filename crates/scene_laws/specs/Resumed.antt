@@ -1,12 +1,12 @@
 -- A run to its end, and a run in two parts by what documents say.
 use Rattle.std.specs.Prelude.{◌≡◌, ◌+◌, ℕ, List, drop, Ok, Some}
 use Rattle.scene_document.specs.declared.loaded.Limits.{Limits}
-use Rattle.scene_rules.specs.declared.refusals.Report.{Report}
-use Rattle.scene_rules.specs.Parts.{Json}
-use Rattle.scene_rules.specs.Rulebook.{Book}
-use Rattle.scene_rules.specs.Scenes.{PlainScene}
-use Rattle.scene_draft.specs.Drafts.{Draft, DraftEntry, DraftCommand, whole_32, entries_from, commands_from}
-use Rattle.scene_draft.specs.Texts.{scene_json, text_of, ReadsBack}
+use Rattle.scene_model.specs.declared.refusals.Report.{Report}
+use Rattle.scene_model.specs.Parts.{Json}
+use Rattle.scene_model.specs.Rulebook.{Book}
+use Rattle.scene_model.specs.Scenes.{PlainScene}
+use Rattle.scene_document.specs.Drafts.{Draft, DraftEntry, DraftCommand, whole_32, entries_from, commands_from}
+use Rattle.scene_document.specs.Texts.{scene_json, text_of, ReadsBack}
 use Rattle.scene_document.specs.Documents.{document_from}
 use Rattle.scene.specs.Runs.{CanBegin, Ran}
 use Rattle.scene_laws.specs.OneOutcome.{HadMeans}

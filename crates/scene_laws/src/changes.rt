@@ -1,11 +1,11 @@
 //! What systems change.
 ghost use Rattle.std.specs.Prelude.{List};
-ghost use Rattle.scene_rules.specs.Rulebook.{Command};
-ghost use Rattle.scene_rules.specs.Scenes.{PlainScene, PlainSystem, Steps};
-ghost use Rattle.scene_rules.specs.Frames.{Queues, SystemsRun};
+ghost use Rattle.scene_model.specs.Rulebook.{Command};
+ghost use Rattle.scene_model.specs.Scenes.{PlainScene, PlainSystem, Steps};
+ghost use Rattle.scene_model.specs.Frames.{Queues, SystemsRun};
 ghost use Rattle.scene_laws.specs.Changes.{ChangesDeclared, ChangesDeclaredBy};
 
-use scene_rules::DocumentRules;
+use scene_model::DocumentRules;
 
 /// A system's turn changes nothing that the system doesn't declare as written, and never which entities there are, nor their
 /// ids, nor the next id; so do the turns of the systems of a frame, one after another.

@@ -1,20 +1,20 @@
 //! An id is given once.
 ghost use Rattle.std.specs.Prelude.{◌≡◌, ℕ, List, Ok};
-ghost use Rattle.scene_rules.specs.Scenes.{PlainScene, PlainFrame, IdsFit};
-ghost use Rattle.scene_rules.specs.Rulebook.{spawn, kill};
-ghost use Rattle.scene_rules.specs.Parts.{Name, Part};
-ghost use Rattle.scene_rules.specs.Commands.{apply, changed};
-ghost use Rattle.scene_rules.specs.declared.refusals.Skip.{Skip};
-ghost use Rattle.scene_rules.specs.declared.refusals.Report.{Report};
-ghost use Rattle.scene_draft.specs.Drafts.{Draft};
+ghost use Rattle.scene_model.specs.Scenes.{PlainScene, PlainFrame, IdsFit};
+ghost use Rattle.scene_model.specs.Rulebook.{spawn, kill};
+ghost use Rattle.scene_model.specs.Parts.{Name, Part};
+ghost use Rattle.scene_model.specs.Commands.{apply, changed};
+ghost use Rattle.scene_model.specs.declared.refusals.Skip.{Skip};
+ghost use Rattle.scene_model.specs.declared.refusals.Report.{Report};
+ghost use Rattle.scene_document.specs.Drafts.{Draft};
 ghost use Rattle.scene_document.specs.Documents.{document_of};
 ghost use Rattle.scene_document.specs.Openings.{first_scene, frames_of};
-ghost use Rattle.scene_rules.specs.Frames.{Reaches};
+ghost use Rattle.scene_model.specs.Frames.{Reaches};
 ghost use Rattle.scene.specs.Outcomes.{Bounds, IsRunOf};
 ghost use Rattle.scene_laws.specs.Parts.{frames_behind};
 ghost use Rattle.scene_laws.specs.Ids.{IdsGoOn, Gives, TakesAway};
 
-use scene_rules::DocumentRules;
+use scene_model::DocumentRules;
 
 /// No id is given twice: over any number of frames the next id does not fall, an id that was given and does not live
 /// stays dead, and each id that came is new; a spawn gives the next id, which no entity had; and a killed id

@@ -1,14 +1,14 @@
 //! A run has one outcome.
 ghost use Rattle.std.specs.Prelude.{◌≡◌, ℕ, List, Ok};
-ghost use Rattle.scene_rules.specs.Scenes.{PlainScene};
-ghost use Rattle.scene_rules.specs.declared.refusals.Report.{Report};
-ghost use Rattle.scene_draft.specs.Drafts.{Draft};
+ghost use Rattle.scene_model.specs.Scenes.{PlainScene};
+ghost use Rattle.scene_model.specs.declared.refusals.Report.{Report};
+ghost use Rattle.scene_document.specs.Drafts.{Draft};
 ghost use Rattle.scene_document.specs.Documents.{document_of};
 ghost use Rattle.scene.specs.Runs.{CanBegin, Ran};
 ghost use Rattle.scene.specs.Outcomes.{Bounds, IsRunOf};
 ghost use Rattle.scene_laws.specs.OneOutcome.{OneOutcome, HadMeans, SameButPlace};
 
-use scene_rules::DocumentRules;
+use scene_model::DocumentRules;
 
 /// Where each system allows one outcome of what it may be lent, told by what it writes, a document that can begin has one: two
 /// runs of it, in which no frame is refused for want of memory or of a thread or at a limit of the world's entities, have the same

@@ -1,17 +1,17 @@
 //! A run in two parts.
 ghost use Rattle.std.specs.Prelude.{◌≡◌, ◌+◌, ◌++◌, ℕ, List, None};
-ghost use Rattle.scene_rules.specs.Scenes.{PlainScene, PlainFrame};
-ghost use Rattle.scene_rules.specs.declared.refusals.Report.{Report};
-ghost use Rattle.scene_rules.specs.declared.refusals.Skip.{Skip};
-ghost use Rattle.scene_draft.specs.Drafts.{Draft};
+ghost use Rattle.scene_model.specs.Scenes.{PlainScene, PlainFrame};
+ghost use Rattle.scene_model.specs.declared.refusals.Report.{Report};
+ghost use Rattle.scene_model.specs.declared.refusals.Skip.{Skip};
+ghost use Rattle.scene_document.specs.Drafts.{Draft};
 ghost use Rattle.scene_document.specs.Openings.{first_scene};
-ghost use Rattle.scene_draft.specs.Texts.{text_of};
-ghost use Rattle.scene_rules.specs.Frames.{Reaches};
+ghost use Rattle.scene_document.specs.Texts.{text_of};
+ghost use Rattle.scene_model.specs.Frames.{Reaches};
 ghost use Rattle.scene.specs.Runs.{CanBegin, Ran};
 ghost use Rattle.scene_laws.specs.OneOutcome.{OneOutcome, HadMeans};
 ghost use Rattle.scene_laws.specs.Parts.{frames_behind, later_skips, joined, IsInTwoParts};
 
-use scene_rules::DocumentRules;
+use scene_model::DocumentRules;
 
 /// Frames and then more of them are the frames together; so a document whose first frames are all accepted, and whose
 /// rest begins with the scene that those reached, leads where the whole leads, with the same report, where each system

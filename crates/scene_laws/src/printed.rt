@@ -1,16 +1,16 @@
 //! A printed scene is read again, and loaded again.
 ghost use Rattle.std.specs.Prelude.{◌≡◌, ◌≤◌, ℕ, List, length, Some, Ok, IfOk, IfErr};
-ghost use Rattle.scene_rules.specs.Parts.{Json};
-ghost use Rattle.scene_rules.specs.Scenes.{PlainScene};
-ghost use Rattle.scene_draft.specs.Drafts.{Draft, DraftEntry, DraftCommand, draft_from, entries_from, whole_32};
-ghost use Rattle.scene_draft.specs.Drafts.{commands_from};
+ghost use Rattle.scene_model.specs.Parts.{Json};
+ghost use Rattle.scene_model.specs.Scenes.{PlainScene};
+ghost use Rattle.scene_document.specs.Drafts.{Draft, DraftEntry, DraftCommand, draft_from, entries_from, whole_32};
+ghost use Rattle.scene_document.specs.Drafts.{commands_from};
 ghost use Rattle.scene_document.specs.Documents.{document_from, document_of};
 ghost use Rattle.scene_document.specs.Openings.{first_scene};
-ghost use Rattle.scene_draft.specs.Texts.{scene_json, text_of, ReadsBack};
+ghost use Rattle.scene_document.specs.Texts.{scene_json, text_of, ReadsBack};
 ghost use Rattle.scene.specs.Limits.{AreLimits};
 ghost use Rattle.scene.specs.Outcomes.{IsNoDocument, bounds_of};
-ghost use Rattle.scene_turns.specs.Places.{kinds_of};
-ghost use Rattle.scene_turns.specs.Turns.{placed_as};
+ghost use Rattle.scene_world.specs.Places.{kinds_of};
+ghost use Rattle.scene_world.specs.Turns.{placed_as};
 ghost use Rattle.scene.specs.Running.{shown_of, rules_of, IsReady};
 ghost use Rattle.scene_laws.specs.Printed.{ReadsAlike, CanBeRead, CanBeLoaded, document_json, HasCourse};
 

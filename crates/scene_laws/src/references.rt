@@ -1,11 +1,11 @@
 //! References name entities that live.
 ghost use Rattle.std.specs.Prelude.{ℕ, List};
-ghost use Rattle.scene_rules.specs.Scenes.{PlainScene, PlainFrame, RefsLive};
-ghost use Rattle.scene_rules.specs.declared.refusals.Skip.{Skip};
-ghost use Rattle.scene_rules.specs.Frames.{Accepts, Reaches};
+ghost use Rattle.scene_model.specs.Scenes.{PlainScene, PlainFrame, RefsLive};
+ghost use Rattle.scene_model.specs.declared.refusals.Skip.{Skip};
+ghost use Rattle.scene_model.specs.Frames.{Accepts, Reaches};
 ghost use Rattle.scene_laws.specs.References.{RefsLiveUnder, StandUnder};
 
-use scene_rules::DocumentRules;
+use scene_model::DocumentRules;
 
 /// No accepted frame leaves a reference to an entity that is gone, under any kind of the rules; where parts stand under the
 /// rules' kinds alone, that is each reference.

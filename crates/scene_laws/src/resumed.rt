@@ -1,11 +1,11 @@
 //! A run that is printed, put back and run on.
 ghost use Rattle.std.specs.Prelude.{◌≡◌, ◌↔◌, Some, IfOk, IsTrue};
-ghost use Rattle.scene_rules.specs.declared.refusals.Report.{Report};
-ghost use Rattle.scene_rules.specs.Parts.{Json, Name};
-ghost use Rattle.scene_rules.specs.Rulebook.{Facts, known};
-ghost use Rattle.scene_rules.specs.Laws.{Ascend, DeclaresKnown};
+ghost use Rattle.scene_model.specs.declared.refusals.Report.{Report};
+ghost use Rattle.scene_model.specs.Parts.{Json, Name};
+ghost use Rattle.scene_model.specs.Rulebook.{Facts, known};
+ghost use Rattle.scene_model.specs.Laws.{Ascend, DeclaresKnown};
 ghost use Rattle.serde_json.specs.View.{view};
-ghost use Rattle.scene_draft.specs.Texts.{json_of};
+ghost use Rattle.scene_document.specs.Texts.{json_of};
 ghost use Rattle.scene.specs.Limits.{AreLimits};
 ghost use Rattle.scene_laws.specs.OneOutcome.{OneOutcome, HadMeans};
 ghost use Rattle.scene_laws.specs.Printed.{with_course};
@@ -13,7 +13,7 @@ ghost use Rattle.scene_laws.specs.Resumed.{IsFinished, GoesOn};
 
 use crate::printed::a_ready_scene_can_be_read;
 use scene::{DocRefusal, FrameRefusal, Limits, LoadError, Report, Rules, Scene, run_to_end};
-use scene_draft::{JsonError, read_json};
+use scene_document::{JsonError, read_json};
 use serde_json::{Value, put};
 use std::alloc::{AllocError, Global};
 use std::sync::Wait;

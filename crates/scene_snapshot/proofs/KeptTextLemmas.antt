@@ -3,14 +3,14 @@ use Rattle.std.proofs.Common.{◌≡◌, ℕ, ◌+◌, ◌<◌, List, [], ◌∷
 use Rattle.std.proofs.lemmas.List.{take_more, map-append}
 use Rattle.std.specs.FinMap as finite
 use Rattle.std.specs.List.{filter_map, cons_option}
-use Rattle.scene_rules.specs.Parts.{Json, Name, Part, place_of}
-use Rattle.scene_rules.specs.Rulebook.{Book}
-use Rattle.scene_rules.specs.Scenes.{PlainScene}
-use Rattle.scene_rules.specs.Laws.{Ascend}
-use Rattle.scene_rules.specs.Declaring.{texts}
-use Rattle.scene_draft.proofs.CallerLemmas.{entries_more}
-use Rattle.scene_kept.specs.Keeping.{present}
-use Rattle.scene_kept.specs.declared.columns.KeptScene.{KeptScene}
+use Rattle.scene_model.specs.Parts.{Json, Name, Part, place_of}
+use Rattle.scene_model.specs.Rulebook.{Book}
+use Rattle.scene_model.specs.Scenes.{PlainScene}
+use Rattle.scene_model.specs.Laws.{Ascend}
+use Rattle.scene_model.specs.Declaring.{texts}
+use Rattle.scene_document.proofs.CallerLemmas.{entries_more}
+use Rattle.scene_snapshot.specs.Keeping.{present}
+use Rattle.scene_snapshot.specs.declared.columns.KeptScene.{KeptScene}
 use Rattle.scene_snapshot.specs.KeptScenes.{kept_scene}
 
 -- ---- pairs that a loop finds

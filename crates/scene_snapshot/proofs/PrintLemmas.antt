@@ -18,10 +18,10 @@ use Rattle.serde_json.specs.Read.{of_json, of_items, of_members, read, max_depth
 use Rattle.serde_json.specs.View.{items_of}
 use Rattle.serde_json.specs.Written.{outline, items_outline, members_outline}
 use Rattle.serde_json.proofs.Numbers.{number_of-decimal, number_of-negative}
-use Rattle.scene_rules.specs.Parts.{Json, Name}
-use Rattle.scene_draft.specs.Drafts.{members_list}
-use Rattle.scene_draft.specs.Texts.{members_with}
-use Rattle.scene_draft.proofs.CallerLemmas.{depth-outline}
+use Rattle.scene_model.specs.Parts.{Json, Name}
+use Rattle.scene_document.specs.Drafts.{members_list}
+use Rattle.scene_document.specs.Texts.{members_with}
+use Rattle.scene_document.proofs.CallerLemmas.{depth-outline}
 use Rattle.scene_snapshot.specs.Printing.{tokens_of, member_tokens, IsReadable, Adds, AddsJson, AddsMembers, AddsItems}
 
 -- ---- tokens behind tokens

@@ -3,12 +3,12 @@ use Rattle.std.specs.Prelude.{ℕ, List, [], ◌∷◌, codes, Option, option_ma
 use Rattle.std.specs.FinMap as finite
 use Rattle.std.specs.List.{filter_map}
 use Rattle.serde_json.specs.Data.{number, unsigned, object}
-use Rattle.scene_rules.specs.Parts.{Json, Name, Part, place_of}
-use Rattle.scene_rules.specs.Rulebook.{Book}
-use Rattle.scene_rules.specs.Scenes.{PlainScene}
-use Rattle.scene_draft.specs.Texts.{members_with}
-use Rattle.scene_kept.specs.Keeping.{Keeping, kept_at}
-use Rattle.scene_kept.specs.declared.columns.KeptScene.{KeptScene}
+use Rattle.scene_model.specs.Parts.{Json, Name, Part, place_of}
+use Rattle.scene_model.specs.Rulebook.{Book}
+use Rattle.scene_model.specs.Scenes.{PlainScene}
+use Rattle.scene_document.specs.Texts.{members_with}
+use Rattle.scene_snapshot.specs.Keeping.{Keeping, kept_at}
+use Rattle.scene_snapshot.specs.declared.columns.KeptScene.{KeptScene}
 
 -- what is kept of an entity in the column at a place, if something is
 abbrev pub kept_datum : {D : Type 0} → List (Keeping D Unit) → ℕ → ℕ → Option D

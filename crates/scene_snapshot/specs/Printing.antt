@@ -7,7 +7,7 @@ use Rattle.json.specs.Written.{Written}
 use Rattle.serde_json.specs.Data.{depth}
 use Rattle.serde_json.specs.Read.{of_json, max_depth}
 use Rattle.serde_json.specs.Written.{outline}
-use Rattle.scene_rules.specs.Parts.{Json, Name}
+use Rattle.scene_model.specs.Parts.{Json, Name}
 
 -- the tokens of a value
 abbrev pub tokens_of : Json → List Token

@@ -14,7 +14,7 @@ pub trait ByPlace<X> {
 
 impl<X> ByPlace<X> for Vec<Option<X>> {
     ghost use Rattle.std.specs.Prelude.{slice_get};
-    ghost use Rattle.scene_rules.specs.Slots.{filled};
+    ghost use Rattle.scene_model.specs.Slots.{filled};
 
     ghost at_place = { λ list place. filled (slice_get list.items place) };
 

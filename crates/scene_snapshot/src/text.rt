@@ -4,14 +4,14 @@ ghost use Rattle.std.specs.FinMap as finite;
 ghost use Rattle.serde_json.specs.Data.{array};
 ghost use Rattle.serde_json.specs.View.{view, items_of};
 ghost use Rattle.serde_json.specs.Written.{has_float};
-ghost use Rattle.scene_draft.specs.Texts.{globals_json, entity_json, scene_json, text_of, ReadsBack};
+ghost use Rattle.scene_document.specs.Texts.{globals_json, entity_json, scene_json, text_of, ReadsBack};
 ghost use Rattle.scene_snapshot.specs.KeptScenes.{kept_scene, kept_datum, kept_part, entity_with, parts_with};
 ghost use Rattle.scene_snapshot.specs.Printing.{AddsJson, AddsMembers, AddsFound};
 
 use crate::by_place::ByPlace;
+use crate::{Kept, KeptScene};
 use json::{Reader, Scratch, Writer};
-use scene_kept::{Kept, KeptScene};
-use scene_rules::DocumentRules;
+use scene_model::DocumentRules;
 use serde_json::Value;
 use std::alloc::{AllocError, Global};
 

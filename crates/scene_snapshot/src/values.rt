@@ -1,7 +1,7 @@
 //! Values as they are printed.
 use crate::text::put_value;
 use json::Writer;
-use scene_draft::has_float;
+use scene_document::has_float;
 use serde_json::Value;
 use std::alloc::Global;
 

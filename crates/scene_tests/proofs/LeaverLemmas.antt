@@ -4,9 +4,9 @@ use Rattle.std.specs.Prelude.{IsSome}
 use Rattle.std.specs.Str.{bytes_eq}
 use Rattle.std.proofs.lemmas.Option.{none-some, same_Some}
 use Rattle.std.proofs.lemmas.Slice.Eq.{bytes_eq-Decides}
-use Rattle.scene_rules.specs.Parts.{Json, Name, Part}
-use Rattle.scene_rules.specs.Rulebook.{Fragment}
-use Rattle.scene_rules.specs.Scenes.{lives, RefLives, RefsLive, PartsAdmitted, GlobalsReadable, KeepsValues}
+use Rattle.scene_model.specs.Parts.{Json, Name, Part}
+use Rattle.scene_model.specs.Rulebook.{Fragment}
+use Rattle.scene_model.specs.Scenes.{lives, RefLives, RefsLive, PartsAdmitted, GlobalsReadable, KeepsValues}
 use Rattle.scene_basics.specs.Names.{hp_kind, g_name}
 use Rattle.scene_basics.specs.Numbers.{json_of}
 use Rattle.scene_tests.specs.Leavers.{HpGoneIf, Left, set_value, leavers}

@@ -10,26 +10,26 @@ use Rattle.shred_world.proofs.CallerLemmas.{same_id-itself}
 use Rattle.shred_stages.specs.declared.stop.Stop.TheVariants as stop
 use Rattle.hibitset_sets.specs.Walk.{walk}
 use Rattle.hibitset_sets.proofs.CallerLemmas.{any-walk}
-use Rattle.specs_events.specs.Channels.{Log, log_of}
-use Rattle.specs_flagged.specs.Flagged.{Flagged, tells}
+use Rattle.specs_layouts.specs.Channels.{Log, log_of}
+use Rattle.specs_layouts.specs.Flagged.{Flagged, tells}
 use Rattle.specs_layouts.specs.declared.track.ComponentEvent.{ComponentEvent}
 use Rattle.specs_layouts.specs.MaskedChanges.{PutsIn, KeepsParts, told_taken}
 use Rattle.specs_layouts.specs.Parts.{Puts}
 use Rattle.specs_layouts.proofs.CallerLemmas.{shows-refl, shows-same, shows-taken, shows-trans}
-use Rattle.scene_stores.specs.declared.any_store.AnyStore.{AnyStore}
-use Rattle.scene_stores.specs.Stores.{store_part}
+use Rattle.scene_world.specs.declared.any_store.AnyStore.{AnyStore}
+use Rattle.scene_world.specs.Stores.{store_part}
 use Rattle.specs_layouts.specs.Shows.{Shows, Names}
-use Rattle.scene_rules.specs.Lawful.{IsLawful}
-use Rattle.scene_rules.specs.Parts.{Name, Part, is_among}
-use Rattle.scene_rules.specs.Rulebook.{Fragment, Command}
-use Rattle.scene_rules.specs.Scenes.{PartsOwned, IsLawfullyLeft, lives}
+use Rattle.scene_model.specs.Lawful.{IsLawful}
+use Rattle.scene_model.specs.Parts.{Name, Part, is_among}
+use Rattle.scene_model.specs.Rulebook.{Fragment, Command}
+use Rattle.scene_model.specs.Scenes.{PartsOwned, IsLawfullyLeft, lives}
 use Rattle.scene_world.specs.Stored.{part_under}
 use Rattle.scene_world.specs.Rolls.{index_of, ref_to}
 use Rattle.scene_world.specs.Standing.{seen_in, column_of, column_in, events_in, emits_in, fragment_of, plain_of, roll_of, IsWithin}
-use Rattle.scene_turns.specs.Turns.{Meaning, sense_of, rules_by, IsFit, IsLentFit, LeavesLawfully, Runs, ShowsChanges, meaning_of}
-use Rattle.scene_turns.specs.Writes.{WritesOne, WritesGlobal}
-use Rattle.scene_turns.proofs.CallerLemmas.{written-here, left-ids, left-others, left-globals, left-parts, set-columns, set-ids, set-parts, set-globals, set-global, owned-plain}
-use Rattle.scene_turns.proofs.StepLemmas.{owned-fragment}
+use Rattle.scene_world.specs.Turns.{Meaning, sense_of, rules_by, IsFit, IsLentFit, LeavesLawfully, Runs, ShowsChanges, meaning_of}
+use Rattle.scene_world.specs.Writes.{WritesOne, WritesGlobal}
+use Rattle.scene_world.proofs.CallerLemmas.{written-here, left-ids, left-others, left-globals, left-parts, set-columns, set-ids, set-parts, set-globals, set-global, owned-plain}
+use Rattle.scene_world.proofs.StepLemmas.{owned-fragment}
 use Rattle.scene_basics.specs.declared.values.Whole.{Whole}
 use Rattle.scene_basics.specs.declared.values.Value.{Value}
 use Rattle.scene_basics.specs.declared.values.Value.TheVariants.{NumbersValue, GlobalValue}

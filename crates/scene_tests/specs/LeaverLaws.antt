@@ -5,9 +5,9 @@ use Rattle.std.proofs.lemmas.Option.{none-some, same_Some}
 use Rattle.std.proofs.lemmas.List.Elements.{All-nil, All-cons}
 use Rattle.serde_json.specs.Data.{null, boolean, number, string, array, object}
 use Rattle.serde_json.specs.Find.{as_bool}
-use Rattle.scene_rules.specs.Parts.{Json, Name, is_among}
-use Rattle.scene_rules.specs.Rulebook.{Facts, unknown, known}
-use Rattle.scene_rules.specs.Laws.{DeclaresKnown}
+use Rattle.scene_model.specs.Parts.{Json, Name, is_among}
+use Rattle.scene_model.specs.Rulebook.{Facts, unknown, known}
+use Rattle.scene_model.specs.Laws.{DeclaresKnown}
 use Rattle.scene_basics.specs.Names.{hp_kind, g_name, part_kinds}
 use Rattle.scene_tests.specs.Leavers.{leave_kind, leaving, configured, leavers}
 

@@ -2,9 +2,9 @@
 use Rattle.std.specs.Prelude.{◌≡◌, codes, ℕ, ℤ, pos, Bool, true, false, [], ◌∷◌, Option, Some, None, if◌then◌else◌}
 use Rattle.std.specs.Str.{bytes_eq}
 use Rattle.serde_json.specs.Find.{as_bool}
-use Rattle.scene_rules.specs.Parts.{Name}
-use Rattle.scene_rules.specs.Rulebook.{Facts, Described, misshapen, unknown, known, Fragment, Outcome, leaves, refuses, fills, Book}
-use Rattle.scene_rules.specs.Scenes.{lives}
+use Rattle.scene_model.specs.Parts.{Name}
+use Rattle.scene_model.specs.Rulebook.{Facts, Described, misshapen, unknown, known, Fragment, Outcome, leaves, refuses, fills, Book}
+use Rattle.scene_model.specs.Scenes.{lives}
 use Rattle.scene_basics.specs.Names.{hp_kind, g_name, part_kinds}
 use Rattle.scene_basics.specs.Numbers.{json_of, read_part, read_global, admits}
 

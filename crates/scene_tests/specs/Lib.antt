@@ -2,3 +2,8 @@
 pub mod Leavers
 pub mod LeaverLaws
 pub mod Leaving
+pub mod Alone
+pub mod Watched
+pub mod WatchedLaws
+pub mod Gated
+pub mod GatedLaws

@@ -1,7 +1,7 @@
 //! The laws of scenes at the program's rules, and what they say shown on documents.
 ghost use Rattle.std.specs.Prelude.{IfSome};
-ghost use Rattle.scene_turns.specs.Places.{kinds_of};
-ghost use Rattle.scene_turns.specs.Turns.{placed_as};
+ghost use Rattle.scene_world.specs.Places.{kinds_of};
+ghost use Rattle.scene_world.specs.Turns.{placed_as};
 ghost use Rattle.scene.specs.Running.{IsReady};
 
 use scene::{Limits, Rules, Scene, SceneValue};

@@ -4,13 +4,13 @@ ghost use Rattle.std.proofs.Common.{rules};
 ghost use Rattle.serde_json.specs.Data.{boolean};
 ghost use Rattle.serde_json.specs.Find.{as_bool};
 ghost use Rattle.serde_json.specs.View.{view};
-ghost use Rattle.scene_rules.specs.Laws.{IsMaking};
-ghost use Rattle.scene_rules.specs.Rulebook.{misshapen};
+ghost use Rattle.scene_model.specs.Laws.{IsMaking};
+ghost use Rattle.scene_model.specs.Rulebook.{misshapen};
 ghost use Rattle.scene_basics.specs.Apart.{basic-apart};
 ghost use Rattle.scene_basics.specs.Columns.{basic_columns};
 ghost use Rattle.scene_basics.specs.Numbers.{part_of, json_of};
 ghost use Rattle.scene_basics.specs.RuleLaws.{law-reads_admitted, law-reads_back, law-global_reads_back, law-no_float, law-no_global_float, law-kinds_ascend, law-globals_ascend};
-ghost use Rattle.scene_turns.specs.Turns.{sense_of};
+ghost use Rattle.scene_world.specs.Turns.{sense_of};
 ghost use Rattle.scene_tests.specs.Leavers.{leavers, leave_kind, leaving, configured, Makes};
 ghost use Rattle.scene_tests.specs.LeaverLaws.{law-leaving_is_known};
 

@@ -11,8 +11,11 @@ mod devices;
 mod documents;
 #[cfg(test)]
 mod failures;
+pub mod filling;
 #[cfg(test)]
 mod frames;
+#[cfg(test)]
+mod kept_rows;
 #[cfg(test)]
 mod laws;
 #[cfg(test)]
@@ -31,5 +34,8 @@ mod refusals;
 mod resumed;
 #[cfg(test)]
 mod runs;
+#[cfg(test)]
+mod texts;
+pub mod whole_runs;
 
 pub use leavers::{Leave, Leavers};

@@ -8,7 +8,7 @@ ghost use Rattle.scene_laws.specs.Resumed.{GoesOn};
 use scene::{DocRefusal, Limits, LoadError};
 use scene_basics::Basics;
 use scene_basics::laws::a_turn_has_one_outcome;
-use scene_draft::{JsonError, read_json};
+use scene_document::{JsonError, read_json};
 use scene_laws::{Course, ResumeError, run_in_parts};
 use serde_json::Value;
 use std::alloc::Global;

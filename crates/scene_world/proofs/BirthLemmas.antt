@@ -9,11 +9,11 @@ use Rattle.std.proofs.lemmas.List.Elements.{All-head, All-tail}
 use Rattle.specs_entity.specs.Births.{living}
 use Rattle.specs_entity.specs.Life.{Life, LifeAt}
 use Rattle.specs_markers.specs.Simple.{Noting, allocated, noted_under}
-use Rattle.scene_rules.specs.Parts.{Name, Part, is_among, under}
-use Rattle.scene_rules.specs.Rulebook.{spawn}
-use Rattle.scene_rules.specs.Scenes.{PlainScene, lives}
-use Rattle.scene_rules.specs.Commands.{apply, changed, skipped, ids_spent, refs_live, last_next}
-use Rattle.scene_rules.proofs.CallerLemmas.{same_scene, same-ids, is_eq-nat_cmp, lives-behind, behind-ascends}
+use Rattle.scene_model.specs.Parts.{Name, Part, is_among, under}
+use Rattle.scene_model.specs.Rulebook.{spawn}
+use Rattle.scene_model.specs.Scenes.{PlainScene, lives}
+use Rattle.scene_model.specs.Commands.{apply, changed, skipped, ids_spent, refs_live, last_next}
+use Rattle.scene_model.proofs.CallerLemmas.{same_scene, same-ids, is_eq-nat_cmp, lives-behind, behind-ascends}
 use Rattle.scene_world.specs.Stored.{Stored, part_with, part_under}
 use Rattle.scene_world.specs.Rolls.{Roll, is_life, reference, id_at, ids_in, index_of, ref_to, part_in, IsMarked, IsRoll}
 use Rattle.scene_world.specs.Standing.{Sight, Kinds, roll_of, column_of, value_of, plain_of, IsWithin}

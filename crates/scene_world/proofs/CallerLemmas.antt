@@ -5,3 +5,6 @@ pub use Rattle.scene_world.proofs.PlaceLemmas.{whole-world, lent-ids}
 pub use Rattle.scene_world.proofs.PartLemmas.{scene-set}
 pub use Rattle.scene_world.proofs.DeathLemmas.{buried-roll, buried-scene, buried-within}
 pub use Rattle.scene_world.proofs.BirthLemmas.{lives-below, next-noted, noted-forgotten, next-after, born-roll, born-within, born-scene}
+pub use Rattle.scene_world.proofs.WriteLemmas.{written-roll, written-here, left-ids, left-others, left-globals, left-parts, left-lawful, set-roll, set-columns, set-ids, set-parts, set-globals, set-global}
+pub use Rattle.scene_world.proofs.StepLemmas.{owned-plain}
+pub use Rattle.scene_world.proofs.EachLemmas.{each-same, each-none, each-mapped, each-more, each-passed}

@@ -8,11 +8,11 @@ use Rattle.serde_json.specs.Data.{null}
 use Rattle.specs_entity.specs.Births.{living}
 use Rattle.specs_entity.specs.Life.{Life, LifeAt}
 use Rattle.specs_markers.specs.Simple.{noted_under}
-use Rattle.scene_rules.specs.Parts.{Json, Name, Ref, living as reaching, gone, Part, is_among}
-use Rattle.scene_rules.specs.Rulebook.{kill}
-use Rattle.scene_rules.specs.Scenes.{PlainScene}
-use Rattle.scene_rules.specs.Commands.{is_gone, is_to, without_ref, part_without, apply, changed, skipped}
-use Rattle.scene_rules.proofs.CallerLemmas.{same_scene, same-ids, lives-kept}
+use Rattle.scene_model.specs.Parts.{Json, Name, Ref, living as reaching, gone, Part, is_among}
+use Rattle.scene_model.specs.Rulebook.{kill}
+use Rattle.scene_model.specs.Scenes.{PlainScene}
+use Rattle.scene_model.specs.Commands.{is_gone, is_to, without_ref, part_without, apply, changed, skipped}
+use Rattle.scene_model.proofs.CallerLemmas.{same_scene, same-ids, lives-kept}
 use Rattle.scene_world.specs.Stored.{Stored, ids_reached, part_with, part_under}
 use Rattle.scene_world.specs.Rolls.{Roll, is_life, reference, id_at, ids_in, index_of, ref_to, part_in, IsMarked, IsRoll}
 use Rattle.scene_world.specs.Standing.{Sight, Kinds, roll_of, column_of, value_of, plain_of, IsWithin}

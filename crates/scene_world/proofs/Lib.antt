@@ -5,3 +5,10 @@ pub mod PartLemmas
 pub mod DeathLemmas
 pub mod BirthLemmas
 pub mod CallerLemmas
+pub mod ChangeLemmas
+pub mod MarkerLemmas
+pub mod StepLemmas
+pub mod ChainLemmas
+pub mod PlacedLemmas
+pub mod WriteLemmas
+pub mod EachLemmas

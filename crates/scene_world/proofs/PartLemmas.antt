@@ -4,9 +4,9 @@ use Rattle.std.specs.Prelude.{option_and_then, option_map}
 use Rattle.std.specs.Str.{bytes_eq}
 use Rattle.std.proofs.lemmas.Slice.Eq.{bytes_eq-Decides}
 use Rattle.std.proofs.lemmas.Bool.{true≢false, eqb-true, eq-eqb}
-use Rattle.scene_rules.specs.Parts.{Name, Part, is_among}
-use Rattle.scene_rules.specs.Commands.{with_part}
-use Rattle.scene_rules.proofs.CallerLemmas.{same_scene}
+use Rattle.scene_model.specs.Parts.{Name, Part, is_among}
+use Rattle.scene_model.specs.Commands.{with_part}
+use Rattle.scene_model.proofs.CallerLemmas.{same_scene}
 use Rattle.scene_world.specs.Stored.{Stored, part_under}
 use Rattle.scene_world.specs.Rolls.{Roll, id_at, ids_in, index_of, ref_to, part_in, IsRoll}
 use Rattle.scene_world.specs.Standing.{Sight, Kinds, roll_of, column_of, value_of, plain_of}

@@ -8,8 +8,8 @@ use Rattle.std.proofs.lemmas.List.Elements.{All-head, All-tail}
 use Rattle.std.proofs.lemmas.List.Folds.{list_any-append}
 use Rattle.shred_world.specs.Bundles.{takable, readable, slot_of, holding_of, is_listed}
 use Rattle.shred_world.specs.Worlds.{Slots}
-use Rattle.scene_rules.specs.Parts.{Name, is_among}
-use Rattle.scene_rules.specs.Rulebook.{Access}
+use Rattle.scene_model.specs.Parts.{Name, is_among}
+use Rattle.scene_model.specs.Rulebook.{Access}
 use Rattle.scene_world.specs.Standing.{Kinds, IsWhole}
 use Rattle.scene_world.specs.Lent.{Place, entities, markers, allocator, parts, value, queue, same_place, id_of_place, is_known, StandApart, read_places, written_places, IsLent, AreKnown}
 

@@ -9,9 +9,9 @@ use Rattle.std.specs.FinSet as set
 use Rattle.specs_entity.specs.Births.{Births, IsAlive, living, living_of, alive_of, persistent_at}
 use Rattle.specs_entity.specs.Life.{Life, LifeAt}
 use Rattle.specs_markers.specs.Simple.{Noting, noted_under}
-use Rattle.scene_rules.specs.Parts.{Part, gone, living as reaching}
-use Rattle.scene_rules.specs.Scenes.{lives, IdsAscend}
-use Rattle.scene_rules.proofs.CallerLemmas.{is_eq-nat_cmp, lives-ascending, in_order-ascends, lives-kept}
+use Rattle.scene_model.specs.Parts.{Part, gone, living as reaching}
+use Rattle.scene_model.specs.Scenes.{lives, IdsAscend}
+use Rattle.scene_model.proofs.CallerLemmas.{is_eq-nat_cmp, lives-ascending, in_order-ascends, lives-kept}
 use Rattle.scene_world.specs.Stored.{Stored, part_under}
 use Rattle.scene_world.specs.Rolls.{Roll, is_life, is_id, reference, index_if, index_of, ids_in, id_at, ref_to, part_in, IsRoll}
 

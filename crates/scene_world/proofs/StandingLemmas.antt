@@ -6,10 +6,10 @@ use Rattle.std.proofs.Math.Path.{fun_ext}
 use Rattle.shred_world.specs.declared.resource_id.ResourceId.{ResourceId}
 use Rattle.shred_world.specs.Bundles.{Slot, absent, out, shared, owned, Holding, readable, takable, is_listed}
 use Rattle.shred_stages.specs.Views.{cut, shared_of, owned_of, reading, IsLeft, Leaves, merged}
-use Rattle.scene_rules.specs.Parts.{Name, is_among}
-use Rattle.scene_rules.specs.Rulebook.{Access, declares, declares_global, Fragment}
-use Rattle.scene_rules.specs.Scenes.{fragment, with_left}
-use Rattle.scene_rules.proofs.CallerLemmas.{same_scene}
+use Rattle.scene_model.specs.Parts.{Name, is_among}
+use Rattle.scene_model.specs.Rulebook.{Access, declares, declares_global, Fragment}
+use Rattle.scene_model.specs.Scenes.{fragment, with_left}
+use Rattle.scene_model.proofs.CallerLemmas.{same_scene}
 use Rattle.scene_world.specs.Rolls.{Roll, ids_in, part_in}
 use Rattle.scene_world.specs.Standing.{Sight, seen_in, IsWhole, Kinds, roll_in, roll_of, column_in, column_of, plain_of, fragment_of, IsWithin}
 use Rattle.scene_world.specs.Lent.{IsLent}

@@ -4,7 +4,7 @@ use Rattle.std.specs.Str.{bytes_eq}
 use Rattle.specs_entity.specs.Births.{living}
 use Rattle.specs_entity.specs.Life.{LifeAt}
 use Rattle.specs_markers.specs.Simple.{allocated, noted_under}
-use Rattle.scene_rules.specs.Parts.{Name, is_among}
+use Rattle.scene_model.specs.Parts.{Name, is_among}
 use Rattle.scene_world.specs.Stored.{Stored}
 use Rattle.scene_world.specs.Rolls.{is_life}
 use Rattle.scene_world.specs.Standing.{Sight, Kinds, roll_of, column_of, value_of}

@@ -4,8 +4,8 @@ use Rattle.std.specs.Str.{bytes_eq}
 use Rattle.shred_world.specs.declared.resource_id.ResourceId.{ResourceId}
 use Rattle.shred_world.specs.ResourceIds.{same_id}
 use Rattle.shred_world.specs.Bundles.{is_listed}
-use Rattle.scene_rules.specs.Parts.{Name, is_among}
-use Rattle.scene_rules.specs.Rulebook.{Access}
+use Rattle.scene_model.specs.Parts.{Name, is_among}
+use Rattle.scene_model.specs.Rulebook.{Access}
 use Rattle.scene_world.specs.Standing.{Kinds}
 
 -- what stands in a world of a scene

@@ -1,10 +1,20 @@
 -- The definitions that the contracts of this crate cite, in the order in which a reader needs them.
-pub use Rattle.scene_rules.specs.Parts
-pub use Rattle.scene_rules.specs.Rulebook
-pub use Rattle.scene_rules.specs.Scenes
-pub use Rattle.scene_rules.specs.Commands
+pub use Rattle.scene_model.specs.Parts
+pub use Rattle.scene_model.specs.Rulebook
+pub use Rattle.scene_model.specs.Scenes
+pub use Rattle.scene_model.specs.Commands
 pub mod Stored
 pub mod Rolls
 pub mod Standing
 pub mod Lent
 pub mod Changes
+pub mod Stores
+pub mod StoreChanges
+pub mod StoreLemmas
+pub mod Markers
+pub mod Places
+pub mod Putting
+pub mod Turns
+pub mod Chains
+pub mod Writes
+pub mod Stops

@@ -4,8 +4,8 @@ use Rattle.std.specs.FinMap as map
 use Rattle.specs_entity.specs.Births.{Births, living}
 use Rattle.specs_entity.specs.Life.{Life, LifeAt}
 use Rattle.specs_markers.specs.Simple.{Noting, noted_under}
-use Rattle.scene_rules.specs.Parts.{Ref, living as reaching, gone, Part}
-use Rattle.scene_rules.specs.Ids.{ascending}
+use Rattle.scene_model.specs.Parts.{Ref, living as reaching, gone, Part}
+use Rattle.scene_model.specs.Ids.{ascending}
 use Rattle.scene_world.specs.Stored.{Stored, part_under}
 
 -- the entities of a world, the id that is marked at each index, and the allocator of ids: which comes next, and the entity that was

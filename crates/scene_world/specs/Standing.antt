@@ -4,12 +4,12 @@ use Rattle.std.specs.Option.{option_map_or, unwrap_or}
 use Rattle.shred_world.specs.declared.resource_id.ResourceId.{ResourceId}
 use Rattle.shred_world.specs.Bundles.{Holding, readable, takable}
 use Rattle.specs_entity.specs.Births.{Births, living, none_born}
-use Rattle.specs_events.specs.Channels.{Log, no_log}
+use Rattle.specs_layouts.specs.Channels.{Log, no_log}
 use Rattle.specs_layouts.specs.declared.track.ComponentEvent.{ComponentEvent}
 use Rattle.specs_markers.specs.Simple.{Noting, none_noted}
-use Rattle.scene_rules.specs.Parts.{Json, Name, is_among}
-use Rattle.scene_rules.specs.Rulebook.{Access, Fragment, Book, Command}
-use Rattle.scene_rules.specs.Scenes.{PlainScene, fragment, IsProper}
+use Rattle.scene_model.specs.Parts.{Json, Name, is_among}
+use Rattle.scene_model.specs.Rulebook.{Access, Fragment, Book, Command}
+use Rattle.scene_model.specs.Scenes.{PlainScene, fragment, IsProper}
 use Rattle.scene_world.specs.Stored.{Stored}
 use Rattle.scene_world.specs.Rolls.{Roll, ids_in, part_in, IsRoll}
 

@@ -3,8 +3,8 @@ use Rattle.std.specs.Prelude.{ℕ, List, map, Option, Some, None, if◌then◌el
 use Rattle.std.specs.List.{list_any, filter_map}
 use Rattle.serde_json.specs.Data.{null}
 use Rattle.specs_entity.specs.Life.{LifeAt}
-use Rattle.scene_rules.specs.Parts.{Json, Ref, living, gone, Part}
-use Rattle.scene_rules.specs.Commands.{is_gone}
+use Rattle.scene_model.specs.Parts.{Json, Ref, living, gone, Part}
+use Rattle.scene_model.specs.Commands.{is_gone}
 
 -- the entities that a part names, in their order, and what is written for it once these are ids
 pub record Stored : Type 0 where

@@ -7,15 +7,24 @@ ghost use Rattle.shred_world.specs.Bundles.{Holding};
 ghost use Rattle.shred_stages.specs.Views.{cut, Leaves, merged};
 ghost use Rattle.specs_entity.specs.Births.{IsAlive};
 ghost use Rattle.specs_entity.specs.Life.{LifeAt};
-ghost use Rattle.scene_rules.specs.Parts.{Name, Part, gone, is_among, living, under};
-ghost use Rattle.scene_rules.specs.Rulebook.{Access, spawn, kill};
-ghost use Rattle.scene_rules.specs.Scenes.{fragment, with_left};
-ghost use Rattle.scene_rules.specs.Commands.{apply, changed, with_part, refs_live, last_next};
+ghost use Rattle.scene_model.specs.Parts.{Name, Part, gone, is_among, living, under};
+ghost use Rattle.scene_model.specs.Rulebook.{Access, spawn, kill};
+ghost use Rattle.scene_model.specs.Scenes.{fragment, with_left, PlainSystem};
+ghost use Rattle.scene_model.specs.Commands.{apply, changed, with_part, refs_live, last_next};
 ghost use Rattle.scene_world.specs.Stored.{Stored, part_under};
 ghost use Rattle.scene_world.specs.Rolls.{Roll, id_at, ids_in, ref_to, IsRoll};
 ghost use Rattle.scene_world.specs.Standing.{Kinds, Sight, IsWhole, seen_in, roll_of, plain_of, fragment_of};
 ghost use Rattle.scene_world.specs.Lent.{StandApart, AreKnown, IsLent, id_of_place, read_places, written_places};
 ghost use Rattle.scene_world.specs.Changes.{SetsPart, Buries, Bears};
+ghost use Rattle.shred_plan.specs.Plan.{Stage};
+ghost use Rattle.shred_stages.specs.declared.stop.Stop.{Stop};
+ghost use Rattle.shred_stages.specs.Runs.{State, StagesRun};
+ghost use Rattle.scene_world.specs.Places.{kinds_of};
+ghost use Rattle.scene_world.specs.Turns.{placed_as};
+ghost use Rattle.scene_world.specs.Chains.{PlanIsLent, IsReady, Comes, plan_order};
+
+use crate::{Placed, Rules, SceneValue};
+use shred_stages::System;
 
 /// A stored entity that is alive, by its index and its generation, is a reference to the id that is marked at its index;
 /// any other is a reference to none any more, also where another entity lives at its index.
@@ -82,4 +91,20 @@ pub fn a_birth_is_a_spawn<V>()
         → ((kind : Name) → under kind given ≡ (if is_among kind kinds.part_names
         then option_map (part_under (ref_to (roll_of kinds w))) (parts kind) else None))
         → apply (spawn given) (plain_of kinds w) ≡ changed (plain_of kinds later) }
+{}
+
+/// A plan of systems that runs over a world in which a scene stands is the chain of their turns over the scene, in the
+/// plan's order: the scene that stands in the world after is the one to which they lead, and the queue of each
+/// position has the commands of its system. Where one stops the plan, it is the first that does so in that order.
+pub fn a_plan_is_its_turns<R: Rules>(rules: &R)
+    ensures { (at : ℕ → PlainSystem) (stages : List (Stage ResourceId)) (before after : State R.Value _)
+        (refused : Option (ℕ × Stop))
+        → PlanIsLent (kinds_of ⟦<R::Value as SceneValue<R::Data>>⟧.places R.part_of R.columns) at stages
+        → IsReady (kinds_of ⟦<R::Value as SceneValue<R::Data>>⟧.places R.part_of R.columns)
+        (placed_as (λ placed. placed.position) (λ placed. placed.system) R.kind_of R.config_of R.declared
+        R.sense R.does) (R.book rules.now) at before
+        → StagesRun ⟦<Placed<R> as System<R::Value>>⟧.meets stages before refused after
+        → Comes (kinds_of ⟦<R::Value as SceneValue<R::Data>>⟧.places R.part_of R.columns)
+        (placed_as (λ placed. placed.position) (λ placed. placed.system) R.kind_of R.config_of R.declared
+        R.sense R.does) (R.book rules.now) at (plan_order at stages) before refused after }
 {}

@@ -1,4 +1,24 @@
-//! A scene that stands in a world of entities: what it is, and what becomes of it as the world changes.
+//! A scene that stands in a world of entities: storages of one of four layouts, the markers by which entities are known,
+//! systems under a caller's rules, and what becomes of the scene as the world changes.
 #![tactic(auto)]
 
+pub mod any_store;
+pub mod changes;
 pub mod laws;
+pub mod marker;
+pub mod parts;
+mod placed;
+mod rules;
+mod stops;
+pub mod store;
+mod value;
+
+pub use any_store::AnyStore;
+pub use changes::change_parts;
+pub use marker::{SceneMarker, SceneMarkerAllocator, no_markers};
+pub use parts::{SceneStorage, scene_storage};
+pub use placed::Placed;
+pub use rules::Rules;
+pub use stops::stop_for;
+pub use store::Store;
+pub use value::{QueueValue, SceneValue};

@@ -6,8 +6,8 @@ use Rattle.shred_stages.specs.declared.error.DispatchError.{DispatchError}
 use Rattle.shred_stages.specs.Ends.{RunsApart}
 use Rattle.shred_stages.specs.Orders.{RunsInAnyOrder}
 use Rattle.shred_stages.proofs.CallerLemmas.{leaves-leaves}
-use Rattle.shred_async.specs.declared.errand.Errand.{Errand}
-use Rattle.shred_async.specs.Away.{Leaves as ErrandLeaves}
+use Rattle.shred_stages.specs.declared.errand.Errand.{Errand}
+use Rattle.shred_stages.specs.Errands.{Leaves as ErrandLeaves}
 use Rattle.shred.specs.declared.async_error.AsyncError.{AsyncError}
 use Rattle.shred.specs.Dispatching.{Dispatching, DispatchesLocals, DispatchesInAnyOrder, ThenLocals}
 use Rattle.shred.specs.Asyncs.{Owning, Owned, here, Tells, WhenAway, Does, Ends, HasRun, HasRunWhole, Joins, Finishes}

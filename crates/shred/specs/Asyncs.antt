@@ -10,7 +10,7 @@ use Rattle.shred_stages.specs.declared.stop.Stop.{Stop}
 use Rattle.shred_stages.specs.declared.error.DispatchError.{DispatchError}
 use Rattle.shred_stages.specs.Views.{Leaves}
 use Rattle.shred_stages.specs.Staging.{Staging}
-use Rattle.shred_async.specs.Away.{staging_code}
+use Rattle.shred_stages.specs.Errands.{staging_code}
 use Rattle.shred.specs.declared.async_error.AsyncError.{AsyncError}
 use Rattle.shred.specs.declared.async_error.AsyncError.TheVariants.{Refused, Memory, Failed}
 use Rattle.shred_stages.specs.Orders.{RunsInAnyOrder}

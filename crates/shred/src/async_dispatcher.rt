@@ -5,7 +5,7 @@ ghost use Rattle.shred.specs.Asyncs.{here, Tells, TellsMemory, IsAway, IsAtHand,
 ghost use Rattle.shred.specs.Asyncs.{JoinsFirst, StartsFrom, SetsUpOwned};
 
 use crate::{AsyncError, DispatchError, Dispatcher, RunNow, System};
-use shred_async::{Away, Done, Errand, Unstarted};
+use shred_stages::{Away, Done, Errand, Unstarted};
 use shred_world::World;
 use std::alloc::AllocError;
 use std::marker::Model;

@@ -16,3 +16,4 @@ pub mod Orders
 pub mod Changes
 pub mod Touring
 pub mod ViewParts
+pub mod Errands

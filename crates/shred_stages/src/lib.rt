@@ -1,11 +1,14 @@
-//! Systems over a world of resources: planned into stages of groups, and run by their numbers.
+//! Stages of systems over a world's resources: a plan is run group by group, by workers or by one thread, or in a thread of its own
+//! while the caller goes on.
 #![tactic(auto)]
 
 mod access;
 mod accessor;
 mod alone;
 mod apart;
+mod away;
 mod berth;
+mod errand;
 mod error;
 mod kit;
 pub mod laws;
@@ -28,6 +31,8 @@ mod view;
 
 pub use accessor::BatchAccessor;
 pub use alone::run_alone;
+pub use away::Away;
+pub use errand::{Done, Errand, Unstarted};
 pub use error::DispatchError;
 pub use run::Refusal;
 pub use seating::{make_seat, move_values};

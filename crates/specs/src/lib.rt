@@ -4,8 +4,12 @@
 //! entries in `storage`, joins in `join`, markers and saving in `saveload`.
 #![tactic(auto)]
 
+pub mod building;
 pub mod laws;
+pub mod mark;
+mod marking;
 pub mod prelude;
+mod taking;
 
 pub use hibitset::{BitSet, BitSetLike, Index};
 pub use shred::{
@@ -13,22 +17,20 @@ pub use shred::{
     MetaTable, Read, ReadExpect, Resource, ResourceId, RunNow, RunningTime, Stop, System,
     SystemData, World, Write, WriteExpect,
 };
-pub use specs_changes::{ChangeSet, store_all};
 pub use specs_entity::{
     CreateIter, Entities, EntitiesRes, Entity, EntityResBuilder, Error, Generation, WrongGeneration,
 };
-pub use specs_events::{EventChannel, ReaderId};
-pub use specs_flagged::FlaggedStorage;
-pub use specs_join::{Join, JoinCursor, JoinIter, ParJoin, change_each};
+pub use specs_join::{ChangeSet, Join, JoinCursor, JoinIter, ParJoin, change_each, store_all};
 pub use specs_layouts::{
     AnyStorage, BTreeStorage, Component, ComponentEvent, DefaultVecStorage, DenseVecStorage,
-    HashMapStorage, MaskedStorage, NullStorage, Tracked, VecStorage,
-};
-pub use specs_lazy::{
-    Insert, InsertAll, Job, LazyBuilder, LazyUpdate, LazyWorld, Maintained, Remove, SharedLazy,
+    EventChannel, FlaggedStorage, HashMapStorage, MaskedStorage, NullStorage, ReaderId, Tracked,
+    VecStorage,
 };
 pub use specs_storage::Storage;
-pub use specs_world::{EntityBuilder, ReadStorage, WorldExt, WriteStorage};
+pub use specs_world::{
+    EntityBuilder, Insert, InsertAll, Job, LazyBuilder, LazyUpdate, LazyWorld, Maintained,
+    ReadStorage, Remove, SharedLazy, WorldExt, WriteStorage,
+};
 
 /// Storages and what is lent of them.
 pub mod storage {
@@ -55,14 +57,15 @@ pub mod join {
 
 /// Markers, and entities that are saved and loaded.
 pub mod saveload {
-    pub use specs_forms::{EntityData, FormError, JsonForm};
+    pub use crate::building::{MarkedEntity, MarkedLazily};
+    pub use crate::mark::Mark;
+    pub use crate::marking::mark_in;
     pub use specs_markers::{
         Marker, MarkerAllocator, SimpleMarker, SimpleMarkerAllocator, UuidMarker,
         UuidMarkerAllocator,
     };
-    pub use specs_marking::{Mark, MarkedEntity, MarkedLazily, mark_in};
-    pub use specs_saving::{
-        ConvertSaveload, DeserializeComponents, MarkedBuilder, Marks, Names, SavedMarker,
-        SerializeComponents,
+    pub use specs_saveload::{
+        ConvertSaveload, DeserializeComponents, EntityData, FormError, JsonForm, MarkedBuilder,
+        Marks, Names, SavedMarker, SerializeComponents,
     };
 }

@@ -2,7 +2,7 @@
 use Rattle.std.proofs.Common.{◌≡◌, ◌≢◌, ℕ, ◌<◌, ◌≤◌, List, [], ◌∷◌, Bool, true, ◌&&◌, Option, Some, None, is_some, IsSome, ◌⊎◌, inl, inr, refl, sym, ap, subst, ◌∙◌, arith}
 use Rattle.std.proofs.lemmas.Bool.{cases_eq, and_parts}
 use Rattle.hibitset_sets.specs.Walk.{walk}
-use Rattle.specs_events.specs.Channels.{Log}
+use Rattle.specs_layouts.specs.Channels.{Log}
 use Rattle.specs_layouts.specs.Parts.{Puts, SameParts, told}
 use Rattle.specs_layouts.specs.Shows.{Shows}
 use Rattle.specs_layouts.specs.declared.track.ComponentEvent.{ComponentEvent}

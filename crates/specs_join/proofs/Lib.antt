@@ -4,3 +4,7 @@ pub mod CollectLemmas
 pub mod CallerLemmas
 pub mod WalkedLemmas
 pub mod ChangeEachLemmas
+pub mod StoreLemmas
+pub mod TakingLemmas
+pub mod ChangeLemmas
+pub mod LawLemmas

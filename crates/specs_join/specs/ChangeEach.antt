@@ -2,7 +2,7 @@
 use Rattle.std.specs.Prelude.{◌≡◌, ℕ, ◌<◌, ◌≤◌, Bool, ◌&&◌, List, [], ◌∷◌, Option, Some, None, is_some}
 use Rattle.hibitset_sets.specs.BitSet.{SetWithRoom, has_member}
 use Rattle.hibitset_sets.specs.Walk.{walk}
-use Rattle.specs_events.specs.Channels.{Log}
+use Rattle.specs_layouts.specs.Channels.{Log}
 use Rattle.specs_layouts.specs.Parts.{told}
 use Rattle.specs_layouts.specs.declared.track.ComponentEvent.{ComponentEvent}
 use Rattle.specs_layouts.specs.declared.track.ComponentEvent.TheVariants as event

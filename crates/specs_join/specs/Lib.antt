@@ -8,3 +8,7 @@ pub mod Collected
 pub mod ChangeEach
 pub mod EachErrors
 pub mod CursorLends
+pub mod Storing
+pub mod Changes
+pub mod Taking
+pub mod TakeIters

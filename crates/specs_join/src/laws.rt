@@ -1,7 +1,9 @@
 //! Laws on which callers rely: what a walk over a join reads.
-ghost use Rattle.std.specs.Prelude.{◌≡◌, ℕ, ◌+◌, ◌*◌, ◌≤◌, min};
+ghost use Rattle.std.specs.Prelude.{◌≡◌, ℕ, ◌+◌, ◌*◌, ◌≤◌, min, length};
 ghost use Rattle.hibitset_sets.specs.KeptMasks.{member_count};
-ghost use Rattle.hibitset_sets.specs.Walk.{words_walked};
+ghost use Rattle.hibitset_sets.specs.Walk.{words_walked, walk};
+ghost use Rattle.hibitset_sets.specs.BitSet.{has_member};
+ghost use Rattle.specs_join.specs.Joins.{join_list};
 
 use crate::join::Join;
 use hibitset::{KeptMasks, Steps};
@@ -45,4 +47,12 @@ pub fn two_storages_cost_what_the_smaller_has<A: Component, B: Component, L: Led
     ensures { steps.new ≤ steps.old + 2 * (3 * min (member_count one.now.mask) (member_count other.now.mask) + 1) }
 {
     join_to_the_end((one, other), steps);
+}
+
+/// A join over a storage has as many items as the storage's mask has indices, so values that are made of
+/// its items, one of each, can be stored.
+pub fn a_join_has_an_item_for_each_index<T: Component>(storage: &MaskedStorage<T>)
+    ensures { length (join_list (T.Storage.part_at storage.now.inner)) ≡ length (walk (has_member storage.now.mask)) }
+{
+    let _mask = storage.mask();
 }

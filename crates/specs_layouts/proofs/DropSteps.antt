@@ -2,7 +2,7 @@
 use Rattle.std.proofs.Common.{◌≡◌, ℕ, zero, suc, ◌+◌, ◌<◌, length, get_or, take, subst, arith, Bool, cond, List, [], ◌∷◌, ◌++◌, Option, None, is_some, refl, sym, ap, ◌∙◌, inl, inr}
 use Rattle.std.proofs.lemmas.List.{take_more, map-append}
 use Rattle.specs_entity.specs.Life.{LifeAt}
-use Rattle.specs_events.specs.Channels.{Log}
+use Rattle.specs_layouts.specs.Channels.{Log}
 use Rattle.std.proofs.lemmas.Bool.{cases_eq, eq-eqb, ne_eqb}
 use Rattle.specs_layouts.specs.declared.track.ComponentEvent.{ComponentEvent}
 use Rattle.specs_layouts.specs.declared.track.ComponentEvent.TheVariants as event

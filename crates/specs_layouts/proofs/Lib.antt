@@ -8,3 +8,5 @@ pub mod DropSteps
 pub mod PartMapLemmas
 pub mod ShowsLemmas
 pub mod CallerLemmas
+pub mod PlaceSteps
+pub mod SinceLemmas

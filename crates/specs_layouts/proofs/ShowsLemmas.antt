@@ -5,7 +5,7 @@ use Rattle.std.proofs.lemmas.Bool.{cases_eq, false≢true}
 use Rattle.std.proofs.lemmas.List.{append-nil, append_assoc, get_or_default}
 use Rattle.std.proofs.lemmas.List.Folds.{list_any-append}
 use Rattle.std.proofs.Math.Seq.{drop-append_seam}
-use Rattle.specs_events.specs.Channels.{Log, with_more, unread, CaughtUp}
+use Rattle.specs_layouts.specs.Channels.{Log, with_more, unread, CaughtUp}
 use Rattle.specs_layouts.specs.declared.track.ComponentEvent.{ComponentEvent}
 use Rattle.specs_layouts.specs.declared.track.ComponentEvent.TheVariants.{Inserted, Modified, Removed}
 use Rattle.specs_layouts.specs.Parts.{Puts, SameParts, told}

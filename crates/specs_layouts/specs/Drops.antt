@@ -1,7 +1,7 @@
 -- Parts that are dropped by their indices, one after the other.
 use Rattle.std.specs.Prelude.{◌≡◌, ℕ, ◌==◌, Bool, List, [], ◌∷◌, map, Option, None, is_some, if◌then◌else◌}
 use Rattle.specs_entity.specs.Life.{LifeAt}
-use Rattle.specs_events.specs.Channels.{Log}
+use Rattle.specs_layouts.specs.Channels.{Log}
 use Rattle.specs_layouts.specs.declared.track.ComponentEvent.{ComponentEvent}
 use Rattle.specs_layouts.specs.declared.track.ComponentEvent.TheVariants as event
 use Rattle.specs_layouts.specs.Parts.{SameParts, told}

@@ -22,3 +22,6 @@ pub mod PartLemmas
 pub mod SlotLemmas
 pub mod EntryLemmas
 pub mod Shows
+pub mod Channels
+pub mod Flagged
+pub mod FlaggedLemmas

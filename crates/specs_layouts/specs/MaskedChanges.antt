@@ -1,6 +1,6 @@
 -- What a call makes of a masked storage: of its parts, and of the events that tell of them.
 use Rattle.std.specs.Prelude.{ℕ, Bool, Option, is_some, if◌then◌else◌}
-use Rattle.specs_events.specs.Channels.{Log}
+use Rattle.specs_layouts.specs.Channels.{Log}
 use Rattle.specs_layouts.specs.Masked.{Masked}
 use Rattle.specs_layouts.specs.Parts.{Puts, SameParts, told}
 use Rattle.specs_layouts.specs.declared.track.ComponentEvent.{ComponentEvent}

@@ -1,7 +1,7 @@
 -- What a masked storage ends as, where a part of it was lent.
 use Rattle.std.specs.Prelude.{ℕ, Bool, Option, Result}
 use Rattle.std.specs.Borrow.{Fml, RattleType, MutBor, LendsIfOk}
-use Rattle.specs_events.specs.Channels.{Log}
+use Rattle.specs_layouts.specs.Channels.{Log}
 use Rattle.specs_layouts.specs.Masked.{Masked}
 use Rattle.specs_layouts.specs.declared.track.ComponentEvent.{ComponentEvent}
 use Rattle.specs_layouts.specs.declared.unprotected.UnprotectedStorage as unprotected

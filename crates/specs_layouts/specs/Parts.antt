@@ -1,6 +1,6 @@
 -- What a storage holds: the part at each index, and the events that were written.
 use Rattle.std.specs.Prelude.{◌≡◌, ◌≢◌, ℕ, Bool, [], ◌∷◌, Option, None, if◌then◌else◌}
-use Rattle.specs_events.specs.Channels.{Log, with_more}
+use Rattle.specs_layouts.specs.Channels.{Log, with_more}
 
 -- one index has this after, and each other what it had before
 pub record Puts {T : Type 0} (before : ℕ → Option T) (index : ℕ) (part : Option T) (after : ℕ → Option T) : Type 0 where

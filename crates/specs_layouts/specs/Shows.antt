@@ -1,7 +1,7 @@
 -- What the events of a storage show of the change from one state to another.
 use Rattle.std.specs.Prelude.{◌≡◌, ◌==◌, ℕ, Bool, true, List, Option, ◌⊎◌}
 use Rattle.std.specs.List.{list_any}
-use Rattle.specs_events.specs.Channels.{Log, with_more}
+use Rattle.specs_layouts.specs.Channels.{Log, with_more}
 use Rattle.specs_layouts.specs.declared.track.ComponentEvent.{ComponentEvent}
 use Rattle.specs_layouts.specs.declared.track.ComponentEvent.TheVariants.{Inserted, Modified, Removed}
 

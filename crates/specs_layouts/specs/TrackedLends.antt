@@ -1,7 +1,7 @@
 -- What a storage ends as, where its channel was lent.
 use Rattle.std.specs.Borrow.{Fml, RattleType, MutBor, Lends}
-use Rattle.specs_events.specs.Channels.{Channel}
-use Rattle.specs_events.specs.contracts.channel.EventChannel as channel
+use Rattle.specs_layouts.specs.Channels.{Channel}
+use Rattle.specs_layouts.specs.contracts.channel.EventChannel as channel
 use Rattle.specs_layouts.specs.Masked.{Masked}
 use Rattle.specs_layouts.specs.MaskedLends.{StorageMembers, masked_row}
 use Rattle.specs_layouts.specs.declared.track.ComponentEvent.{ComponentEvent}

@@ -1,8 +1,11 @@
-//! Storages: finite maps from index to part, in six layouts, and the masks that know their indices.
+//! Layouts of storages, from vectors to tables: parts under a mask, storages that tell of each change, and the channels in
+//! which they tell it.
 #![tactic(auto)]
 
 pub mod any_storage;
+pub mod channel;
 pub mod comp;
+pub mod flagged;
 pub mod laws;
 pub mod masked;
 pub mod slices;
@@ -12,7 +15,9 @@ pub mod tracked;
 pub mod unprotected;
 
 pub use any_storage::AnyStorage;
+pub use channel::{EventChannel, ReaderId};
 pub use comp::Component;
+pub use flagged::FlaggedStorage;
 pub use masked::MaskedStorage;
 pub use slices::SliceAccess;
 pub use storages::{

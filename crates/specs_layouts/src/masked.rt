@@ -3,7 +3,7 @@ ghost use Rattle.std.specs.Prelude.{◌≡◌, ℕ, ◌+◌, ◌<◌, true, fals
 ghost use Rattle.std.specs.Prelude.{[], ◌∷◌, length, IsOk, IfOk, OnOk, OnErr, IfErr, if◌then◌else◌};
 ghost use Rattle.std.specs.FinSet as set;
 ghost use Rattle.std.specs.Borrow.{sem};
-ghost use Rattle.specs_events.specs.Channels.{with_event, with_more, with_reader, CaughtUp};
+ghost use Rattle.specs_layouts.specs.Channels.{with_event, with_more, with_reader, CaughtUp};
 ghost use Rattle.specs_layouts.specs.Parts.{HasNone};
 ghost use Rattle.specs_layouts.specs.MaskedChanges.{PutsIn, KeepsParts, told_in, told_put, told_taken};
 ghost use Rattle.specs_layouts.specs.declared.track.ComponentEvent.TheVariants as event;
@@ -12,8 +12,8 @@ use crate::comp::Component;
 use crate::track::ComponentEvent;
 use crate::tracked::Tracked;
 use crate::unprotected::UnprotectedStorage;
+use crate::{EventChannel, ReaderId};
 use hibitset_sets::{BitSet, Index};
-use specs_events::{EventChannel, ReaderId};
 use std::alloc::{AllocError, AllocFailed, Global};
 use std::marker::Model;
 use std::mem;

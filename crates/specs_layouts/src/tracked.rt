@@ -1,14 +1,14 @@
 //! Storages with a channel that is told of their changes.
 ghost use Rattle.std.specs.Prelude.{◌≡◌, Bool, ◌&&◌};
 ghost use Rattle.std.specs.Borrow.{sem};
-ghost use Rattle.specs_events.specs.Channels.{Channel, has_readers, log_of};
+ghost use Rattle.specs_layouts.specs.Channels.{Channel, has_readers, log_of};
 ghost use Rattle.specs_layouts.specs.Parts.{SameParts};
 ghost use Rattle.specs_layouts.specs.TrackedLends.{lends_channel};
 ghost use Rattle.specs_layouts.specs.declared.track.ComponentEvent.{ComponentEvent};
 
+use crate::EventChannel;
 use crate::track::ComponentEvent;
 use crate::unprotected::UnprotectedStorage;
-use specs_events::EventChannel;
 
 /// A storage with a channel that is told of its changes, while emission is on and the channel has a reader.
 ///

@@ -2,7 +2,7 @@
 ghost use Rattle.std.specs.Prelude.{◌≡◌, ◌≢◌, ℕ, ◌+◌, ◌<◌, Bool, true, false, Option, None, Some, is_some, is_ok};
 ghost use Rattle.std.specs.Prelude.{IsSome, IsOk, IfOk, IfErr, OnOk, OnErr, if◌then◌else◌};
 ghost use Rattle.std.specs.Borrow.{LendsIfOk, sem};
-ghost use Rattle.specs_events.specs.Channels.{Log};
+ghost use Rattle.specs_layouts.specs.Channels.{Log};
 ghost use Rattle.specs_layouts.specs.Parts.{Puts, SameParts, HasNone, told};
 ghost use Rattle.specs_layouts.specs.declared.track.ComponentEvent.{ComponentEvent};
 ghost use Rattle.specs_layouts.specs.declared.track.ComponentEvent.TheVariants as event;

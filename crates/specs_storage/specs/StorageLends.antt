@@ -3,8 +3,8 @@ use mir.Syntax.{named}
 use denote.Ref.{MutRef}
 use Rattle.std.specs.Prelude.{ℕ, [], Result}
 use Rattle.std.specs.Borrow.{Fml, RattleType, MutBor, Lends, LendsIfOk}
-use Rattle.specs_events.specs.Channels.{Channel}
-use Rattle.specs_events.specs.contracts.channel.EventChannel as channel
+use Rattle.specs_layouts.specs.Channels.{Channel}
+use Rattle.specs_layouts.specs.contracts.channel.EventChannel as channel
 use Rattle.specs_layouts.specs.Masked.{Masked}
 use Rattle.specs_layouts.specs.declared.track.ComponentEvent.{ComponentEvent}
 use Rattle.specs_layouts.specs.contracts.track.ComponentEvent as event

@@ -5,10 +5,10 @@ ghost use Rattle.hibitset_sets.specs.Walk.{walk};
 
 use crate::joins::walks;
 use crate::parts::{Speed, made};
-use specs_changes::laws::a_join_has_an_item_for_each_index;
-use specs_changes::{Accumulate, Change, ChangeError, ChangeSet, store_all};
 use specs_entity::{EntitiesRes, Entity};
-use specs_join::{Join, JoinCursor, ParJoin};
+use specs_join::changeset::Change;
+use specs_join::laws::a_join_has_an_item_for_each_index;
+use specs_join::{Accumulate, ChangeError, ChangeSet, Join, JoinCursor, ParJoin, store_all};
 use specs_layouts::{Component, MaskedStorage, VecStorage};
 use std::alloc::{AllocError, Global};
 use std::mem;

@@ -1,5 +1,5 @@
 //! Channels of events: what each of several readers reads.
-use specs_events::{EventChannel, ReaderId};
+use specs_layouts::{EventChannel, ReaderId};
 use std::alloc::{AllocError, Global};
 
 /// A step over a channel. Readers are told by the places in which they were registered, from 0.

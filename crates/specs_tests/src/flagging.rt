@@ -1,15 +1,15 @@
 //! A caller of storages whose changes are told, whose contract is what two readers read.
 ghost use Rattle.std.specs.Prelude.{◌≡◌, ◌≢◌, ◌<◌, ◌∷◌, ◌++◌, [], true, None, IfOk, OnOk, IsSome};
-ghost use Rattle.specs_events.specs.Channels.{with_more, CaughtUp};
+ghost use Rattle.specs_layouts.specs.Channels.{with_more, CaughtUp};
 ghost use Rattle.specs_layouts.specs.Shows.{Shows};
 ghost use Rattle.specs_layouts.specs.declared.track.ComponentEvent.TheVariants as event;
 
 use hibitset::Index;
-use specs_events::ReaderId;
-use specs_flagged::FlaggedStorage;
 use specs_join::{Change, Join, change_each};
 use specs_layouts::laws::removals_are_shown;
-use specs_layouts::{Component, ComponentEvent, MaskedStorage, Tracked, TryDefault};
+use specs_layouts::{
+    Component, ComponentEvent, FlaggedStorage, MaskedStorage, ReaderId, Tracked, TryDefault,
+};
 use std::alloc::{AllocError, Global};
 
 /// Puts a part where none is.

@@ -4,12 +4,10 @@ ghost use Rattle.specs_layouts.specs.MaskedChanges.{KeepsParts};
 
 use crate::parts::{Numbered, made};
 use ComponentEvent::{Inserted, Modified, Removed};
-use specs_events::ReaderId;
-use specs_flagged::FlaggedStorage;
 use specs_join::{Change, EachError, change_each};
 use specs_layouts::{
-    BTreeStorage, Component, ComponentEvent, HashMapStorage, MaskedStorage, Tracked,
-    UnprotectedStorage, VecStorage,
+    BTreeStorage, Component, ComponentEvent, FlaggedStorage, HashMapStorage, MaskedStorage,
+    ReaderId, Tracked, UnprotectedStorage, VecStorage,
 };
 use specs_storage::{StorageEntry, entry_at};
 use std::alloc::{AllocError, Global};

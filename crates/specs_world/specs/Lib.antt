@@ -3,3 +3,7 @@ pub mod Dropping
 pub mod Inserting
 pub mod Variants
 pub mod Lending
+pub mod Building
+pub mod Jobs
+pub mod Maintaining
+pub mod Queues

@@ -1,2 +1,4 @@
 pub mod ValueLemmas
 pub mod HistoryLemmas
+pub mod GivingLemmas
+pub mod LazyValueLemmas

@@ -1,2 +1,4 @@
 pub mod Tiring
 pub mod Values
+pub mod Tasks
+pub mod LazyValues

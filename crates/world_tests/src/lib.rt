@@ -3,6 +3,7 @@
 
 pub mod building;
 pub mod histories;
+pub mod lazy;
 pub mod lending;
 pub mod reaping;
 pub mod stories;

@@ -57,7 +57,7 @@ impl<T> TryDefault for BTreeStorage<T> {
 }
 
 impl<T: Drop> UnprotectedStorage<T> for BTreeStorage<T> {
-    ghost use Rattle.specs_events.specs.Channels.{no_log};
+    ghost use Rattle.specs_layouts.specs.Channels.{no_log};
     ghost use Rattle.std.specs.Prelude.{[], false, refl};
     ghost use Rattle.specs_layouts.specs.Entries.{tree_part, with_tree_part};
     ghost use Rattle.specs_layouts.specs.EntryLemmas.{with_tree_part-puts, tree-starts};

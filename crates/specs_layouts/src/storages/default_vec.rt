@@ -107,7 +107,7 @@ impl<T: Default> TryDefault for DefaultVecStorage<T> {
 }
 
 impl<T: Default + Drop> UnprotectedStorage<T> for DefaultVecStorage<T> {
-    ghost use Rattle.specs_events.specs.Channels.{no_log};
+    ghost use Rattle.specs_layouts.specs.Channels.{no_log};
     ghost use Rattle.std.specs.Prelude.{[], false, refl};
     ghost use Rattle.specs_layouts.specs.Defaults.{filled_part, with_filled_part};
     ghost use Rattle.specs_layouts.specs.FilledLemmas.{with_filled_part-puts, filled-starts};

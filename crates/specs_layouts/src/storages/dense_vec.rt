@@ -74,7 +74,7 @@ impl<T> TryDefault for DenseVecStorage<T> {
 }
 
 impl<T: Drop> UnprotectedStorage<T> for DenseVecStorage<T> {
-    ghost use Rattle.specs_events.specs.Channels.{no_log};
+    ghost use Rattle.specs_layouts.specs.Channels.{no_log};
     ghost use Rattle.std.specs.Prelude.{[], false, refl};
     ghost use Rattle.specs_layouts.specs.Dense.{dense_part, with_dense_part};
     ghost use Rattle.specs_layouts.specs.DenseLemmas.{with_dense_part-puts, dense-starts};

@@ -59,7 +59,7 @@ impl<T> TryDefault for HashMapStorage<T> {
 }
 
 impl<T: Drop> UnprotectedStorage<T> for HashMapStorage<T> {
-    ghost use Rattle.specs_events.specs.Channels.{no_log};
+    ghost use Rattle.specs_layouts.specs.Channels.{no_log};
     ghost use Rattle.std.specs.Prelude.{[], false, refl};
     ghost use Rattle.specs_layouts.specs.Entries.{table_part, with_table_part};
     ghost use Rattle.specs_layouts.specs.EntryLemmas.{with_table_part-puts, table-starts};

@@ -36,7 +36,7 @@ impl<T: Single> TryDefault for NullStorage<T> {
 }
 
 impl<T: Single> UnprotectedStorage<T> for NullStorage<T> {
-    ghost use Rattle.specs_events.specs.Channels.{no_log};
+    ghost use Rattle.specs_layouts.specs.Channels.{no_log};
     ghost use Rattle.std.specs.Prelude.{[], false, refl};
     ghost use Rattle.specs_layouts.specs.Flags.{flag_part, with_flag_part};
     ghost use Rattle.specs_layouts.specs.FlagLemmas.{with_flag_part-puts, flags-start};

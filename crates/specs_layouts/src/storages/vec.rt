@@ -68,7 +68,7 @@ impl<T> TryDefault for VecStorage<T> {
 }
 
 impl<T: Drop> UnprotectedStorage<T> for VecStorage<T> {
-    ghost use Rattle.specs_events.specs.Channels.{no_log};
+    ghost use Rattle.specs_layouts.specs.Channels.{no_log};
     ghost use Rattle.std.specs.Prelude.{[], false, refl};
     ghost use Rattle.specs_layouts.specs.Slots.{slots_of, slot_at, with_part};
     ghost use Rattle.specs_layouts.specs.SlotLemmas.{with_part-puts, slots-start};

@@ -1,13 +1,12 @@
 //! Storages whose changes are told through a channel.
 ghost use Rattle.std.specs.Prelude.{◌≡◌, [], ◌∷◌, length, IfOk, OnOk, OnErr};
-ghost use Rattle.specs_events.specs.Channels.{with_event, with_more, with_reader, CaughtUp};
+ghost use Rattle.specs_layouts.specs.Channels.{with_event, with_more, with_reader, CaughtUp};
 ghost use Rattle.specs_layouts.specs.MaskedChanges.{KeepsParts};
 ghost use Rattle.specs_storage.specs.Found.{KeepsLoans};
 
 use super::Storage;
 use crate::loan::Loan;
-use specs_events::{EventChannel, ReaderId};
-use specs_layouts::{Component, ComponentEvent, MaskedStorage, Tracked};
+use specs_layouts::{Component, ComponentEvent, EventChannel, MaskedStorage, ReaderId, Tracked};
 use std::alloc::AllocError;
 
 impl<'e, T: Component, D: Loan<T>> Storage<'e, T, D>

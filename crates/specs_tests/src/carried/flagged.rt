@@ -2,8 +2,7 @@
 use crate::flags::Armor;
 use crate::parts::made;
 use specs_entity::{EntitiesRes, Entity};
-use specs_events::ReaderId;
-use specs_layouts::ComponentEvent;
+use specs_layouts::{ComponentEvent, ReaderId};
 use specs_storage::{Storage, WriteStorage};
 use std::alloc::{AllocError, Global};
 

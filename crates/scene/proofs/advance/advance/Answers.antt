@@ -1,12 +1,12 @@
 use Rattle.std.proofs.Common.{◌≡◌, sym, subst, All, true}
-use Rattle.scene_rules.specs.Frames.{Accepts, Refuses}
-use Rattle.scene_rules.specs.Scenes.{PlainFrame, lives}
-use Rattle.scene_rules.specs.Queues.{plain_commands}
-use Rattle.scene_turns.specs.Places.{kinds_of}
-use Rattle.scene_turns.specs.Turns.{placed_as}
+use Rattle.scene_model.specs.Frames.{Accepts, Refuses}
+use Rattle.scene_model.specs.Scenes.{PlainFrame, lives}
+use Rattle.scene_model.specs.Queues.{plain_commands}
+use Rattle.scene_world.specs.Places.{kinds_of}
+use Rattle.scene_world.specs.Turns.{placed_as}
 use Rattle.scene_world.specs.Standing.{plain_of}
-use Rattle.scene_acts.specs.Acts.{seen_of}
-use Rattle.scene_systems.specs.Orders.{turn_order}
+use Rattle.scene_commands.specs.Acts.{seen_of}
+use Rattle.scene_dispatch.specs.Orders.{turn_order}
 use Rattle.scene.specs.Running.{listed_scene}
 use Rattle.scene.proofs.advance.advance.Goals as goal
 

@@ -1,7 +1,7 @@
 use Rattle.std.proofs.Common.{sym, ◌∙◌, ap}
 use Rattle.scene_document.specs.Openings.{commands_for}
-use Rattle.scene_turns.specs.Turns.{placed_as}
-use Rattle.scene_systems.specs.Orders.{turn_order}
+use Rattle.scene_world.specs.Turns.{placed_as}
+use Rattle.scene_dispatch.specs.Orders.{turn_order}
 use Rattle.scene.proofs.PlaceLemmas.{frame-commands, frame-lawful}
 use Rattle.scene.proofs.load.course_of.Goals as goal
 

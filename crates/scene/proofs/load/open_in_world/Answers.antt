@@ -1,12 +1,12 @@
 use Rattle.std.proofs.Common.{◌≡◌, [], ◌∙◌, ap}
-use Rattle.scene_turns.specs.Places.{kinds_of}
+use Rattle.scene_world.specs.Places.{kinds_of}
 use Rattle.std.proofs.lemmas.List.Elements.{All-weaker}
 use Rattle.shred_world.specs.Bundles.{readable, slot_of}
 use Rattle.scene_world.specs.Standing.{commands_of}
-use Rattle.scene_staging.specs.Opened.{HasEmptyQueue}
-use Rattle.scene_frames.proofs.CallerLemmas.{none-left}
-use Rattle.scene_acts.specs.Acts.{seen_of}
-use Rattle.scene_staging.proofs.CallerLemmas.{opened-scene, opened-stands, empty-commands}
+use Rattle.scene_dispatch.specs.Opened.{HasEmptyQueue}
+use Rattle.scene.proofs.CommandLemmas.{none-left}
+use Rattle.scene_commands.specs.Acts.{seen_of}
+use Rattle.scene_dispatch.proofs.CallerLemmas.{opened-scene, opened-stands, empty-commands}
 use Rattle.scene.proofs.load.open_in_world.Goals as goal
 
 pub returns-clause-stands : goal.returns-clause-stands

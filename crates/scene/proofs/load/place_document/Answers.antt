@@ -1,9 +1,9 @@
 use Rattle.std.proofs.Common.{length, sym, subst, All}
-use Rattle.scene_rules.specs.Scenes.{IsProper, PartsStand}
-use Rattle.scene_rules.specs.Lawful.{IsLawful}
+use Rattle.scene_model.specs.Scenes.{IsProper, PartsStand}
+use Rattle.scene_model.specs.Lawful.{IsLawful}
 use Rattle.scene_document.proofs.CallerLemmas.{unrefused}
-use Rattle.scene_turns.specs.Places.{kinds_of}
-use Rattle.scene_frames.proofs.CallerLemmas.{seen-stand}
+use Rattle.scene_world.specs.Places.{kinds_of}
+use Rattle.scene.proofs.CommandLemmas.{seen-stand}
 use Rattle.scene.specs.Running.{alone}
 use Rattle.scene.proofs.AloneLemmas.{unrefused-alone}
 use Rattle.scene.proofs.load.place_document.Goals as goal

@@ -1,12 +1,12 @@
 use Rattle.std.proofs.Common.{◌≡◌, ℕ, map, arith, true, sym, ◌∙◌, ap, subst, All}
 use Rattle.serde_json.specs.View.{view}
-use Rattle.scene_rules.specs.Scenes.{lives}
-use Rattle.scene_draft.specs.DraftViews.{plain_draft}
+use Rattle.scene_model.specs.Scenes.{lives}
+use Rattle.scene_document.specs.DraftViews.{plain_draft}
 use Rattle.scene_document.specs.Openings.{frames_of, all_systems}
 use Rattle.scene_document.proofs.CallerLemmas.{unrefused, few-entries}
-use Rattle.scene_turns.specs.Turns.{placed_as}
-use Rattle.scene_systems.specs.Orders.{turn_order}
-use Rattle.scene_frames.specs.Waiting.{PlacesAscend}
+use Rattle.scene_world.specs.Turns.{placed_as}
+use Rattle.scene_dispatch.specs.Orders.{turn_order}
+use Rattle.scene.specs.Waiting.{PlacesAscend}
 use Rattle.scene.specs.Running.{course_of}
 use Rattle.scene.proofs.AloneLemmas.{draft-alone}
 use Rattle.scene.proofs.PlaceLemmas.{places-ascend, order-there, order-described}

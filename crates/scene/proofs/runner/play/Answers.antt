@@ -1,12 +1,12 @@
 use Rattle.std.proofs.Common.{◌≡◌, Some, ◌∙◌, subst}
 use Rattle.serde_json.specs.View.{view}
-use Rattle.scene_draft.specs.Texts.{json_of, scene_json, text_of, ReadsBack}
-use Rattle.scene_rules.specs.Scenes.{IsProper}
+use Rattle.scene_document.specs.Texts.{json_of, scene_json, text_of, ReadsBack}
+use Rattle.scene_model.specs.Scenes.{IsProper}
 use Rattle.scene.specs.Outcomes.{bounds_of}
 use Rattle.scene.specs.Turns.{RunsOut}
 use Rattle.scene.proofs.OutcomeLemmas.{run_of}
-use Rattle.scene_turns.specs.Places.{kinds_of}
-use Rattle.scene_turns.specs.Turns.{placed_as}
+use Rattle.scene_world.specs.Places.{kinds_of}
+use Rattle.scene_world.specs.Turns.{placed_as}
 use Rattle.scene.specs.Running.{shown_of, rules_of}
 use Rattle.scene.proofs.runner.play.Goals as goal
 

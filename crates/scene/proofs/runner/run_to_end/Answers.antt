@@ -1,8 +1,8 @@
 use Rattle.std.proofs.Common.{arith, ◌≡◌, ◌<◌, ◌∙◌, refl, subst}
 use Rattle.scene.specs.Turns.{frames_left, Advances, Stays}
 use Rattle.scene.proofs.TurnLemmas.{going_start, going_on, ended_all, ended_refused}
-use Rattle.scene_turns.specs.Places.{kinds_of}
-use Rattle.scene_turns.specs.Turns.{placed_as}
+use Rattle.scene_world.specs.Places.{kinds_of}
+use Rattle.scene_world.specs.Turns.{placed_as}
 use Rattle.scene.specs.Running.{shown_of, rules_of}
 use Rattle.scene.proofs.runner.run_to_end.Goals as goal
 

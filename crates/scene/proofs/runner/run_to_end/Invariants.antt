@@ -1,7 +1,7 @@
 use Rattle.std.proofs.Common.{◌≡◌}
 use Rattle.scene.specs.Turns.{Going, frames_left}
-use Rattle.scene_turns.specs.Places.{kinds_of}
-use Rattle.scene_turns.specs.Turns.{placed_as}
+use Rattle.scene_world.specs.Places.{kinds_of}
+use Rattle.scene_world.specs.Turns.{placed_as}
 use Rattle.scene.specs.Running.{shown_of, rules_of, IsReady}
 use Rattle.scene.proofs.runner.run_to_end.Given as goal
 

@@ -2,8 +2,8 @@ use Rattle.std.proofs.Common.{arith, refl, ◌≡◌, ◌≤◌, ◌∙◌, ◌+
 use Rattle.std.specs.List.{filter_map}
 use Rattle.std.specs.Option.{option_to_list}
 use Rattle.std.proofs.lemmas.List.{take_all, length-map}
-use Rattle.scene_rules.specs.Rulebook.{Fragment, Command, queue_room}
-use Rattle.scene_rules.specs.Queues.{waiting, plain_command, plain_commands}
+use Rattle.scene_model.specs.Rulebook.{Fragment, Command, queue_room}
+use Rattle.scene_model.specs.Queues.{waiting, plain_command, plain_commands}
 use Rattle.scene_basics.specs.Numbers.{part_of}
 use Rattle.scene_basics.specs.Asks.{asked_for, asked_of, IsNotAsked}
 use Rattle.scene_basics.specs.Asked.{lent_for}

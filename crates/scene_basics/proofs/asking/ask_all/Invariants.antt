@@ -1,6 +1,6 @@
 use Rattle.std.proofs.Common.{◌≡◌, take}
 use Rattle.std.specs.List.{filter_map}
-use Rattle.scene_rules.specs.Queues.{waiting, plain_commands}
+use Rattle.scene_model.specs.Queues.{waiting, plain_commands}
 use Rattle.scene_basics.specs.Numbers.{part_of}
 use Rattle.scene_basics.specs.Asks.{asked_for}
 use Rattle.scene_basics.specs.Asked.{lent_for}

@@ -1,4 +1,4 @@
-use Rattle.scene_rules.specs.Queues.{waiting}
+use Rattle.scene_model.specs.Queues.{waiting}
 use Rattle.scene_basics.proofs.AskLemmas.{not-asked}
 use Rattle.scene_basics.proofs.asking.ask_for.Goals as goal
 

@@ -1,6 +1,6 @@
 use Rattle.std.proofs.Common.{◌≡◌, ap, sym, ◌∙◌, subst}
 use Rattle.std.specs.Prelude.{IfOk, option_map}
-use Rattle.scene_rules.specs.Queues.{plain_command}
+use Rattle.scene_model.specs.Queues.{plain_command}
 use Rattle.scene_basics.specs.declared.data.Ask.{Ask}
 use Rattle.scene_basics.specs.Numbers.{part_of}
 use Rattle.scene_basics.specs.Asks.{asked_for}

@@ -1,7 +1,7 @@
 use Rattle.std.proofs.Common.{◌≡◌, ◌+◌, ℕ, Some, Option, take, option_map, sym, ap, subst, ◌∙◌}
 use Rattle.std.specs.Global.{Vec}
-use Rattle.scene_turns.specs.Putting.{each_there}
-use Rattle.scene_turns.proofs.CallerLemmas.{each-more, each-passed}
+use Rattle.scene_world.specs.Putting.{each_there}
+use Rattle.scene_world.proofs.CallerLemmas.{each-more, each-passed}
 use Rattle.scene_basics.specs.declared.data.Datum.{Datum}
 use Rattle.scene_basics.specs.declared.data.Datum.TheVariants.{Whole as DatumWhole}
 use Rattle.scene_basics.specs.declared.values.Whole.{Whole}

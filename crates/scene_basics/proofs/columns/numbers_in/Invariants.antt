@@ -1,5 +1,5 @@
 use Rattle.std.proofs.Common.{◌≡◌, take, option_map}
-use Rattle.scene_turns.specs.Putting.{each_there}
+use Rattle.scene_world.specs.Putting.{each_there}
 use Rattle.scene_basics.specs.declared.data.Datum.TheVariants.{Whole as DatumWhole}
 use Rattle.scene_basics.specs.declared.values.Whole.{Whole}
 use Rattle.scene_basics.proofs.columns.numbers_in.Given as goal

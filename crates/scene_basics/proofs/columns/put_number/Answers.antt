@@ -1,7 +1,7 @@
 use Rattle.std.proofs.Common.{[], ℤ, Some, sym, subst}
 use Rattle.std.proofs.Math.Facts.{to_z-of_z}
 use Rattle.specs_layouts.specs.Parts.{Puts}
-use Rattle.scene_turns.specs.Putting.{PutsIn}
+use Rattle.scene_world.specs.Putting.{PutsIn}
 use Rattle.scene_basics.specs.Numbers.{counting}
 use Rattle.scene_basics.specs.Values.{whole_at}
 use Rattle.scene_basics.specs.Columns.{number_column}

@@ -1,5 +1,5 @@
 use Rattle.std.proofs.Common.{sym, subst}
-use Rattle.scene_turns.specs.Putting.{PutsIn}
+use Rattle.scene_world.specs.Putting.{PutsIn}
 use Rattle.scene_basics.specs.Numbers.{referring}
 use Rattle.scene_basics.specs.Columns.{owner_column}
 use Rattle.scene_basics.specs.declared.values.Value.TheVariants.{OwnersValue}

@@ -1,6 +1,6 @@
 use Rattle.std.proofs.Common.{◌∙◌, ap, Some}
 use Rattle.std.specs.FinMap as slots
-use Rattle.scene_stores.specs.Stores.{store_part}
+use Rattle.scene_world.specs.Stores.{store_part}
 use Rattle.scene_basics.specs.declared.values.Value.TheVariants.{NumbersValue}
 use Rattle.scene_basics.proofs.columns.register_numbers.Goals as goal
 

@@ -1,6 +1,6 @@
 use Rattle.std.proofs.Common.{◌≡◌, drop}
 use Rattle.std.specs.List.{filter_map}
-use Rattle.scene_rules.specs.Ids.{ascending}
+use Rattle.scene_model.specs.Ids.{ascending}
 use Rattle.scene_basics.specs.Known.{basic_roll, known_at}
 use Rattle.scene_basics.proofs.known.ids_known.Given as goal
 

@@ -1,5 +1,5 @@
-use Rattle.scene_rules.specs.Queues.{plain_command}
-use Rattle.scene_draft.specs.DraftViews.{plain_asked}
+use Rattle.scene_model.specs.Queues.{plain_command}
+use Rattle.scene_document.specs.DraftViews.{plain_asked}
 use Rattle.scene_document.specs.Openings.{command_of}
 use Rattle.scene_document.proofs.CommandLemmas.{made_more}
 use Rattle.scene_document.proofs.commands.commands_of_list.Goals as goal

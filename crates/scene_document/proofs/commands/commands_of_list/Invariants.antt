@@ -1,7 +1,7 @@
 use Rattle.std.proofs.Common.{◌≡◌, map}
 use Rattle.std.specs.List.{filter_map}
-use Rattle.scene_rules.specs.Queues.{plain_commands}
-use Rattle.scene_draft.specs.DraftViews.{plain_asked}
+use Rattle.scene_model.specs.Queues.{plain_commands}
+use Rattle.scene_document.specs.DraftViews.{plain_asked}
 use Rattle.scene_document.specs.Openings.{command_of}
 use Rattle.scene_document.proofs.commands.commands_of_list.Given as goal
 

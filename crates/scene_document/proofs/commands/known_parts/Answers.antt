@@ -1,6 +1,6 @@
 use Rattle.std.proofs.Common.{refl}
-use Rattle.scene_rules.specs.Queues.{plain_entry}
-use Rattle.scene_draft.specs.DraftViews.{plain_part}
+use Rattle.scene_model.specs.Queues.{plain_entry}
+use Rattle.scene_document.specs.DraftViews.{plain_part}
 use Rattle.scene_document.proofs.CommandLemmas.{made_more}
 use Rattle.scene_document.proofs.commands.known_parts.Goals as goal
 

@@ -1,7 +1,7 @@
 use Rattle.std.proofs.Common.{◌≡◌, map}
 use Rattle.std.specs.List.{filter_map}
-use Rattle.scene_rules.specs.Queues.{plain_entry}
-use Rattle.scene_draft.specs.DraftViews.{plain_part}
+use Rattle.scene_model.specs.Queues.{plain_entry}
+use Rattle.scene_document.specs.DraftViews.{plain_part}
 use Rattle.scene_document.proofs.commands.known_parts.Given as goal
 
 abbrev pub invariant-loop-part : goal.invariant-loop-part

@@ -1,8 +1,8 @@
 use Rattle.std.proofs.Common.{◌≡◌, false, None, ap, sym, ◌∙◌, if◌then◌else◌, Err}
 use Rattle.serde_json.specs.View.{view}
 use Rattle.serde_json.specs.Written.{has_float}
-use Rattle.scene_rules.specs.declared.refusals.DocRefusal.TheVariants.{NotWhole}
-use Rattle.scene_draft.specs.Drafts.{draft_from}
+use Rattle.scene_model.specs.declared.refusals.DocRefusal.TheVariants.{NotWhole}
+use Rattle.scene_document.specs.Drafts.{draft_from}
 use Rattle.scene_document.specs.Documents.{of_shape, unless_refused, refusal_of}
 use Rattle.scene_document.proofs.load.read_document.Goals as goal
 

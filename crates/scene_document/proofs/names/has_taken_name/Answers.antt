@@ -1,7 +1,7 @@
 use Rattle.std.proofs.Common.{◌≡◌, ◌-◌, ◌∷◌, ◌||◌, true, drop, get_or, ap, sym, ◌∙◌, arith}
-use Rattle.scene_rules.specs.Declaring.{texts}
+use Rattle.scene_model.specs.Declaring.{texts}
 use Rattle.scene_document.specs.Documents.{has_taken_name}
-use Rattle.scene_draft.specs.DraftViews.{systems_in}
+use Rattle.scene_document.specs.DraftViews.{systems_in}
 use Rattle.scene_document.proofs.IdLemmas.{drop_last}
 use Rattle.scene_document.proofs.NameLemmas.{keeps_more, taken_more, taken_within}
 use Rattle.scene_document.proofs.names.has_taken_name.Goals as goal

@@ -1,7 +1,7 @@
 use Rattle.std.proofs.Common.{◌≡◌, false, drop}
-use Rattle.scene_rules.specs.Declaring.{texts}
+use Rattle.scene_model.specs.Declaring.{texts}
 use Rattle.scene_document.specs.Documents.{has_taken_name}
-use Rattle.scene_draft.specs.DraftViews.{systems_in}
+use Rattle.scene_document.specs.DraftViews.{systems_in}
 use Rattle.scene_document.proofs.NameLemmas.{Keeps}
 use Rattle.scene_document.proofs.names.has_taken_name.Given as goal
 

@@ -1,8 +1,8 @@
 use Rattle.std.proofs.Common.{◌≡◌, ◌+◌, ◌∷◌, ◌||◌, drop, ap, sym, ◌∙◌}
 use Rattle.std.proofs.lemmas.List.{drop_more}
-use Rattle.scene_rules.specs.Declaring.{texts}
+use Rattle.scene_model.specs.Declaring.{texts}
 use Rattle.scene_document.specs.Documents.{has_unknown_dependency}
-use Rattle.scene_draft.specs.DraftViews.{systems_in}
+use Rattle.scene_document.specs.DraftViews.{systems_in}
 use Rattle.scene_document.proofs.NameLemmas.{with_name, depends_more, alike_more}
 use Rattle.scene_document.proofs.names.has_unknown_dependency.Goals as goal
 

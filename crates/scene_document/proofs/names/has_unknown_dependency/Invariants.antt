@@ -1,8 +1,8 @@
 use Rattle.std.proofs.Common.{◌≡◌, List, [], drop}
-use Rattle.scene_rules.specs.Parts.{Name, is_among}
-use Rattle.scene_rules.specs.Declaring.{texts}
+use Rattle.scene_model.specs.Parts.{Name, is_among}
+use Rattle.scene_model.specs.Declaring.{texts}
 use Rattle.scene_document.specs.Documents.{has_unknown_dependency}
-use Rattle.scene_draft.specs.DraftViews.{systems_in}
+use Rattle.scene_document.specs.DraftViews.{systems_in}
 use Rattle.scene_document.proofs.names.has_unknown_dependency.Given as goal
 
 abbrev pub invariant-loop-entry : goal.invariant-loop-entry

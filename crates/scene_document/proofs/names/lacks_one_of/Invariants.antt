@@ -1,5 +1,5 @@
 use Rattle.std.proofs.Common.{◌≡◌, drop}
-use Rattle.scene_rules.specs.Declaring.{texts}
+use Rattle.scene_model.specs.Declaring.{texts}
 use Rattle.scene_document.specs.Names.{lacks_one_of}
 use Rattle.scene_document.proofs.names.lacks_one_of.Given as goal
 

@@ -1,7 +1,7 @@
 use Rattle.std.proofs.Common.{ap, sym, not, ◌∙◌}
 use Rattle.std.specs.List.{list_any}
-use Rattle.scene_rules.specs.Scenes.{lives}
-use Rattle.scene_rules.specs.Commands.{ref_lives}
+use Rattle.scene_model.specs.Scenes.{lives}
+use Rattle.scene_model.specs.Commands.{ref_lives}
 use Rattle.scene_document.specs.Refusals.{datum_dangles}
 use Rattle.scene_document.proofs.RefusalLemmas.{dangle-refs_to}
 use Rattle.scene_document.proofs.refusal.datum_dangles.Goals as goal

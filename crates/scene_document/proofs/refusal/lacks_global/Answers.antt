@@ -1,6 +1,6 @@
 use Rattle.std.proofs.Common.{◌≡◌, not, ap, sym, ◌∙◌}
 use Rattle.std.specs.List.{list_any}
-use Rattle.scene_rules.specs.Declaring.{texts}
+use Rattle.scene_model.specs.Declaring.{texts}
 use Rattle.scene_document.specs.Refusals.{stands_for, lacks_one}
 use Rattle.scene_document.proofs.RefusalLemmas.{lacks-texts, or_first, or_second}
 use Rattle.scene_document.proofs.refusal.lacks_global.Goals as goal

@@ -1,5 +1,5 @@
 use Rattle.std.proofs.Common.{◌≡◌, Some, None, ap, sym, ◌∙◌}
-use Rattle.scene_rules.specs.Declaring.{texts}
+use Rattle.scene_model.specs.Declaring.{texts}
 use Rattle.scene_document.specs.Refusals.{system_refusal, number_refusal}
 use Rattle.scene_document.proofs.RefusalLemmas.{first_refusal, later_refusal-none}
 use Rattle.scene_document.proofs.refusal.later_refusal.Goals as goal

@@ -1,8 +1,8 @@
 use Rattle.std.proofs.Common.{◌≡◌, sym, ◌∙◌}
 use Rattle.std.proofs.lemmas.Result.{IfOk-weaker}
-use Rattle.scene_draft.specs.Drafts.{Draft}
+use Rattle.scene_document.specs.Drafts.{Draft}
 use Rattle.scene_document.specs.Documents.{refusal_of}
-use Rattle.scene_draft.specs.DraftViews.{IsDraft}
+use Rattle.scene_document.specs.DraftViews.{IsDraft}
 use Rattle.scene_document.specs.Refusals.{draft_refusal}
 use Rattle.scene_document.proofs.RefusalLemmas.{refusal-plain}
 use Rattle.scene_document.proofs.refusal.refusal.Goals as goal

@@ -1,5 +1,5 @@
 use Rattle.std.proofs.Common.{refl, ap, sym, ◌∙◌}
-use Rattle.scene_rules.specs.Declaring.{texts}
+use Rattle.scene_model.specs.Declaring.{texts}
 use Rattle.scene_document.specs.Refusals.{stands_for}
 use Rattle.scene_document.proofs.RefusalLemmas.{stands_at}
 use Rattle.scene_document.proofs.refusal.stands_for.Goals as goal

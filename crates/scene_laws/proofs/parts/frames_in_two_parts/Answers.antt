@@ -1,5 +1,5 @@
 use Rattle.std.proofs.Common.{ap}
-use Rattle.scene_draft.specs.Texts.{text_of}
+use Rattle.scene_document.specs.Texts.{text_of}
 use Rattle.scene_laws.proofs.PartLemmas.{reaches-then, parts-one}
 use Rattle.scene_laws.proofs.parts.frames_in_two_parts.Goals as goal
 

@@ -1,7 +1,7 @@
 use Rattle.std.proofs.Common.{◌≡◌, Some, refl, sym, ap, ◌∙◌}
 use Rattle.std.proofs.lemmas.Option.{same_Some}
-use Rattle.scene_draft.specs.Drafts.{draft_from}
-use Rattle.scene_draft.specs.Texts.{scene_json}
+use Rattle.scene_document.specs.Drafts.{draft_from}
+use Rattle.scene_document.specs.Texts.{scene_json}
 use Rattle.scene_document.specs.Openings.{first_scene}
 use Rattle.scene_laws.proofs.ReadyLemmas.{from_document, from_bytes}
 use Rattle.scene_laws.proofs.PrintLemmas.{draft_read, draft-back, scene-back, course_read, course-back}

@@ -1,6 +1,6 @@
 use Rattle.std.proofs.Common.{◌≡◌, ℕ, List, Some, Ok, sym, ap, ◌∙◌, subst}
 use Rattle.scene.specs.Outcomes.{IsNoDocument, bounds_of}
-use Rattle.scene_draft.specs.Texts.{json_of, scene_json}
+use Rattle.scene_document.specs.Texts.{json_of, scene_json}
 use Rattle.scene_document.specs.Documents.{document_from}
 use Rattle.scene_laws.proofs.ReadyLemmas.{if_opened, if_refused, refused-alike, can-be-read, read-again}
 use Rattle.scene.specs.Running.{listed_scene}

@@ -1,8 +1,8 @@
 use Rattle.std.proofs.Common.{◌≡◌, ◌∙◌, sym, subst}
-use Rattle.scene_draft.specs.Texts.{scene_json, text_of, ReadsBack}
+use Rattle.scene_document.specs.Texts.{scene_json, text_of, ReadsBack}
 use Rattle.scene.specs.Runs.{Ran}
-use Rattle.scene_turns.specs.Places.{kinds_of}
-use Rattle.scene_turns.specs.Turns.{placed_as}
+use Rattle.scene_world.specs.Places.{kinds_of}
+use Rattle.scene_world.specs.Turns.{placed_as}
 use Rattle.scene.specs.Turns.{Shown, opening, RunsOut}
 use Rattle.scene.specs.Running.{shown_of, rules_of}
 use Rattle.scene_laws.specs.Printed.{CanBeRead}

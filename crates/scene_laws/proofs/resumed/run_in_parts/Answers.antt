@@ -1,7 +1,7 @@
 use Rattle.std.proofs.Common.{◌≡◌, ◌∙◌, false, Option, Some, None, is_some, refl, sym, ap, subst}
 use Rattle.std.proofs.lemmas.Bool.{false≢true}
 use Rattle.serde_json.specs.View.{view}
-use Rattle.scene_draft.specs.Texts.{json_of}
+use Rattle.scene_document.specs.Texts.{json_of}
 use Rattle.scene_laws.specs.Resumed.{IsFinished}
 use Rattle.scene_laws.proofs.ResumeLemmas.{parts-text}
 use Rattle.scene_laws.proofs.resumed.run_in_parts.Goals as goal

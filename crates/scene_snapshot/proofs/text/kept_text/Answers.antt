@@ -2,9 +2,9 @@ use Rattle.std.proofs.Common.{◌≡◌, ◌++◌, sym, ap, subst, IsUtf8, ◌�
 use Rattle.json.specs.Print.{print}
 use Rattle.json.specs.Lex.{tokens}
 use Rattle.serde_json.proofs.Texts.{print-outline}
-use Rattle.scene_rules.specs.Parts.{Json}
-use Rattle.scene_draft.specs.Texts.{scene_json}
-use Rattle.scene_draft.proofs.CallerLemmas.{ReadsBack-printed}
+use Rattle.scene_model.specs.Parts.{Json}
+use Rattle.scene_document.specs.Texts.{scene_json}
+use Rattle.scene_document.proofs.CallerLemmas.{ReadsBack-printed}
 use Rattle.scene_snapshot.specs.KeptScenes.{kept_scene}
 use Rattle.scene_snapshot.specs.Printing.{tokens_of}
 use Rattle.scene_snapshot.proofs.text.kept_text.Given.{Over}

@@ -2,7 +2,7 @@ use Rattle.std.proofs.Common.{ℕ, ◌≡◌, ◌+◌, ◌++◌, ◌∷◌, [], 
 use Rattle.std.proofs.lemmas.List.{take_all}
 use Rattle.std.specs.FinMap as finite
 use Rattle.json.specs.Token.{begin_array, end_array}
-use Rattle.scene_draft.specs.Texts.{entity_json}
+use Rattle.scene_document.specs.Texts.{entity_json}
 use Rattle.scene_snapshot.specs.KeptScenes.{kept_part, kept_scene, entity_with}
 use Rattle.scene_snapshot.specs.Printing.{AddsItems, AddsJson}
 use Rattle.scene_snapshot.proofs.KeptTextLemmas.{ids-in, entities-added, entities-skipped}

@@ -1,6 +1,6 @@
 use Rattle.std.proofs.Common.{[], ◌∷◌, map, take}
 use Rattle.json.specs.Token.{begin_array}
-use Rattle.scene_draft.specs.Texts.{entity_json}
+use Rattle.scene_document.specs.Texts.{entity_json}
 use Rattle.scene_snapshot.specs.KeptScenes.{kept_scene}
 use Rattle.scene_snapshot.specs.Printing.{AddsItems}
 use Rattle.scene_snapshot.proofs.KeptTextLemmas.{ids-in}

@@ -1,7 +1,7 @@
 use Rattle.std.proofs.Common.{[], ◌∷◌, codes, refl}
 use Rattle.json.specs.Token.{begin_object, end_object, key}
 use Rattle.serde_json.specs.Data.{number, unsigned}
-use Rattle.scene_rules.specs.Parts.{Json, Name}
+use Rattle.scene_model.specs.Parts.{Json, Name}
 use Rattle.scene_snapshot.specs.KeptScenes.{kept_part, parts_with}
 use Rattle.scene_snapshot.proofs.PrintLemmas.{wrote, on-wrote, members-none, members-one, members-then, object-added, whole-added}
 use Rattle.scene_snapshot.proofs.text.put_entity.Goals as goal

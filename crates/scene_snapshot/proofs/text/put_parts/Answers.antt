@@ -1,9 +1,9 @@
 use Rattle.std.proofs.Common.{◌≡◌, [], ◌∷◌, take, Bor, option_map, option_copied, subst, sym, ◌∙◌, arith}
 use Rattle.std.proofs.lemmas.List.{take_all, length-map}
 use Rattle.json.specs.Token.{begin_object, end_object}
-use Rattle.scene_rules.specs.Declaring.{texts}
-use Rattle.scene_rules.specs.Parts.{Name}
-use Rattle.scene_draft.proofs.CallerLemmas.{pairs_of, members-pairs, ordered-pairs}
+use Rattle.scene_model.specs.Declaring.{texts}
+use Rattle.scene_model.specs.Parts.{Name}
+use Rattle.scene_document.proofs.CallerLemmas.{pairs_of, members-pairs, ordered-pairs}
 use Rattle.scene_snapshot.specs.KeptScenes.{kept_datum, kept_part}
 use Rattle.scene_snapshot.specs.Printing.{AddsMembers}
 use Rattle.scene_snapshot.proofs.KeptTextLemmas.{found-more}

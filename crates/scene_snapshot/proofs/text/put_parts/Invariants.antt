@@ -1,7 +1,7 @@
 use Rattle.std.proofs.Common.{[], ◌∷◌, take}
 use Rattle.json.specs.Token.{begin_object}
-use Rattle.scene_rules.specs.Declaring.{texts}
-use Rattle.scene_draft.proofs.CallerLemmas.{pairs_of}
+use Rattle.scene_model.specs.Declaring.{texts}
+use Rattle.scene_document.proofs.CallerLemmas.{pairs_of}
 use Rattle.scene_snapshot.specs.KeptScenes.{kept_part}
 use Rattle.scene_snapshot.specs.Printing.{AddsMembers}
 use Rattle.scene_snapshot.proofs.text.put_parts.Given as goal

@@ -3,8 +3,8 @@ use Rattle.std.specs.FinMap as finite
 use Rattle.json.specs.Token.{begin_object, end_object, key}
 use Rattle.serde_json.specs.Data.{array, number, unsigned}
 use Rattle.serde_json.specs.View.{items_of}
-use Rattle.scene_rules.specs.Parts.{Json, Name}
-use Rattle.scene_draft.specs.Texts.{entity_json, globals_json}
+use Rattle.scene_model.specs.Parts.{Json, Name}
+use Rattle.scene_document.specs.Texts.{entity_json, globals_json}
 use Rattle.scene_snapshot.specs.KeptScenes.{kept_scene}
 use Rattle.scene_snapshot.specs.Printing.{AddsJson}
 use Rattle.scene_snapshot.proofs.PrintLemmas.{wrote, on-wrote, members-none, members-one, members-then, object-added, whole-added}

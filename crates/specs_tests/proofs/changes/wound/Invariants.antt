@@ -1,7 +1,7 @@
 use Rattle.std.proofs.Common.{length}
 use Rattle.hibitset_sets.specs.BitSet.{has_member}
 use Rattle.specs_join.specs.Cursors.{CanGoOn, indices_left}
-use Rattle.specs_changes.specs.Changes.{changes_in}
+use Rattle.specs_join.specs.Changes.{changes_in}
 use Rattle.specs_tests.proofs.changes.wound.Given as goal
 
 abbrev pub invariant-loop-cursor : goal.invariant-loop-cursor

@@ -1,5 +1,5 @@
 use Rattle.std.proofs.Common.{[], ◌∷◌, ap, ◌∙◌}
-use Rattle.specs_events.specs.Channels.{with_more}
+use Rattle.specs_layouts.specs.Channels.{with_more}
 use Rattle.specs_layouts.specs.declared.track.ComponentEvent.TheVariants as event
 use Rattle.specs_layouts.proofs.CallerLemmas.{more-more}
 use Rattle.specs_tests.proofs.flagging.put_write_and_take.Goals as goal

@@ -1,6 +1,6 @@
 use Rattle.std.proofs.Common.{◌≡◌, refl, sym, ◌∙◌, subst}
 use Rattle.std.proofs.Math.Path.{fun_ext}
-use Rattle.scene_rules.specs.Scenes.{IsProper}
+use Rattle.scene_model.specs.Scenes.{IsProper}
 use Rattle.scene_document.specs.Openings.{first_scene}
 use Rattle.scene.specs.Running.{listed_scene}
 use Rattle.scene.proofs.TurnLemmas.{is_opening, is_nothing_yet}

@@ -1,14 +1,14 @@
 use Rattle.std.proofs.Common.{arith, ◌≡◌, ◌∙◌, ◌+◌, ◌++◌, refl, ap, sym, subst, suc, Some, All}
 use Rattle.std.proofs.lemmas.Option.{none-some}
-use Rattle.scene_rules.specs.Commands.{skips_of}
-use Rattle.scene_rules.specs.Frames.{Accepts, Refuses}
-use Rattle.scene_rules.specs.Lawful.{IsLawful}
-use Rattle.scene_rules.specs.Scenes.{IsProper}
-use Rattle.scene_rules.specs.Queues.{plain_commands}
+use Rattle.scene_model.specs.Commands.{skips_of}
+use Rattle.scene_model.specs.Frames.{Accepts, Refuses}
+use Rattle.scene_model.specs.Lawful.{IsLawful}
+use Rattle.scene_model.specs.Scenes.{IsProper}
+use Rattle.scene_model.specs.Queues.{plain_commands}
 use Rattle.scene_document.specs.Loading.{commands_at}
-use Rattle.scene_turns.specs.Places.{kinds_of}
-use Rattle.scene_turns.specs.Turns.{placed_as}
-use Rattle.scene_systems.specs.Orders.{turn_order}
+use Rattle.scene_world.specs.Places.{kinds_of}
+use Rattle.scene_world.specs.Turns.{placed_as}
+use Rattle.scene_dispatch.specs.Orders.{turn_order}
 use Rattle.scene.proofs.TurnLemmas.{none_there, told_first}
 use Rattle.scene.specs.Running.{listed_scene, course_of, Stands}
 use Rattle.scene.proofs.frame.Scene.run_frame.Goals as goal

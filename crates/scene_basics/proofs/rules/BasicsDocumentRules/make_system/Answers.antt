@@ -1,7 +1,7 @@
 use Rattle.std.proofs.Common.{◌≡◌, true, cond, Option, Some, is_some, ◌∙◌, ap, sym, refl}
 use Rattle.serde_json.specs.View.{view}
 use Rattle.serde_json.specs.Find.{as_null}
-use Rattle.scene_rules.specs.Rulebook.{known, misshapen}
+use Rattle.scene_model.specs.Rulebook.{known, misshapen}
 use Rattle.scene_basics.specs.declared.data.BasicSystem.{BasicSystem}
 use Rattle.scene_basics.specs.Systems.{system_named, configured, facts_of}
 use Rattle.scene_basics.specs.RuleLaws.{kind_of-system_named, null-as_null}

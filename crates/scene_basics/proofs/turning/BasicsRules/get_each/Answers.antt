@@ -2,7 +2,7 @@ use Rattle.std.proofs.Common.{not, ap, sym, ◌∙◌, subst}
 use Rattle.std.specs.Str.{bytes_eq}
 use Rattle.std.proofs.lemmas.Bool.{false≢true, false_from_ne_true}
 use Rattle.scene_basics.specs.Names.{owner_kind}
-use Rattle.scene_turns.specs.Putting.{AreReadAt}
+use Rattle.scene_world.specs.Putting.{AreReadAt}
 use Rattle.scene_basics.specs.declared.values.Value.{Value}
 use Rattle.scene_basics.specs.Columns.{basic_columns}
 use Rattle.scene_basics.specs.Numbers.{part_of}

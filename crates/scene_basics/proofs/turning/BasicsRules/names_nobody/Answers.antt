@@ -1,5 +1,5 @@
 use Rattle.std.proofs.Common.{◌≡◌, [], ap, sym, ◌∙◌, subst}
-use Rattle.scene_turns.specs.Putting.{named_in}
+use Rattle.scene_world.specs.Putting.{named_in}
 use Rattle.scene_basics.specs.declared.values.Value.{Value}
 use Rattle.scene_basics.specs.Columns.{basic_columns}
 use Rattle.scene_basics.proofs.ColumnLemmas.{no-owners}

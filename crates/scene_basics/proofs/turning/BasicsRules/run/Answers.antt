@@ -1,9 +1,9 @@
 use Rattle.std.proofs.Common.{negsuc, List, Some, refl, ap, sym, ◌∙◌, subst}
 use Rattle.std.proofs.lemmas.Bool.{false≢true}
 use Rattle.shred_stages.specs.Views.{error_of}
-use Rattle.scene_rules.specs.Rulebook.{Command}
-use Rattle.scene_rules.specs.Queues.{waiting, plain_commands}
-use Rattle.scene_turns.specs.Turns.{Runs}
+use Rattle.scene_model.specs.Rulebook.{Command}
+use Rattle.scene_model.specs.Queues.{waiting, plain_commands}
+use Rattle.scene_world.specs.Turns.{Runs}
 use Rattle.scene_basics.specs.declared.data.Ask.TheVariants.{Deaths, Births}
 use Rattle.scene_basics.specs.declared.data.BasicSystem.{BasicSystem}
 use Rattle.scene_basics.specs.declared.data.BasicSystem.TheVariants.{Drift, Pull, Decay, Reap, Bud}

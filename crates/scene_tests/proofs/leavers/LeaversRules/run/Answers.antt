@@ -1,5 +1,5 @@
 use Rattle.std.proofs.Common.{ap}
-use Rattle.scene_rules.specs.Queues.{waiting, plain_commands}
+use Rattle.scene_model.specs.Queues.{waiting, plain_commands}
 use Rattle.scene_basics.specs.Numbers.{part_of}
 use Rattle.scene_tests.proofs.LeavingLemmas.{leave-runs, leave-stops}
 use Rattle.scene_tests.proofs.leavers.LeaversRules.run.Goals as goal

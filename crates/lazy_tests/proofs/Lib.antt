@@ -1,2 +1,0 @@
-pub mod GivingLemmas
-pub mod ValueLemmas

@@ -1,8 +1,0 @@
-use Rattle.std.proofs.Common.{[], refl, sym, subst}
-use Rattle.lazy_tests.specs.Values.{value_drops}
-use Rattle.lazy_tests.specs.declared.values.Value.TheVariants.{HealthValue}
-use Rattle.lazy_tests.proofs.values.ValueAnyStorage.make_room.Goals as goal
-
-pub returns-in-HealthValue-clause-same : goal.returns-in-HealthValue-clause-same
-returns-in-HealthValue-clause-same c =
-    subst (λ v. value_drops _ v [] (HealthValue c.make_room.new.self)) (sym c.in-HealthValue.is) (c.make_room.new.self, refl, c.make_room.ensures.same)

@@ -1,0 +1,317 @@
+//! The commands of a frame in a world: those that are given, and then those that wait in the queues of systems.
+ghost use Rattle.std.specs.Prelude.{◌≡◌, ◌+◌, ◌≤◌, ◌<◌, ◌++◌, ℕ, List, All, None, true, false, length, IfOk, IfErr};
+ghost use Rattle.std.specs.Prelude.{OnOk, OnErr};
+ghost use Rattle.scene_model.specs.declared.refusals.FrameRefusal.TheVariants as cause;
+ghost use Rattle.scene_model.specs.Parts.{Part};
+ghost use Rattle.scene_model.specs.Lawful.{IsLawful};
+ghost use Rattle.scene_model.specs.Leads.{RunsTo};
+ghost use Rattle.scene_model.specs.Commands.{CommandsAccepted, first_gone, skips_of};
+ghost use Rattle.scene_model.specs.Queues.{plain_commands, waiting};
+ghost use Rattle.scene_world.specs.Standing.{plain_of, commands_of};
+ghost use Rattle.scene_world.specs.Places.{kinds_of};
+ghost use Rattle.scene_commands.specs.Acts.{seen_of, MayAct, StaysElsewhere};
+ghost use Rattle.scene_commands.specs.Lists.{RefusesActs};
+ghost use Rattle.scene.specs.Waiting.{waiting_in, waiting_at, PlacesAscend, NoneWaitsAt, StaysApart};
+ghost use Rattle.scene.specs.Sparing.{AsksNoDeath, NoneGone};
+ghost use Rattle.scene.specs.Refusals.{CommandsRefusedIn, GoneIn, RefusesAll};
+
+use crate::queues::{put_queues, take_queues};
+use scene_commands::{act_all, find_gone};
+use scene_model::{Command, DocumentRules, FrameRefusal, Queue, Skip};
+use scene_world::{Rules, SceneValue};
+use shred_world::World;
+use std::alloc::Global;
+
+/// Whether commands are at most so many, with those that wait in queues.
+fn are_within<D: Drop>(limit: usize, given: usize, queues: &[Queue<D>]) -> bool
+    ensures within { (part_of : D → Part) → result ≡ true → given + length (waiting_in part_of queues.now) ≤ limit }
+    ensures over { (part_of : D → Part) → result ≡ false → limit < given + length (waiting_in part_of queues.now) }
+{
+    if given > limit {
+        return false;
+    }
+    let mut left = limit - given;
+    for queue in queues {
+        if queue.len() > left {
+            return false;
+        }
+        left -= queue.len();
+    }
+    true
+}
+
+/// The place of the last command of a queue, the first of which comes behind a place.
+fn behind<D: Drop>(place: u32, queue: &Queue<D>) -> u32
+    requires { place + length (waiting queue.now) ≤ 4294967295 }
+    ensures { result ≡ place + length (waiting queue.now) }
+{
+    place + queue.len() as u32
+}
+
+/// How many commands a list has.
+fn count_of<D: Drop>(commands: &[Command<D>]) -> u32
+    requires { length commands.now ≤ 4294967295 }
+    ensures { result ≡ length commands.now }
+{
+    commands.len() as u32
+}
+
+/// Carries the commands of queues out in a world, as `act_all` does those of a list.
+fn act_queues<R: Rules>(
+    rules: &R,
+    world: &mut World<R::Value>,
+    frame: u32,
+    earlier: u32,
+    queues: &[Queue<R::Data>],
+    skips: &mut Vec<Skip>,
+    alloc: Global,
+) -> Result<(), FrameRefusal>
+    requires may { MayAct (kinds_of ⟦<R::Value as SceneValue<R::Data>>⟧.places R.part_of R.columns) world.old }
+    requires lawful { All (λ queue. All (IsLawful (R.book rules.now)) (plain_commands R.part_of (waiting queue)))
+        queues.now }
+    requires room { earlier + length (waiting_in R.part_of queues.now) ≤ 4294967295 }
+    ensures ran { OnOk result (RunsTo frame (earlier + 1) (waiting_in R.part_of queues.now)
+        (plain_of (kinds_of ⟦<R::Value as SceneValue<R::Data>>⟧.places R.part_of R.columns) (seen_of world.old))
+        (plain_of (kinds_of ⟦<R::Value as SceneValue<R::Data>>⟧.places R.part_of R.columns) (seen_of world.new))
+        skips.old.items skips.new.items) }
+    ensures may { OnOk result (MayAct
+        (kinds_of ⟦<R::Value as SceneValue<R::Data>>⟧.places R.part_of R.columns) world.new) }
+    ensures elsewhere { OnOk result (StaysElsewhere
+        (kinds_of ⟦<R::Value as SceneValue<R::Data>>⟧.places R.part_of R.columns) world.old world.new) }
+    ensures refused { IfErr result (RefusesActs
+        (kinds_of ⟦<R::Value as SceneValue<R::Data>>⟧.places R.part_of R.columns) (earlier + 1)
+        (waiting_in R.part_of queues.now) world.old) }
+    ensures kept { (more : List Skip) × (skips.new.items ≡ skips.old.items ++ more) }
+{
+    let mut place = earlier;
+    for queue in queues {
+        match act_all(rules, world, frame, place, queue.as_slice(), skips, alloc) {
+            Ok(()) => {}
+            Err(refusal) => return Err(refusal),
+        }
+        place = behind(place, queue);
+    }
+    Ok(())
+}
+
+/// Carries commands out in a world, first those of a list, then those of queues.
+fn act_both<R: Rules>(
+    rules: &R,
+    world: &mut World<R::Value>,
+    frame: u32,
+    given: &[Command<R::Data>],
+    queues: &[Queue<R::Data>],
+    skips: &mut Vec<Skip>,
+    alloc: Global,
+) -> Result<(), FrameRefusal>
+    requires may { MayAct (kinds_of ⟦<R::Value as SceneValue<R::Data>>⟧.places R.part_of R.columns) world.old }
+    requires given { All (IsLawful (R.book rules.now)) (plain_commands R.part_of given.now) }
+    requires lawful { All (λ queue. All (IsLawful (R.book rules.now)) (plain_commands R.part_of (waiting queue)))
+        queues.now }
+    requires room { length given.now + length (waiting_in R.part_of queues.now) ≤ 4294967295 }
+    ensures ran { OnOk result (RunsTo frame 1 (plain_commands R.part_of given.now ++ waiting_in R.part_of queues.now)
+        (plain_of (kinds_of ⟦<R::Value as SceneValue<R::Data>>⟧.places R.part_of R.columns) (seen_of world.old))
+        (plain_of (kinds_of ⟦<R::Value as SceneValue<R::Data>>⟧.places R.part_of R.columns) (seen_of world.new))
+        skips.old.items skips.new.items) }
+    ensures may { OnOk result (MayAct
+        (kinds_of ⟦<R::Value as SceneValue<R::Data>>⟧.places R.part_of R.columns) world.new) }
+    ensures elsewhere { OnOk result (StaysElsewhere
+        (kinds_of ⟦<R::Value as SceneValue<R::Data>>⟧.places R.part_of R.columns) world.old world.new) }
+    ensures refused { IfErr result (RefusesActs
+        (kinds_of ⟦<R::Value as SceneValue<R::Data>>⟧.places R.part_of R.columns) 1
+        (plain_commands R.part_of given.now ++ waiting_in R.part_of queues.now) world.old) }
+    ensures kept { (more : List Skip) × (skips.new.items ≡ skips.old.items ++ more) }
+{
+    match act_all(rules, world, frame, 0, given, skips, alloc) {
+        Ok(()) => {}
+        Err(refusal) => return Err(refusal),
+    }
+    let earlier = count_of(given);
+    act_queues(rules, world, frame, earlier, queues, skips, alloc)
+}
+
+/// Whether one of some commands is to kill somebody.
+fn has_kill<D: Drop>(commands: &[Command<D>]) -> bool
+    ensures { result ≡ false → All AsksNoDeath commands.now }
+{
+    for command in commands {
+        if let Command::Kill(_) = command {
+            return true;
+        }
+    }
+    false
+}
+
+/// Whether one of the commands that wait in queues is to kill somebody.
+fn have_kill<D: Drop>(queues: &[Queue<D>]) -> bool
+    ensures { result ≡ false → All (λ queue. All AsksNoDeath (waiting queue)) queues.now }
+{
+    for queue in queues {
+        if has_kill(queue.as_slice()) {
+            return true;
+        }
+    }
+    false
+}
+
+/// Whether one of some commands, or of those that wait in queues, is to kill somebody.
+fn ask_death<D: Drop>(given: &[Command<D>], queues: &[Queue<D>]) -> bool
+    ensures given { result ≡ false → All AsksNoDeath given.now }
+    ensures queues { result ≡ false → All (λ queue. All AsksNoDeath (waiting queue)) queues.now }
+{
+    if has_kill(given) {
+        return true;
+    }
+    have_kill(queues)
+}
+
+/// Refuses a frame after which a reference is gone. It looks only where somebody may have been killed.
+///
+/// Errors: `GoneReference`, with the least id that holds one; `Memory`.
+fn look<R: Rules>(
+    rules: &R,
+    world: &World<R::Value>,
+    kills: bool,
+    alloc: Global,
+) -> Result<(), FrameRefusal>
+    requires may { MayAct (kinds_of ⟦<R::Value as SceneValue<R::Data>>⟧.places R.part_of R.columns) world.now }
+    requires spared { kills ≡ false → NoneGone
+        (plain_of (kinds_of ⟦<R::Value as SceneValue<R::Data>>⟧.places R.part_of R.columns) (seen_of world.now)) }
+    ensures ok { OnOk result (first_gone (R.book rules.now)
+        (plain_of (kinds_of ⟦<R::Value as SceneValue<R::Data>>⟧.places R.part_of R.columns) (seen_of world.now)) ≡
+        None) }
+    ensures refused { IfErr result (GoneIn (R.book rules.now)
+        (plain_of (kinds_of ⟦<R::Value as SceneValue<R::Data>>⟧.places R.part_of R.columns) (seen_of world.now))) }
+{
+    if !kills {
+        return Ok(());
+    }
+    match find_gone(rules, world, alloc) {
+        Ok(None) => Ok(()),
+        Ok(Some(id)) => Err(FrameRefusal::GoneReference(id)),
+        Err(_) => Err(FrameRefusal::Memory),
+    }
+}
+
+/// Carries the commands of a list and those of queues out in a world, puts the queues back empty at their places, and
+/// looks for a reference that is gone.
+///
+/// Errors: those of a command; `GoneReference`; `Memory`.
+fn act_out<R: Rules>(
+    rules: &R,
+    world: &mut World<R::Value>,
+    places: &[u32],
+    frame: u32,
+    given: &[Command<R::Data>],
+    queues: Vec<Queue<R::Data>>,
+    skips: &mut Vec<Skip>,
+    alloc: Global,
+) -> Result<(), FrameRefusal>
+where
+    R::Value: Drop,
+    requires may { MayAct (kinds_of ⟦<R::Value as SceneValue<R::Data>>⟧.places R.part_of R.columns) world.old }
+    requires none { NoneGone (plain_of (kinds_of ⟦<R::Value as SceneValue<R::Data>>⟧.places R.part_of R.columns)
+        (seen_of world.old)) }
+    requires ascend { PlacesAscend places.now }
+    requires given { All (IsLawful (R.book rules.now)) (plain_commands R.part_of given.now) }
+    requires lawful { All (λ queue. All (IsLawful (R.book rules.now)) (plain_commands R.part_of (waiting queue)))
+        queues.items }
+    requires room { length given.now + length (waiting_in R.part_of queues.items) ≤ 4294967295 }
+    ensures ran { OnOk result (RunsTo frame 1 (plain_commands R.part_of given.now ++ waiting_in R.part_of
+        queues.items)
+        (plain_of (kinds_of ⟦<R::Value as SceneValue<R::Data>>⟧.places R.part_of R.columns) (seen_of world.old))
+        (plain_of (kinds_of ⟦<R::Value as SceneValue<R::Data>>⟧.places R.part_of R.columns) (seen_of world.new))
+        skips.old.items skips.new.items) }
+    ensures may { OnOk result (MayAct
+        (kinds_of ⟦<R::Value as SceneValue<R::Data>>⟧.places R.part_of R.columns) world.new) }
+    ensures none_gone { OnOk result (first_gone (R.book rules.now)
+        (plain_of (kinds_of ⟦<R::Value as SceneValue<R::Data>>⟧.places R.part_of R.columns) (seen_of world.new)) ≡
+        None) }
+    ensures empty { OnOk result (NoneWaitsAt
+        (kinds_of ⟦<R::Value as SceneValue<R::Data>>⟧.places R.part_of R.columns) places.now (seen_of world.new)) }
+    ensures apart { OnOk result (StaysApart
+        (kinds_of ⟦<R::Value as SceneValue<R::Data>>⟧.places R.part_of R.columns) places.now world.old world.new) }
+    ensures refused { IfErr result (RefusesAll
+        (kinds_of ⟦<R::Value as SceneValue<R::Data>>⟧.places R.part_of R.columns) (R.book rules.now)
+        (plain_commands R.part_of given.now ++ waiting_in R.part_of queues.items) world.old) }
+    ensures kept { (more : List Skip) × (skips.new.items ≡ skips.old.items ++ more) }
+{
+    let kills = ask_death(given, queues.as_slice());
+    match act_both(rules, world, frame, given, queues.as_slice(), skips, alloc) {
+        Ok(()) => {}
+        Err(refusal) => return Err(refusal),
+    }
+    match put_queues::<R>(world, places, queues, alloc) {
+        Ok(()) => {}
+        Err(_) => return Err(FrameRefusal::Memory),
+    }
+    look(rules, world, kills, alloc)
+}
+
+/// Runs the commands of a frame in a world: those that are given, and then those that wait in the queues at places, by
+/// their places. Then it looks for references that are gone.
+///
+/// Where they are accepted, the scene that stands in the world is the one to which they lead, the skipped ones are
+/// noted behind the skips by the frame and their place, and the queues at these places are empty.
+///
+/// Asked for is that no reference is gone yet, that the places ascend, and that the commands are ones that the rules know.
+///
+/// Errors: `TooManyCommands`, where there are more than `limit`; `IdsSpent`, `IndicesSpent` and `GenerationsSpent` of
+/// a spawn; `GoneReference`, with the least id that holds one; `Memory`, also where there is no queue at a place. The
+/// skips are as they were; what was carried out before stays in the world.
+pub fn run_commands<R: Rules>(
+    rules: &R,
+    world: &mut World<R::Value>,
+    places: &[u32],
+    limit: u32,
+    frame: u32,
+    given: &[Command<R::Data>],
+    skips: &mut Vec<Skip>,
+    alloc: Global,
+) -> Result<(), FrameRefusal>
+where
+    R::Value: Drop,
+    requires may { MayAct (kinds_of ⟦<R::Value as SceneValue<R::Data>>⟧.places R.part_of R.columns) world.old }
+    requires none { NoneGone (plain_of (kinds_of ⟦<R::Value as SceneValue<R::Data>>⟧.places R.part_of R.columns)
+        (seen_of world.old)) }
+    requires ascend { PlacesAscend places.now }
+    requires given { All (IsLawful (R.book rules.now)) (plain_commands R.part_of given.now) }
+    requires lawful { All (λ place. All (IsLawful (R.book rules.now))
+        (commands_of (kinds_of ⟦<R::Value as SceneValue<R::Data>>⟧.places R.part_of R.columns) (seen_of world.old)
+        place))
+        places.now }
+    ensures accepted { OnOk result ((skipped : List ℕ) × CommandsAccepted (R.book rules.now) limit
+        (plain_commands R.part_of given.now ++ waiting_at
+        (kinds_of ⟦<R::Value as SceneValue<R::Data>>⟧.places R.part_of R.columns) places.now (seen_of world.old))
+        (plain_of (kinds_of ⟦<R::Value as SceneValue<R::Data>>⟧.places R.part_of R.columns) (seen_of world.old))
+        (plain_of (kinds_of ⟦<R::Value as SceneValue<R::Data>>⟧.places R.part_of R.columns) (seen_of world.new))
+        skipped
+        × (skips.new.items ≡ skips.old.items ++ skips_of frame skipped)) }
+    ensures may { OnOk result (MayAct
+        (kinds_of ⟦<R::Value as SceneValue<R::Data>>⟧.places R.part_of R.columns) world.new) }
+    ensures empty { OnOk result (NoneWaitsAt
+        (kinds_of ⟦<R::Value as SceneValue<R::Data>>⟧.places R.part_of R.columns) places.now (seen_of world.new)) }
+    ensures apart { OnOk result (StaysApart
+        (kinds_of ⟦<R::Value as SceneValue<R::Data>>⟧.places R.part_of R.columns) places.now world.old world.new) }
+    ensures refused { IfErr result (CommandsRefusedIn
+        (kinds_of ⟦<R::Value as SceneValue<R::Data>>⟧.places R.part_of R.columns) (R.book rules.now) limit
+        (plain_commands R.part_of given.now ++ waiting_at
+        (kinds_of ⟦<R::Value as SceneValue<R::Data>>⟧.places R.part_of R.columns) places.now (seen_of world.old))
+        (plain_of (kinds_of ⟦<R::Value as SceneValue<R::Data>>⟧.places R.part_of R.columns) (seen_of world.old))) }
+    ensures skips { OnErr result (skips.new.items ≡ skips.old.items) }
+{
+    let Ok(queues) = take_queues::<R>(world, places, alloc) else {
+        return Err(FrameRefusal::Memory);
+    };
+    if !are_within(limit as usize, given.len(), queues.as_slice()) {
+        return Err(FrameRefusal::TooManyCommands);
+    }
+    let noted = skips.len();
+    match act_out(rules, world, places, frame, given, queues, skips, alloc) {
+        Ok(()) => Ok(()),
+        Err(refusal) => {
+            skips.truncate(noted);
+            Err(refusal)
+        }
+    }
+}

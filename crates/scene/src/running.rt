@@ -1,0 +1,112 @@
+//! A frame in a world: its systems, and then its commands.
+ghost use Rattle.std.specs.Prelude.{◌≡◌, ◌<◌, ◌++◌, ℕ, List, All, IfErr, OnOk, OnErr};
+ghost use Rattle.shred_world.specs.Bundles.{holding_of};
+ghost use Rattle.scene_model.specs.Lawful.{IsLawful};
+ghost use Rattle.scene_model.specs.Commands.{skips_of};
+ghost use Rattle.scene_model.specs.Frames.{Accepts};
+ghost use Rattle.scene_model.specs.Queues.{plain_commands};
+ghost use Rattle.scene_world.specs.Standing.{plain_of};
+ghost use Rattle.scene_world.specs.Lent.{StandApart};
+ghost use Rattle.scene_world.specs.Places.{kinds_of};
+ghost use Rattle.scene_world.specs.Putting.{AreNamedIn};
+ghost use Rattle.scene_world.specs.Turns.{placed_as};
+ghost use Rattle.scene_dispatch.specs.Orders.{turn_order};
+ghost use Rattle.scene_dispatch.specs.Frames.{AreReady, WantsThread};
+ghost use Rattle.scene_commands.specs.Acts.{seen_of};
+ghost use Rattle.scene.specs.Waiting.{AreTheirPlaces, NoneWaits};
+ghost use Rattle.scene.specs.Refusals.{RefusedIn};
+
+use crate::commands::run_commands;
+use scene_commands::laws::{a_scene_may_be_acted_on, a_scene_stands_after_commands};
+use scene_dispatch::SceneDispatcher;
+use scene_model::{Command, FrameRefusal, Skip};
+use scene_world::{Rules, SceneValue};
+use shred_world::World;
+use std::sync::Wait;
+use std::thread::Threads;
+
+/// What rules are held to: the parts and globals of their columns are those of their book, and no two of the values
+/// of a scene stand under one id.
+fn rules_stand<R: Rules>(rules: &R)
+    ensures named { AreNamedIn R.columns (R.book rules.now) }
+    ensures apart { StandApart (kinds_of ⟦<R::Value as SceneValue<R::Data>>⟧.places R.part_of R.columns) }
+{}
+
+/// Runs a frame in a world in which a scene stands: the systems of a dispatcher, then the given commands, then those
+/// of the systems by their places. Then it looks for references that are gone.
+///
+/// Where the frame is accepted, the scene that stands in the world is the one after it, whatever the number of
+/// workers, the skipped commands are noted behind the skips, no command waits, and the systems may run again.
+///
+/// Asked for is that the systems are the rules' own, that `places` are ascending and have the position of each system,
+/// that no command waits, and that the given commands are ones that the rules know.
+///
+/// Errors: `System`, with the position and the text of the first system that refuses; `TooManyCommands`, where a
+/// system has a full queue and more to ask for, or all commands are more than `limit`; those of `run_commands`;
+/// `Memory`; `Threads`, only with two workers or more. The skips are as they were; the world is what the systems and
+/// commands before have made of it, in which the scene before the frame is no more.
+pub fn run_frame<R: Rules + Send + Sync, H: AllocGlobal + Threads + Wait + Sync>(
+    rt: &H,
+    rules: &R,
+    dispatcher: &mut SceneDispatcher<R>,
+    world: &mut World<R::Value>,
+    places: &[u32],
+    limit: u32,
+    frame: u32,
+    given: &[Command<R::Data>],
+    skips: &mut Vec<Skip>,
+) -> Result<(), FrameRefusal>
+where
+    R::Value: Drop + Send + Sync,
+    R::Data: Send + Sync,
+    R::Global: Send + Sync,
+    R::System: Send + Sync,
+    requires ready { AreReady (kinds_of ⟦<R::Value as SceneValue<R::Data>>⟧.places R.part_of R.columns) (placed_as
+        (λ placed. placed.position) (λ placed. placed.system)
+        R.kind_of R.config_of R.declared R.sense R.does) (R.book rules.now) dispatcher.old (holding_of world.old) }
+    requires none { NoneWaits (kinds_of ⟦<R::Value as SceneValue<R::Data>>⟧.places R.part_of R.columns) (seen_of
+        world.old) }
+    requires places { AreTheirPlaces places.now (turn_order (placed_as (λ placed. placed.position) (λ placed.
+        placed.system)
+        R.kind_of R.config_of R.declared R.sense R.does).plain dispatcher.old) }
+    requires given { All (IsLawful (R.book rules.now)) (plain_commands R.part_of given.now) }
+    ensures accepted { OnOk result ((skipped : List ℕ) × Accepts (R.book rules.now) limit
+        (record {
+          order = turn_order (placed_as (λ placed. placed.position) (λ placed. placed.system)
+              R.kind_of R.config_of R.declared R.sense R.does).plain dispatcher.old;
+          commands = plain_commands R.part_of given.now;
+        })
+        (plain_of (kinds_of ⟦<R::Value as SceneValue<R::Data>>⟧.places R.part_of R.columns) (seen_of world.old))
+        (plain_of (kinds_of ⟦<R::Value as SceneValue<R::Data>>⟧.places R.part_of R.columns) (seen_of world.new))
+        skipped
+        × (skips.new.items ≡ skips.old.items ++ skips_of frame skipped)) }
+    ensures ready { OnOk result (AreReady (kinds_of ⟦<R::Value as SceneValue<R::Data>>⟧.places R.part_of R.columns)
+        (placed_as (λ placed. placed.position) (λ placed. placed.system)
+        R.kind_of R.config_of R.declared R.sense R.does) (R.book rules.now) dispatcher.new (holding_of world.new)) }
+    ensures none { OnOk result (NoneWaits (kinds_of ⟦<R::Value as SceneValue<R::Data>>⟧.places R.part_of R.columns)
+        (seen_of world.new)) }
+    ensures refused { IfErr result (RefusedIn (kinds_of ⟦<R::Value as SceneValue<R::Data>>⟧.places R.part_of
+        R.columns) (R.book rules.now) limit
+        (record {
+          order = turn_order (placed_as (λ placed. placed.position) (λ placed. placed.system)
+              R.kind_of R.config_of R.declared R.sense R.does).plain dispatcher.old;
+          commands = plain_commands R.part_of given.now;
+        })
+        (plain_of (kinds_of ⟦<R::Value as SceneValue<R::Data>>⟧.places R.part_of R.columns) (seen_of world.old))) }
+    ensures skips { OnErr result (skips.new.items ≡ skips.old.items) }
+    ensures order { turn_order (placed_as (λ placed. placed.position) (λ placed. placed.system)
+        R.kind_of R.config_of R.declared R.sense R.does).plain dispatcher.new ≡ turn_order (placed_as (λ placed.
+        placed.position) (λ placed. placed.system)
+        R.kind_of R.config_of R.declared R.sense R.does).plain dispatcher.old }
+    ensures workers { dispatcher.new.workers ≡ dispatcher.old.workers }
+    ensures threads { dispatcher.old.workers < 2 → IfErr result (λ cause. ¬ (WantsThread cause)) }
+{
+    match dispatcher.run_systems(rt, rules, world) {
+        Ok(()) => {}
+        Err(refusal) => return Err(refusal),
+    }
+    rules_stand(rules);
+    a_scene_may_be_acted_on(rules);
+    a_scene_stands_after_commands(rules);
+    run_commands(rules, world, places, limit, frame, given, skips, rt.alloc())
+}

@@ -1,6 +1,0 @@
--- What proofs of the crates above cite, and nothing else of these lemmas.
-pub use Rattle.scene_acts.proofs.LookLemmas.{seen-value, lives-under}
-pub use Rattle.scene_acts.proofs.ActLemmas.{life-counted}
-pub use Rattle.scene_acts.proofs.DropLemmas.{no_name, named-there}
-pub use Rattle.scene_acts.proofs.SpawnLemmas.{born-another}
-pub use Rattle.scene_acts.proofs.DeathLemmas.{was-there, now-there, else-there}

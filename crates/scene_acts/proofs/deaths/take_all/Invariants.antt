@@ -1,9 +1,0 @@
-use Rattle.std.proofs.Common.{take}
-use Rattle.scene_rules.specs.Declaring.{texts}
-use Rattle.scene_turns.specs.Places.{kinds_of}
-use Rattle.scene_acts.specs.Acts.{seen_of}
-use Rattle.scene_acts.specs.Deaths.{DropsParts}
-use Rattle.scene_acts.proofs.deaths.take_all.Given as goal
-
-abbrev pub invariant-loop-kind : goal.invariant-loop-kind
-invariant-loop-kind g l = DropsParts (kinds_of g.R.Value.SceneValue.places g.R.DocumentRules.part_of g.R.Rules.columns) l.index (texts (take l.kind-index l.names)) (seen_of l.initial.world) (seen_of l.world)

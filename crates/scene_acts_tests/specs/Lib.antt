@@ -1,4 +1,0 @@
-pub mod Holdings
-pub mod Owning
-pub mod OwningLaws
-pub mod Apart

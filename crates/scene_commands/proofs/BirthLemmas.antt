@@ -1,0 +1,65 @@
+-- An entity comes to life, gets its id, and is marked.
+use Rattle.std.proofs.Common.{◌≡◌, ◌<◌, ◌≤◌, ℕ, false, cond, eqb, Option, Some, None, refl, ap, sym, ◌∙◌, subst}
+use Rattle.std.specs.Prelude.{IsSome, option_and_then}
+use Rattle.shred_world.specs.declared.resource_id.ResourceId.{ResourceId}
+use Rattle.shred_world.specs.ResourceIds.{same_id}
+use Rattle.shred_world.specs.Worlds.{Slots}
+use Rattle.specs_entity.specs.Births.{Births, count, living, IsBorn, IsAlive, LivesOn, BringsToLife, Continues}
+use Rattle.specs_entity.specs.Life.{LifeAt}
+use Rattle.specs_layouts.specs.Parts.{Puts}
+use Rattle.specs_markers.specs.Simple.{Noting, Gives, allocated}
+use Rattle.scene_world.specs.Standing.{Kinds, roll_of}
+use Rattle.scene_commands.specs.Acts.{seen_of}
+use Rattle.scene_commands.specs.Newborns.{ComesToLife, GetsId, Marks}
+use Rattle.scene_commands.proofs.DeathLemmas.{puts-at, births-read, noting-read}
+
+module _ {V : Type 0} (kinds : Kinds V) (w later : Slots V) (was back : V) where
+  -- entities with one more
+  pub comes-to-life : seen_of w kinds.entities_id ≡ Some was → seen_of later kinds.entities_id ≡ Some back → ((other : ResourceId) → same_id other kinds.entities_id ≡ false → seen_of later other ≡ seen_of w other)
+      → (before after : Births) → kinds.births was ≡ Some before → kinds.births back ≡ Some after → (entity : LifeAt) → 0 < entity.generation.number → ¬ (IsBorn before entity) → IsAlive after entity → BringsToLife before entity after → LivesOn before after → Continues before after
+      → ComesToLife kinds entity (seen_of w) (seen_of later)
+  comes-to-life stood stands others before after old new entity counts unborn alive brings live_on continues = record {
+    unborn = subst (λ b. ¬ (IsBorn b entity)) (sym was-is) unborn;
+    counts = counts;
+    alive = subst (λ b. living b entity.id ≡ Some entity.generation) (sym now-is) alive;
+    lives = λ at. ap (λ b. living b at) now-is ∙ brings at ∙ ap (λ b. cond (eqb at entity.id) (Some entity.generation) (living b at)) (sym was-is);
+    live_on = λ one lived. subst (λ b. living b one.id ≡ Some one.generation) (sym now-is) (live_on one (subst (λ b. living b one.id ≡ Some one.generation) was-is lived));
+    births = λ at. subst (λ b. count b at ≤ count (roll_of kinds (seen_of later)).births at) (sym was-is) (subst (λ b. count before at ≤ count b at) (sym now-is) (continues.births at));
+    there = subst (λ o. IsSome o) (sym (ap (option_and_then kinds.births) stands ∙ new)) refl;
+    others = others;
+  }
+    where
+      was-is : (roll_of kinds (seen_of w)).births ≡ before
+      was-is = births-read kinds w was before stood old
+
+      now-is : (roll_of kinds (seen_of later)).births ≡ after
+      now-is = births-read kinds later back after stands new
+
+  -- an allocator that gave its next id
+  pub gets-id : seen_of w kinds.allocator_id ≡ Some was → seen_of later kinds.allocator_id ≡ Some back → ((other : ResourceId) → same_id other kinds.allocator_id ≡ false → seen_of later other ≡ seen_of w other)
+      → (before after : Noting) → kinds.noting was ≡ Some before → kinds.noting back ≡ Some after → (entity : LifeAt) (given : ℕ) → Gives before entity None given after
+      → GetsId kinds entity given (seen_of w) (seen_of later)
+  gets-id stood stands others before after old new entity given gives = record {
+    id = gives.id ∙ ap (λ n. n.next) (sym was-is);
+    noting = now-is ∙ gives.allocator ∙ ap (λ n. allocated n entity None) (sym was-is);
+    there = subst (λ o. IsSome o) (sym (ap (option_and_then kinds.noting) stands ∙ new)) refl;
+    others = others;
+  }
+    where
+      was-is : (roll_of kinds (seen_of w)).noting ≡ before
+      was-is = noting-read kinds w was before stood old
+
+      now-is : (roll_of kinds (seen_of later)).noting ≡ after
+      now-is = noting-read kinds later back after stands new
+
+  -- markers with one more
+  pub marks : seen_of w kinds.markers_id ≡ Some was → seen_of later kinds.markers_id ≡ Some back → ((other : ResourceId) → same_id other kinds.markers_id ≡ false → seen_of later other ≡ seen_of w other)
+      → (before after : ℕ → Option ℕ) → ((at : ℕ) → kinds.marker was at ≡ before at) → ((at : ℕ) → kinds.marker back at ≡ after at) → (index given : ℕ) → Puts before index (Some given) after
+      → Marks kinds index given (seen_of w) (seen_of later)
+  marks stood stands others before after old new index given puts = record {
+    marker = λ at.
+        ap (λ held. option_and_then (λ v. kinds.marker v at) held) stands ∙ new at ∙ puts-at before after index (Some given) puts at
+        ∙ ap (λ marker. cond (eqb at index) (Some given) marker) (sym (ap (λ held. option_and_then (λ v. kinds.marker v at) held) stood ∙ old at));
+    there = subst (λ held. IsSome held) (sym stands) refl;
+    others = others;
+  }

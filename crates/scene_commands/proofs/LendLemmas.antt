@@ -1,0 +1,59 @@
+-- A world whose value at one id was lent for writing.
+use Rattle.std.proofs.Common.{◌≡◌, ℕ, false, cond, eqb, List, Option, Some, ap, sym, ◌∙◌, subst}
+use Rattle.std.specs.Prelude.{option_and_then}
+use Rattle.std.specs.FinMap as slots
+use Rattle.std.specs.Option.{option_flatten, option_copied_mut, OnSome}
+use denote.Ref.{MutBor}
+use Rattle.shred_world.specs.declared.resource_id.ResourceId.{ResourceId}
+use Rattle.shred_world.specs.ResourceIds.{same_id}
+use Rattle.shred_world.specs.Worlds.{Slots, value_at}
+use Rattle.shred_world.specs.Bundles.{readable, slot_of}
+use Rattle.shred_world.proofs.CallerLemmas.{ids_total, get-insert_here}
+use Rattle.shred_world.proofs.WorldLemmas.{on_some}
+use Rattle.specs_entity.specs.Life.{LifeAt}
+use Rattle.scene_model.specs.Parts.{Name, Part}
+use Rattle.scene_world.specs.Stored.{Stored}
+use Rattle.scene_world.specs.Standing.{Kinds}
+use Rattle.scene_world.specs.Changes.{but_at}
+use Rattle.scene_world.specs.Putting.{PutsIn}
+use Rattle.scene_commands.specs.Acts.{seen_of, SetsColumn, PutsPart}
+use Rattle.scene_commands.proofs.LookLemmas.{seen-value}
+
+module _ {V : Type 0} (w later : Slots V) (id : ResourceId) (was left : V) (stood : value_at w id ≡ Some was) (leaves : later ≡ slots.insert w id (Some left)) where
+  -- what was there, and what is there now
+  pub saw : seen_of w id ≡ Some was
+  saw = seen-value w id ∙ stood
+
+  pub sees : seen_of later id ≡ Some left
+  sees = seen-value later id ∙ ap (λ m. value_at m id) leaves ∙ ap option_flatten (get-insert_here w id (Some left))
+
+  -- at each other id is what was there
+  pub sees-other : (other : ResourceId) → same_id other id ≡ false → seen_of later other ≡ seen_of w other
+  sees-other other apart = ap (λ slot. readable (slot_of slot))
+      (ap (λ m. slots.get m other) leaves ∙ slots.get-insert ids_total w id (Some left) other ∙ ap (λ b. cond b (Some (Some left)) (slots.get w other)) apart)
+
+-- a value that was lent for writing stood there
+stood-there : {V : Type 0} (w : Slots V) (id : ResourceId) (lent : Option (MutBor V)) (value : MutBor V) → lent ≡ Some value → option_copied_mut lent ≡ value_at w id → value_at w id ≡ Some value.now
+stood-there w id lent value is stood = sym stood ∙ ap option_copied_mut is
+
+module _ {V : Type 0} (kinds : Kinds V) (w later : Slots V) (kind : Name) (id : ResourceId) (at_kind : id ≡ kinds.part_id kind)
+    (lent : Option (MutBor V)) (value : MutBor V) (is : lent ≡ Some value) (copied : option_copied_mut lent ≡ value_at w id) (left : V) (puts_back : OnSome lent (later ≡ slots.insert w id (Some left))) where
+  abbrev was : V
+  was = value.now
+
+  stood : value_at w (kinds.part_id kind) ≡ Some was
+  stood = subst (λ i. value_at w i ≡ Some was) at_kind (stood-there w id lent value is copied)
+
+  leaves : later ≡ slots.insert w (kinds.part_id kind) (Some left)
+  leaves = on_some lent value _ is puts_back ∙ ap (λ i. slots.insert w i (Some left)) at_kind
+
+  -- what is stored under a kind is so in the value that stands there
+  pub lent-column : (index : ℕ) (part : Option Stored) → ((at : ℕ) → kinds.stored kind left at ≡ but_at index part (kinds.stored kind was) at) → SetsColumn kinds kind index part (seen_of w) (seen_of later)
+  lent-column index part there = record {
+    here = λ at. ap (λ held. option_and_then (λ v. kinds.stored kind v at) held) (sees w later (kinds.part_id kind) was left stood leaves) ∙ there at
+        ∙ ap (λ column. cond (eqb at index) part column) (sym (ap (λ held. option_and_then (λ v. kinds.stored kind v at) held) (saw w later (kinds.part_id kind) was left stood leaves)));
+    others = sees-other w later (kinds.part_id kind) was left stood leaves;
+  }
+
+  pub lent-part : (index : ℕ) (part : Part) (named : List LifeAt) → PutsIn (kinds.stored kind) index part named was left → PutsPart kinds kind index part named (seen_of w) (seen_of later)
+  lent-part index part named puts = record { one = puts.one; is = puts.is; sets = lent-column index (Some puts.one) puts.there }

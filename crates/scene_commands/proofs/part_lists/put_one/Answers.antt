@@ -1,0 +1,23 @@
+use Rattle.std.proofs.Common.{◌≡◌, true, get_or, sym, subst, arith}
+use Rattle.scene_model.specs.Parts.{is_among}
+use Rattle.scene_model.specs.Rulebook.{put}
+use Rattle.scene_model.specs.Declaring.{texts}
+use Rattle.scene_document.specs.DraftViews.{named}
+use Rattle.scene_world.specs.Places.{kinds_of}
+use Rattle.scene_commands.specs.Acts.{Acts}
+use Rattle.scene_commands.proofs.DropLemmas.{no_name, named-there}
+use Rattle.scene_commands.specs.Becoming.{Becomes}
+use Rattle.scene_commands.specs.Entries.{with_one}
+use Rattle.scene_commands.proofs.BecomeLemmas.{puts-one}
+use Rattle.scene_commands.proofs.part_lists.put_one.Goals as goal
+
+pub put_part-requires-clause-known : goal.put_part-requires-clause-known
+put_part-requires-clause-known g c =
+    subst (λ names. is_among (get_or c.args.names.now c.in-Some.place no_name).now names ≡ true) c.requires.names (named-there c.args.names.now c.in-Some.place no_name (omega (arith, c.if-place-names.false)))
+
+pub returns-in-Ok-true : goal.returns-in-Ok-true
+returns-in-Ok-true g c =
+    subst (λ part. Becomes (kinds_of g.R.Value.SceneValue.places g.R.DocumentRules.part_of g.R.Rules.columns) (with_one c.args.id (named g.R.DocumentRules.part_of (texts c.args.names.now) part)) c.args.world.now c.put_part.new.world) (sym c.in-Some.is)
+    (puts-one (kinds_of g.R.Value.SceneValue.places g.R.DocumentRules.part_of g.R.Rules.columns) g.met.R.Rules.apart c.args.world.now c.put_part.new.world c.args.id c.args.names.now c.in-Some.place (g.R.DocumentRules.part_of c.in-Some.datum) c.in-Ok-true.ensures.may
+    (subst (λ done. Acts (kinds_of g.R.Value.SceneValue.places g.R.DocumentRules.part_of g.R.Rules.columns) (put c.args.id (get_or c.args.names.now c.in-Some.place no_name).now (g.R.DocumentRules.part_of c.in-Some.datum)) done c.args.world.now c.put_part.new.world) c.in-Ok-true.field-0-test c.in-Ok-true.ensures.acts)
+    c.in-Ok-true.ensures.elsewhere)

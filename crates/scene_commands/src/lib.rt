@@ -1,0 +1,26 @@
+//! Commands that are carried out in a world in which a scene stands, and worlds into which what a document says of a scene is
+//! put: entities under their ids, their parts, and the globals.
+#![tactic(auto)]
+
+mod births;
+mod deaths;
+mod entering;
+mod globals;
+mod gone;
+pub mod laws;
+mod lists;
+mod load;
+mod looking;
+pub mod opening;
+mod part_lists;
+mod parts;
+
+pub use births::{bring_to_life, mark, spawn_entity};
+pub use deaths::kill_entity;
+pub use entering::enter_entity;
+pub use gone::{find_gone, id_marked, living_in};
+pub use lists::{act, act_all};
+pub use load::load_world;
+pub use looking::{entities_under, entity_under};
+pub use opening::open_world;
+pub use parts::{put_part, take_part};

@@ -1,0 +1,91 @@
+//! Parts that are put into a world as a document says them.
+ghost use Rattle.std.specs.Prelude.{◌≡◌, map, OnOk};
+ghost use Rattle.scene_model.specs.Declaring.{texts};
+ghost use Rattle.scene_document.specs.DraftViews.{named, plain_entity};
+ghost use Rattle.scene_world.specs.Places.{kinds_of};
+ghost use Rattle.scene_commands.specs.Acts.{MayAct};
+ghost use Rattle.scene_commands.specs.Becoming.{Becomes};
+ghost use Rattle.scene_commands.specs.Entries.{with_one, with_list, with_parts};
+
+use crate::put_part;
+use scene_document::EntityDraft;
+use scene_world::{Rules, SceneValue};
+use shred_world::World;
+use std::alloc::{AllocError, Global};
+
+/// Puts a part in at an id, where its kind is known.
+///
+/// Errors: want of memory, where its place is none of the names, where nobody lives under the id, and where one of its
+/// references is to none that lives.
+fn put_one<R: Rules>(
+    rules: &R,
+    world: &mut World<R::Value>,
+    id: u64,
+    part: &Option<(usize, R::Data)>,
+    names: &[&'static str],
+    alloc: Global,
+) -> Result<(), AllocError>
+    requires may { MayAct (kinds_of ⟦<R::Value as SceneValue<R::Data>>⟧.places R.part_of R.columns) world.old }
+    requires names { texts names.now ≡ R.columns.part_names }
+    ensures { OnOk result (Becomes (kinds_of ⟦<R::Value as SceneValue<R::Data>>⟧.places R.part_of R.columns)
+        (with_one id (named R.part_of (texts names.now) part.now)) world.old world.new) }
+{
+    let Some((place, datum)) = part else {
+        return Ok(());
+    };
+    if *place >= names.len() {
+        return Err(AllocError);
+    }
+    match put_part(rules, world, id, names[*place], datum, alloc) {
+        Ok(true) => Ok(()),
+        Ok(false) => Err(AllocError),
+        Err(_) => Err(AllocError),
+    }
+}
+
+/// Puts parts in at an id; of two under one kind the first stands. Errors: those of each of them.
+fn put_list<R: Rules>(
+    rules: &R,
+    world: &mut World<R::Value>,
+    id: u64,
+    parts: &[Option<(usize, R::Data)>],
+    names: &[&'static str],
+    alloc: Global,
+) -> Result<(), AllocError>
+    requires may { MayAct (kinds_of ⟦<R::Value as SceneValue<R::Data>>⟧.places R.part_of R.columns) world.old }
+    requires names { texts names.now ≡ R.columns.part_names }
+    ensures { OnOk result (Becomes (kinds_of ⟦<R::Value as SceneValue<R::Data>>⟧.places R.part_of R.columns)
+        (with_list id (map (named R.part_of (texts names.now)) parts.now)) world.old world.new) }
+{
+    for index in (0..parts.len()).rev() {
+        put_one(rules, world, id, &parts[index], names, alloc)?;
+    }
+    Ok(())
+}
+
+/// Puts the parts of entities in, each at the id of its entity. Errors: those of each part.
+pub(crate) fn put_parts<R: Rules>(
+    rules: &R,
+    world: &mut World<R::Value>,
+    entities: &[EntityDraft<R::Data>],
+    names: &[&'static str],
+    alloc: Global,
+) -> Result<(), AllocError>
+    requires may { MayAct (kinds_of ⟦<R::Value as SceneValue<R::Data>>⟧.places R.part_of R.columns) world.old }
+    requires names { texts names.now ≡ R.columns.part_names }
+    ensures { OnOk result (Becomes (kinds_of ⟦<R::Value as SceneValue<R::Data>>⟧.places R.part_of R.columns)
+        (with_parts (map (plain_entity R.part_of (texts names.now)) entities.now)) world.old world.new) }
+{
+    for index in (0..entities.len()).rev() {
+        let entity = &entities[index];
+        put_list(
+            rules,
+            world,
+            entity.id,
+            entity.parts.as_slice(),
+            names,
+            alloc,
+        )?;
+    }
+    Ok(())
+}

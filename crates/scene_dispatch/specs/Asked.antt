@@ -1,0 +1,43 @@
+-- What a builder of a dispatcher is asked for a document's entries, and what it is then.
+use Rattle.std.specs.Prelude.{◌≡◌, ℕ, suc, Bool, true, false, List, [], ◌∷◌, ◌++◌, map, Option, Some, None}
+use Rattle.shred_world.specs.declared.resource_id.ResourceId.{ResourceId}
+use Rattle.scene_model.specs.Rulebook.{Facts}
+use Rattle.scene_model.specs.Scenes.{PlainSystem}
+use Rattle.scene_document.specs.Drafts.{DraftEntry, DraftSystem, barrier, system}
+use Rattle.scene_world.specs.Standing.{Kinds}
+use Rattle.shred.specs.Building.{Building, nothing_built}
+use Rattle.shred.specs.Dispatchers.{Drafting}
+use Rattle.shred.specs.Histories.{Asked, built_from}
+use Rattle.shred.specs.Histories as asked
+use Rattle.scene_dispatch.specs.Entries.{plain_system, local_list}
+use Rattle.scene_dispatch.specs.Told.{declared_of}
+
+-- what is asked, by what a system is for a document
+abbrev pub asked_as : {S T : Type 0} → (S → T) → Asked S → Asked T
+asked_as plain (asked.system one declared name after) = asked.system (plain one) declared name after
+asked_as plain asked.barrier = asked.barrier
+
+module _ {V : Type 0} (kinds : Kinds V) where
+  -- what a builder is asked for an entry's system: to take it, where it is staged, under its name, after those it names
+  abbrev pub asked_at : ℕ → DraftSystem → Bool → Option Facts → List (Asked PlainSystem)
+  asked_at place one local None = []
+  asked_at place one true (Some facts) = []
+  asked_at place one false (Some facts) =
+      asked.system (plain_system place one facts) (declared_of kinds place facts) one.name one.after ∷ []
+
+  -- what it is asked for entries, the first of them at a place
+  abbrev pub asked_entries : ℕ → List DraftEntry → List (Asked PlainSystem)
+  asked_entries place [] = []
+  asked_entries place (barrier ∷ entries) = asked.barrier ∷ asked_entries (suc place) entries
+  asked_entries place (system one ∷ entries) = asked_at place one one.local one.facts ++ asked_entries (suc place) entries
+
+  -- a builder is asked for what entries say, one after the other, and for nothing else
+  pub record IsBuiltOf {S : Type 0} (same : ResourceId → ResourceId → Bool) (plain : S → PlainSystem) (entries : List DraftEntry) (building : Building S) : Type 0 where
+    pub list : List (Asked S)
+    pub built : building ≡ built_from same nothing_built list
+    pub asks : map (asked_as plain) list ≡ asked_entries 1 entries
+
+  -- so it is of what a builder holds beside: its local systems are those of the entries, in their order
+  pub record IsDraftedOf {S L : Type 0} (same : ResourceId → ResourceId → Bool) (plain : S → PlainSystem) (plain_local : L → PlainSystem) (entries : List DraftEntry) (draft : Drafting S L) : Type 0 where
+    pub building : IsBuiltOf same plain entries draft.building
+    pub locals : map plain_local draft.locals ≡ local_list 1 entries

@@ -1,0 +1,20 @@
+-- The definitions that the contracts of this crate cite, in the order in which a reader needs them.
+pub use Rattle.scene_world.specs.Turns
+pub use Rattle.scene_world.specs.Chains
+pub mod Works
+pub mod Orders
+pub mod Lent
+pub mod Held
+pub mod Building
+pub mod Frames
+pub use Rattle.shred_plan.specs.Plan
+pub use Rattle.shred.specs.Histories
+pub use Rattle.scene_document.specs.Openings
+pub mod Alike
+pub mod Declaring
+pub mod Entries
+pub mod Told
+pub mod Asked
+pub use Rattle.scene_document.specs.DraftViews
+pub mod Staged
+pub mod Opened

@@ -1,7 +1,0 @@
-use Rattle.std.proofs.Common.{◌∙◌}
-use Rattle.scene_draft.proofs.ShapeLemmas.{is_some-place_of}
-use Rattle.scene_rules.specs.Declaring.{texts}
-use Rattle.scene_draft.proofs.shape.fields.is_one_of.Goals as goal
-
-pub returns : goal.returns
-returns c = c.is_some.ensures ∙ rw c.place_in.ensures.place (is_some-place_of c.args.name.now (texts c.args.names.now))

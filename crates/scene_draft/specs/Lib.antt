@@ -1,5 +1,0 @@
--- The definitions that the contracts of this crate cite, in the order in which a reader needs them.
-pub mod Drafts
-pub mod Texts
-pub mod DraftViews
-pub mod ShapeWords

@@ -1,6 +1,0 @@
-use Rattle.std.proofs.Common.{take, All}
-use Rattle.scene_frames.specs.Sparing.{AsksNoDeath}
-use Rattle.scene_frames.proofs.commands.has_kill.Given as goal
-
-abbrev pub invariant-loop-command : goal.invariant-loop-command
-invariant-loop-command g l = All AsksNoDeath (take l.command-index l.commands)

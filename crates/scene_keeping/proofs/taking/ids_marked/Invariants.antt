@@ -1,9 +1,0 @@
-use Rattle.std.proofs.Common.{take}
-use Rattle.scene_turns.specs.Places.{kinds_of}
-use Rattle.scene_world.specs.Standing.{roll_of}
-use Rattle.scene_acts.specs.Acts.{seen_of}
-use Rattle.scene_keeping.specs.Taken.{AreMarkedBy}
-use Rattle.scene_keeping.proofs.taking.ids_marked.Given as goal
-
-abbrev pub invariant-loop-entity : goal.invariant-loop-entity
-invariant-loop-entity g l = AreMarkedBy (roll_of (kinds_of g.R.Value.SceneValue.places g.R.DocumentRules.part_of g.R.Rules.columns) (seen_of l.world)) (take l.entity-index l.named) l.ids.items

@@ -1,4 +1,0 @@
-pub mod IdLemmas
-pub mod PlaceLemmas
-pub mod KeptLemmas
-pub mod CallerLemmas

@@ -1,8 +1,0 @@
-use Rattle.std.proofs.Common.{map, drop}
-use Rattle.scene_loading.specs.Entries.{with_entities}
-use Rattle.scene_turns.specs.Places.{kinds_of}
-use Rattle.scene_loading.specs.Becoming.{Becomes}
-use Rattle.scene_loading.proofs.entering.enter_entities.Given as goal
-
-abbrev pub invariant-loop-index : goal.invariant-loop-index
-invariant-loop-index g l = Becomes (kinds_of g.R.Value.SceneValue.places g.R.DocumentRules.part_of g.R.Rules.columns) (with_entities (map (λ entity. entity.id) (drop l.index l.entities))) l.initial.world l.world

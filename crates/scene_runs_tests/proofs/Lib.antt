@@ -1,4 +1,0 @@
-pub mod AloneLemmas
-pub mod RestLemmas
-pub mod WatchLemmas
-pub mod GateLemmas

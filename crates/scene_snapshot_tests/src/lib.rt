@@ -1,5 +1,0 @@
-//! The text of a scene that is kept, of the program's rules.
-#![tactic(auto)]
-
-#[cfg(test)]
-mod texts;

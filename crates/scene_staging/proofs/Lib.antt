@@ -1,3 +1,0 @@
-pub mod StagedLemmas
-pub mod StoodLemmas
-pub mod CallerLemmas

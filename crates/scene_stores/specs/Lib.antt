@@ -1,4 +1,0 @@
-pub mod Stores
-pub mod Changes
-pub mod StoreLemmas
-pub mod Markers

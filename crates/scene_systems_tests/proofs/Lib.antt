@@ -1,2 +1,0 @@
-pub mod TwiceLemmas
-pub mod BareLemmas

@@ -1,3 +1,0 @@
-pub mod ColumnLemmas
-pub mod DriftLemmas
-pub mod TurnLemmas

@@ -1,3 +1,0 @@
-pub mod Drifts
-pub mod Drifting
-pub mod DriftingLaws

@@ -1,0 +1,207 @@
+//! What a world of a scene holds beside the parts and globals of its rules.
+ghost use Rattle.std.specs.Prelude.{◌≡◌, ℕ, Some, None, IfOk, IfErr, IfSome, IfNone, option_copied};
+ghost use Rattle.std.specs.Option.{option_and_then};
+ghost use Rattle.shred_world.specs.ResourceIds.{id_of};
+ghost use Rattle.scene_world.specs.Markers.{marker_at};
+
+use crate::{SceneMarker, SceneMarkerAllocator};
+use scene_model::Queue;
+use shred_world::{Resource, ResourceId};
+use specs_entity::EntitiesRes;
+use specs_layouts::MaskedStorage;
+
+/// A type of values in one kind of which lies a queue of commands.
+///
+/// It is what `Resource` is to other types, without a way to write a queue in its place: a queue names the kinds of parts by
+/// references, and those can't be lent for writing under a contract.
+pub trait QueueValue<D: Drop>: Sized {
+    ghost use Rattle.std.specs.Prelude.{ℕ, Option};
+    ghost use Rattle.scene_model.specs.declared.command.Queue.{Queue as Waiting};
+
+    /// The kind number.
+    ghost kind_number: { ℕ };
+
+    /// The value that holds a queue.
+    ghost wrapped: { Waiting D → Self };
+
+    /// The queue that a value holds, if it holds one.
+    ghost part: { Self → Option (Waiting D) };
+
+    /// The kind number, which no resource of these values has.
+    fn kind() -> u32
+        ensures { result ≡ kind_number };
+
+    /// Makes the value that holds a queue.
+    fn wrap_queue(queue: Queue<D>) -> Self
+        ensures { result ≡ wrapped queue };
+
+    /// Takes the queue out of a value, or hands back a value that holds none.
+    fn unwrap_queue(value: Self) -> Result<Queue<D>, Self>
+        ensures queue { IfOk result (λ queue. part value ≡ Some queue) }
+        ensures handed_back { IfErr result (λ other. other ≡ value) };
+
+    /// A queue that was put in is seen again.
+    ghost seen: { (queue : Waiting D) → part (wrapped queue) ≡ Some queue };
+}
+
+/// A type of values that hold the entities of a scene, their markers, the allocator of ids, and a queue of commands
+/// for each system.
+///
+/// A type of values is one where each of these is a resource of it; there is nothing else to write.
+pub trait SceneValue<D: Drop>: Sized {
+    ghost use Rattle.scene_world.specs.Places.{Places};
+
+    /// Where they stand, and what is read of them.
+    ghost places: { Places Self D };
+
+    /// Where the entities stand.
+    fn entities_id() -> ResourceId
+        ensures { result ≡ places.entities_id };
+
+    /// Where the markers stand.
+    fn markers_id() -> ResourceId
+        ensures { result ≡ places.markers_id };
+
+    /// Where the allocator of ids stands.
+    fn allocator_id() -> ResourceId
+        ensures { result ≡ places.allocator_id };
+
+    /// Where the queue of the system at a place stands.
+    fn queue_id(position: u32) -> ResourceId
+        ensures { result ≡ places.queue_id position };
+
+    /// The value that holds a queue.
+    fn wrap_queue(queue: Queue<D>) -> Self
+        ensures value { result ≡ places.queue_value queue }
+        ensures read { places.queue result ≡ Some queue };
+
+    /// Takes the queue out of a value, or hands back a value that holds none.
+    fn unwrap_queue(value: Self) -> Result<Queue<D>, Self>
+        ensures queue { IfOk result (λ queue. places.queue value ≡ Some queue) }
+        ensures handed_back { IfErr result (λ other. other ≡ value) };
+
+    /// The entities that a value holds, if it holds them.
+    fn entities(value: &Self) -> Option<&EntitiesRes>
+        ensures { option_copied result ≡ places.births value.now };
+
+    /// The value that holds entities.
+    fn wrap_entities(entities: EntitiesRes) -> Self
+        ensures { places.births result ≡ Some entities };
+
+    /// Takes the entities out of a value, or hands back a value that holds none.
+    fn unwrap_entities(value: Self) -> Result<EntitiesRes, Self>
+        ensures entities { IfOk result (λ entities. places.births value ≡ Some entities) }
+        ensures handed_back { IfErr result (λ other. other ≡ value) };
+
+    /// The markers that a value holds, if it holds them.
+    fn markers(value: &Self) -> Option<&MaskedStorage<SceneMarker>>
+        ensures some { IfSome result (λ markers. (index : ℕ)
+            → places.marker value.now index ≡ marker_at markers.now index) }
+        ensures none { IfNone result ((index : ℕ) → places.marker value.now index ≡ None) };
+
+    /// The value that holds markers.
+    fn wrap_markers(markers: MaskedStorage<SceneMarker>) -> Self
+        ensures { (index : ℕ) → places.marker result index ≡ marker_at markers index };
+
+    /// Takes the markers out of a value, or hands back a value that holds none.
+    fn unwrap_markers(value: Self) -> Result<MaskedStorage<SceneMarker>, Self>
+        ensures markers { IfOk result (λ markers. (index : ℕ)
+            → places.marker value index ≡ marker_at markers index) }
+        ensures handed_back { IfErr result (λ other. other ≡ value) };
+
+    /// The allocator of ids that a value holds, if it holds it.
+    fn allocator(value: &Self) -> Option<&SceneMarkerAllocator>
+        ensures { option_copied result ≡ places.noting value.now };
+
+    /// The value that holds an allocator of ids.
+    fn wrap_allocator(allocator: SceneMarkerAllocator) -> Self
+        ensures { places.noting result ≡ Some allocator };
+
+    /// Takes the allocator of ids out of a value, or hands back a value that holds none.
+    fn unwrap_allocator(value: Self) -> Result<SceneMarkerAllocator, Self>
+        ensures allocator { IfOk result (λ allocator. places.noting value ≡ Some allocator) }
+        ensures handed_back { IfErr result (λ other. other ≡ value) };
+}
+
+impl<V: QueueValue<D> + Drop, D: Drop> SceneValue<D> for V
+where
+    EntitiesRes: Resource<V>,
+    MaskedStorage<SceneMarker>: Resource<V>,
+    SceneMarkerAllocator: Resource<V>,
+{
+    ghost places = { record {
+      entities_id = id_of ⟦<EntitiesRes as Resource<V>>⟧.kind_number 0;
+      markers_id = id_of ⟦<MaskedStorage<SceneMarker> as Resource<V>>⟧.kind_number 0;
+      allocator_id = id_of ⟦<SceneMarkerAllocator as Resource<V>>⟧.kind_number 0;
+      queue_id = λ position. id_of ⟦<V as QueueValue<D>>⟧.kind_number position;
+      births = ⟦<EntitiesRes as Resource<V>>⟧.part;
+      marker = λ v index. option_and_then (λ markers. marker_at markers index)
+          (⟦<MaskedStorage<SceneMarker> as Resource<V>>⟧.part v);
+      noting = ⟦<SceneMarkerAllocator as Resource<V>>⟧.part;
+      queue = ⟦<V as QueueValue<D>>⟧.part;
+      queue_value = ⟦<V as QueueValue<D>>⟧.wrapped;
+    } };
+
+    fn entities_id() -> ResourceId {
+        ResourceId::new::<V, EntitiesRes>()
+    }
+
+    fn markers_id() -> ResourceId {
+        ResourceId::new::<V, MaskedStorage<SceneMarker>>()
+    }
+
+    fn allocator_id() -> ResourceId {
+        ResourceId::new::<V, SceneMarkerAllocator>()
+    }
+
+    fn queue_id(position: u32) -> ResourceId {
+        ResourceId::from_type_id_and_dynamic_id(<V as QueueValue<D>>::kind(), u64::from(position))
+    }
+
+    fn wrap_queue(queue: Queue<D>) -> V
+        ensures value { result ≡ ⟦<V as QueueValue<D>>⟧.wrapped queue }
+        ensures read { ⟦<V as QueueValue<D>>⟧.part result ≡ Some queue }
+    {
+        <V as QueueValue<D>>::wrap_queue(queue)
+    }
+
+    fn unwrap_queue(value: V) -> Result<Queue<D>, V> {
+        <V as QueueValue<D>>::unwrap_queue(value)
+    }
+
+    fn entities(value: &V) -> Option<&EntitiesRes> {
+        <EntitiesRes as Resource<V>>::view(value)
+    }
+
+    fn wrap_entities(entities: EntitiesRes) -> V {
+        entities.wrap()
+    }
+
+    fn unwrap_entities(value: V) -> Result<EntitiesRes, V> {
+        <EntitiesRes as Resource<V>>::unwrap(value)
+    }
+
+    fn markers(value: &V) -> Option<&MaskedStorage<SceneMarker>> {
+        <MaskedStorage<SceneMarker> as Resource<V>>::view(value)
+    }
+
+    fn wrap_markers(markers: MaskedStorage<SceneMarker>) -> V {
+        markers.wrap()
+    }
+
+    fn unwrap_markers(value: V) -> Result<MaskedStorage<SceneMarker>, V> {
+        <MaskedStorage<SceneMarker> as Resource<V>>::unwrap(value)
+    }
+
+    fn allocator(value: &V) -> Option<&SceneMarkerAllocator> {
+        <SceneMarkerAllocator as Resource<V>>::view(value)
+    }
+
+    fn wrap_allocator(allocator: SceneMarkerAllocator) -> V {
+        allocator.wrap()
+    }
+
+    fn unwrap_allocator(value: V) -> Result<SceneMarkerAllocator, V> {
+        <SceneMarkerAllocator as Resource<V>>::unwrap(value)
+    }
+}

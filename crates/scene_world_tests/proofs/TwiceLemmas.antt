@@ -1,0 +1,76 @@
+-- Two turns of drift over a scene.
+use Rattle.std.proofs.Common.{◌≡◌, ℕ, zero, suc, true, List, [], ◌∷◌, All, inl, inr, refl, ap, ◌∙◌, subst, arith}
+use Rattle.std.specs.Prelude.{Result, Ok, Err, OnOk}
+use Rattle.shred_world.specs.Bundles.{Holding}
+use Rattle.shred.specs.Dispatching.{Dispatching}
+use Rattle.scene_model.specs.declared.refusals.FrameRefusal.{FrameRefusal}
+use Rattle.scene_model.specs.declared.refusals.FrameRefusal.TheVariants.{System, GoneReference, IdsSpent, IndicesSpent, GenerationsSpent, TooManyCommands, Memory, Threads}
+use Rattle.scene_model.specs.Parts.{Name, is_among}
+use Rattle.scene_model.specs.Rulebook.{Command}
+use Rattle.scene_model.specs.Scenes.{PlainScene, Steps}
+use Rattle.scene_model.specs.Frames.{Queues, SystemsRun}
+use Rattle.scene_world.specs.Lent.{AreKnown}
+use Rattle.scene_world.specs.Standing.{seen_in, plain_of}
+use Rattle.scene_world_tests.specs.Drifting.{drift_access, drifting_book, moved_part, pos_name, vel_name}
+use Rattle.scene_world_tests.specs.declared.turns.values.Value.{Value}
+use Rattle.scene_dispatch.specs.Orders.{turn_order}
+use Rattle.scene_dispatch.specs.Frames.{AreRefused, Come}
+use Rattle.scene_world_tests.specs.Twice.{drifting_kinds, drift_at, drift_meaning, two_drifts, DriftsTwice, IsWant}
+
+-- the rules know what drift declares
+pub drift-known : AreKnown drifting_kinds drift_access
+drift-known = record { reads = one vel_name refl; writes = one pos_name refl; read_globals = λ k d h. absurd (omega arith); written_globals = λ k d h. absurd (omega arith) }
+  where
+    one : (name : Name) → is_among name drifting_kinds.part_names ≡ true → All (λ kind. is_among kind drifting_kinds.part_names ≡ true) (name ∷ [])
+    one name known zero d h = known
+    one name known (suc k) d h = absurd (omega arith)
+
+-- what one turn leaves
+pub record DriftsOnce (scene after : PlainScene) : Type 0 where
+  pub ids : after.ids ≡ scene.ids
+  pub positions : (id : ℕ) → after.part id pos_name ≡ moved_part (scene.part id pos_name) (scene.part id vel_name)
+  pub velocities : (id : ℕ) → after.part id vel_name ≡ scene.part id vel_name
+
+drifts-once : (position : ℕ) (scene after : PlainScene) (commands : List Command) → Steps drifting_book (drift_at position) scene after commands → DriftsOnce scene after
+drifts-once position scene after commands (left, (drifted, none), lawful, is) = record {
+  ids = ap (λ (s : PlainScene). s.ids) is;
+  positions = λ id. ap (λ (s : PlainScene). s.part id pos_name) is ∙ drifted.positions id;
+  velocities = λ id. ap (λ (s : PlainScene). s.part id vel_name) is;
+}
+
+-- two turns
+pub drifts-twice : (scene after : PlainScene) (queues : Queues) → SystemsRun drifting_book two_drifts scene after queues → DriftsTwice scene after
+drifts-twice scene after queues (mid, commands, rest, step, (last, more, others, next, (same, none), are), all) = record {
+  ids = ap (λ (s : PlainScene). s.ids) same ∙ second.ids ∙ first.ids;
+  positions = λ id. ap (λ (s : PlainScene). s.part id pos_name) same ∙ second.positions id
+      ∙ ap (λ p. moved_part p (mid.part id vel_name)) (first.positions id) ∙ ap (moved_part (moved_part (scene.part id pos_name) (scene.part id vel_name))) (first.velocities id);
+  velocities = λ id. ap (λ (s : PlainScene). s.part id vel_name) same ∙ second.velocities id ∙ first.velocities id;
+}
+  where
+    first : DriftsOnce scene mid
+    first = drifts-once 1 scene mid commands step
+
+    second : DriftsOnce mid last
+    second = drifts-once 2 mid last more next
+
+-- drift refuses nothing and asks for nothing, so only memory or a thread can be wanting
+pub only-wants : (scene : PlainScene) (cause : FrameRefusal) → AreRefused drifting_book two_drifts scene cause → IsWant cause
+only-wants scene (System position text) (inl (at, did)) = did
+only-wants scene (System position text) (inr (mid, commands, step, inl (at, did))) = did
+only-wants scene (System position text) (inr (mid, commands, step, inr (last, more, next, none))) = none
+only-wants scene (GoneReference id) refused = refused
+only-wants scene IdsSpent refused = refused
+only-wants scene IndicesSpent refused = refused
+only-wants scene GenerationsSpent refused = refused
+only-wants scene TooManyCommands (inl (commands, filled)) = filled.0
+only-wants scene TooManyCommands (inr (mid, commands, step, inl (more, filled))) = filled.0
+only-wants scene TooManyCommands (inr (mid, commands, step, inr (last, more, next, none))) = none
+only-wants scene Memory refused = tt
+only-wants scene Threads refused = tt
+
+-- so it is after a frame in which the two take their turns
+pub frame-drifts : {P A : Type 0} (position : P → ℕ) (before after : Dispatching P P) (w w_after : Holding Value) (result : Result A FrameRefusal) → turn_order (drift_meaning position).plain before ≡ two_drifts
+    → Come drifting_kinds (drift_meaning position) drifting_book before w result after w_after → OnOk result (DriftsTwice (plain_of drifting_kinds (seen_in w)) (plain_of drifting_kinds (seen_in w_after)))
+frame-drifts position before after w w_after (Ok a) order come =
+    drifts-twice _ _ come.queues (subst (λ systems. SystemsRun drifting_book systems (plain_of drifting_kinds (seen_in w)) (plain_of drifting_kinds (seen_in w_after)) come.queues) order come.systems)
+frame-drifts position before after w w_after (Err cause) order come = tt

@@ -1,0 +1,9 @@
+pub mod Weights
+pub mod Drifts
+pub mod Drifting
+pub mod DriftingLaws
+pub mod Twice
+pub mod Holdings
+pub mod Owning
+pub mod OwningLaws
+pub mod Apart

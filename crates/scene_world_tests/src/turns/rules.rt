@@ -1,0 +1,119 @@
+//! Rules with two kinds of parts and one system, which moves positions by velocities.
+ghost use Rattle.std.specs.Prelude.{◌≡◌, refl};
+ghost use Rattle.scene_world.specs.Turns.{sense_of};
+ghost use Rattle.scene_world_tests.specs.Drifting.{drifting_book, drifting_columns, Drifts, drifting-apart};
+
+use crate::turns::columns::{
+    position_datum, put_position, put_velocity, register_both, take_position, take_velocity,
+    velocity_datum,
+};
+use crate::turns::drift::drift_all;
+use crate::turns::values::Value;
+use scene_model::Queue;
+use scene_world::{Rules, Store};
+use shred_stages::Stop;
+use shred_world::{Holder, ResourceId, World};
+use specs_entity::Entity;
+use std::alloc::{AllocError, Global};
+
+/// Rules under which entities have a position and a velocity.
+#[derive(Clone, Copy, Debug)]
+pub struct Drifting;
+
+/// The system: each position gains the velocity of its entity.
+#[derive(Drop)]
+pub struct Drift;
+
+impl Rules for Drifting {
+    type Value = Value;
+
+    ghost columns = { drifting_columns };
+
+    ghost sense = { λ _. sense_of drifting_book };
+
+    ghost does = { λ _. Drifts };
+
+    ghost named_so = { λ _. record { parts = refl; globals = refl } };
+
+    ghost apart = { drifting-apart };
+
+    ghost of_book = { λ rules system made. record { is = tt; sense_so = refl; does_so = λ f o did. did } };
+
+    fn part_id(kind: &str) -> ResourceId {
+        if kind == "pos" {
+            ResourceId::from_type_id(4)
+        } else {
+            ResourceId::from_type_id(5)
+        }
+    }
+
+    fn global_id(_name: &str) -> ResourceId {
+        ResourceId::from_type_id(6)
+    }
+
+    fn register(world: &mut World<Value>, store: Store, alloc: Global) -> Result<(), AllocError> {
+        register_both(world, store, alloc)
+    }
+
+    fn put(
+        value: &mut Value,
+        kind: &str,
+        index: u32,
+        datum: &u64,
+        _named: &[Entity],
+    ) -> Result<(), AllocError> {
+        if kind == "pos" {
+            put_position(value, index, *datum)
+        } else {
+            put_velocity(value, index, *datum)
+        }
+    }
+
+    fn take(value: &mut Value, kind: &str, index: u32) -> Result<(), AllocError> {
+        if kind == "pos" {
+            take_position(value, index)
+        } else {
+            take_velocity(value, index)
+        }
+    }
+
+    fn named_at(
+        _value: &Value,
+        _kind: &str,
+        _index: u32,
+        _named: &mut Vec<Entity>,
+    ) -> Result<(), AllocError> {
+        Ok(())
+    }
+
+    fn get(
+        value: &Value,
+        kind: &str,
+        index: u32,
+        _ids: &[u64],
+        _alloc: Global,
+    ) -> Result<Option<u64>, AllocError> {
+        if kind == "pos" {
+            Ok(position_datum(value, index))
+        } else {
+            Ok(velocity_datum(value, index))
+        }
+    }
+
+    fn to_value(_name: &str, _global: u64) -> Option<Value> {
+        None
+    }
+
+    fn as_global<'a>(_name: &str, _value: &'a Value) -> Option<&'a u64> {
+        None
+    }
+
+    fn run<H: AllocGlobal, W: Holder<Value>>(
+        _rt: &H,
+        _system: &mut Drift,
+        view: &mut W,
+        _queue: &mut Queue<u64>,
+    ) -> Result<(), Stop> {
+        drift_all(view)
+    }
+}

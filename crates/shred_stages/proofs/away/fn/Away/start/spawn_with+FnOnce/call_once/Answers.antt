@@ -1,0 +1,6 @@
+use Rattle.shred_stages.proofs.away.fn.Away.start.spawn_with+FnOnce.call_once.Goals as goal
+
+pub spawn_with-requires : goal.spawn_with-requires
+spawn_with-requires g c =
+    let bounds = c.requires.1.1.1.1 in
+    (bounds.0, (bounds.1, (bounds.2, (bounds.3, (bounds.4, c.requires.1.1.1.0)))))

@@ -1,4 +1,0 @@
-pub mod StoreLemmas
-pub mod TakingLemmas
-pub mod ChangeLemmas
-pub mod LawLemmas

@@ -1,5 +1,0 @@
-use Rattle.specs_changes.specs.Changes.{change_at, AddsAll}
-use Rattle.specs_changes.proofs.changeset.ChangeSet.extend_pairs.Given as goal
-
-abbrev pub invariant-loop-entity : goal.invariant-loop-entity
-invariant-loop-entity g l = AddsAll g.T.Accumulate.sum g.T.Accumulate.fits (change_at l.fn.self) l.yielded (change_at l.self)

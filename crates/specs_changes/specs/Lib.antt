@@ -1,4 +1,0 @@
-pub mod Storing
-pub mod Changes
-pub mod Taking
-pub mod TakeIters

@@ -1,2 +1,0 @@
-pub mod PlaceSteps
-pub mod SinceLemmas

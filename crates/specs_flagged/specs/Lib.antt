@@ -1,2 +1,0 @@
-pub mod Flagged
-pub mod FlaggedLemmas

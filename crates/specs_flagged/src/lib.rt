@@ -1,6 +1,0 @@
-//! Storages that tell of each change of their parts.
-#![tactic(auto)]
-
-pub mod flagged;
-
-pub use flagged::FlaggedStorage;

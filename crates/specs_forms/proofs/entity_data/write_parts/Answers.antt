@@ -1,6 +1,0 @@
-use Rattle.std.proofs.Common.{[]}
-use Rattle.specs_forms.proofs.PartsLemmas.{parts-written}
-use Rattle.specs_forms.proofs.entity_data.write_parts.Goals as goal
-
-pub returns-clause-written : goal.returns-clause-written
-returns-clause-written g c = parts-written g.D.PartForms.rest_of (g.D.PartForms.forms c.args.parts.now) (c.in_ok-values.ensures.written [])

@@ -1,4 +1,0 @@
-pub mod CallerLemmas
-pub mod JobLemmas
-pub mod QueueLemmas
-pub mod RunLemmas

@@ -1,4 +1,0 @@
-pub mod Building
-pub mod Jobs
-pub mod Maintaining
-pub mod Queues

@@ -1,0 +1,28 @@
+use Rattle.std.proofs.Common.{◌++◌}
+use Rattle.std.proofs.lemmas.Result.{IfErr-weaker, on_ok_weaker}
+use Rattle.specs_saveload.specs.LoadingLemmas.{three-of}
+use Rattle.specs_saveload.proofs.LoadLemmas.{asks-both, goes-both, refused-left, refused-right}
+use Rattle.specs_saveload.proofs.deserialize.Tuple3DeserializeComponents.deserialize_entity.Goals as goal
+
+pub returns-in-Ok-clause-ok : goal.returns-in-Ok-clause-ok
+returns-in-Ok-clause-ok g c =
+    on_ok_weaker c.load_two.result
+    (λ two alive. three-of _ _ _ _ _ _
+    (g.met.A.DeserializeComponents.kept _ _ c.args.saved.0 _ c.load_two.ensures.keeps.keeps (c.in-Ok.ensures.ok alive))
+    (two (c.deserialize_entity.ensures.keeps.live_on c.args.entity alive)))
+    c.load_two.ensures.ok
+
+pub returns-in-Ok-clause-adds : goal.returns-in-Ok-clause-adds
+returns-in-Ok-clause-adds g c =
+    on_ok_weaker c.load_two.result (asks-both _ _ _ _ _ _ _ _ c.in-Ok.ensures.adds c.load_two.ensures.keeps) c.load_two.ensures.adds
+
+pub returns-in-Ok-clause-keeps : goal.returns-in-Ok-clause-keeps
+returns-in-Ok-clause-keeps g c = goes-both _ _ _ _ _ c.deserialize_entity.ensures.keeps c.load_two.ensures.keeps
+
+pub returns-in-Ok-clause-refused : goal.returns-in-Ok-clause-refused
+returns-in-Ok-clause-refused g c =
+    IfErr-weaker c.load_two.result _ _ (refused-right g.G.MarkerAllocator.refuses g.M.Marker.id_of c.load_two.new.entities c.load_two.new.allocator (g.A.DeserializeComponents.markers_of c.args.saved.0) (g.B.DeserializeComponents.markers_of c.args.saved.1 ++ g.C.DeserializeComponents.markers_of c.args.saved.2)) c.load_two.ensures.refused
+
+pub returns-in-Err-clause-refused : goal.returns-in-Err-clause-refused
+returns-in-Err-clause-refused g c =
+    refused-left g.G.MarkerAllocator.refuses g.M.Marker.id_of c.deserialize_entity.new.entities c.deserialize_entity.new.allocator (g.A.DeserializeComponents.markers_of c.args.saved.0) (g.B.DeserializeComponents.markers_of c.args.saved.1 ++ g.C.DeserializeComponents.markers_of c.args.saved.2) c.in-Err.error c.in-Err.ensures.refused

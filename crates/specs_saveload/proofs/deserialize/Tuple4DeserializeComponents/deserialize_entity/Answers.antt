@@ -1,0 +1,39 @@
+use Rattle.std.proofs.Common.{◌++◌}
+use Rattle.std.proofs.lemmas.Result.{IfErr-weaker, on_ok_weaker}
+use Rattle.specs_saveload.specs.LoadingLemmas.{both-are, both-kept}
+use Rattle.specs_saveload.proofs.LoadLemmas.{asks-both, goes-both, refused-left, refused-right}
+use Rattle.specs_saveload.proofs.deserialize.Tuple4DeserializeComponents.deserialize_entity.Goals as goal
+
+pub returns-in-Ok-clause-ok : goal.returns-in-Ok-clause-ok
+returns-in-Ok-clause-ok g c =
+    on_ok_weaker c.load_two-in-Ok.result
+    (λ two alive. both-are _ _ _ _
+    (both-kept _ _ _ _ _
+    (λ part. g.met.A.DeserializeComponents.kept _ _ c.args.saved.0.0 part c.load_two-in-Ok.ensures.keeps.keeps)
+    (λ part. g.met.B.DeserializeComponents.kept _ _ c.args.saved.0.1 part c.load_two-in-Ok.ensures.keeps.keeps)
+    (c.in-Ok.ensures.ok alive))
+    (two (c.load_two.ensures.keeps.live_on c.args.entity alive)))
+    c.load_two-in-Ok.ensures.ok
+
+pub returns-in-Ok-clause-adds : goal.returns-in-Ok-clause-adds
+returns-in-Ok-clause-adds g c =
+    on_ok_weaker c.load_two-in-Ok.result (asks-both _ _ _ _ _ _ _ _ c.in-Ok.ensures.adds c.load_two-in-Ok.ensures.keeps) c.load_two-in-Ok.ensures.adds
+
+pub returns-in-Ok-clause-keeps : goal.returns-in-Ok-clause-keeps
+returns-in-Ok-clause-keeps g c = goes-both _ _ _ _ _ c.load_two.ensures.keeps c.load_two-in-Ok.ensures.keeps
+
+pub returns-in-Ok-clause-dead : goal.returns-in-Ok-clause-dead
+returns-in-Ok-clause-dead g c gone index =
+    let one = c.load_two.ensures.dead (λ alive. gone (c.load_two-in-Ok.ensures.keeps.live_on c.args.entity alive)) index in
+    let two = c.load_two.ensures.dead_too (λ alive. gone (c.load_two-in-Ok.ensures.keeps.live_on c.args.entity alive)) index in
+    let three = c.load_two-in-Ok.ensures.dead gone index in
+    let four = c.load_two-in-Ok.ensures.dead_too gone index in
+    λ i. ((one i, two i), (three i, four i))
+
+pub returns-in-Ok-clause-refused : goal.returns-in-Ok-clause-refused
+returns-in-Ok-clause-refused g c =
+    IfErr-weaker c.load_two-in-Ok.result _ _ (refused-right g.G.MarkerAllocator.refuses g.M.Marker.id_of c.load_two-in-Ok.new.entities c.load_two-in-Ok.new.allocator (g.A.DeserializeComponents.markers_of c.args.saved.0.0 ++ g.B.DeserializeComponents.markers_of c.args.saved.0.1) (g.C.DeserializeComponents.markers_of c.args.saved.1.0 ++ g.D.DeserializeComponents.markers_of c.args.saved.1.1)) c.load_two-in-Ok.ensures.refused
+
+pub returns-in-Err-clause-refused : goal.returns-in-Err-clause-refused
+returns-in-Err-clause-refused g c =
+    refused-left g.G.MarkerAllocator.refuses g.M.Marker.id_of c.load_two.new.entities c.load_two.new.allocator (g.A.DeserializeComponents.markers_of c.args.saved.0.0 ++ g.B.DeserializeComponents.markers_of c.args.saved.0.1) (g.C.DeserializeComponents.markers_of c.args.saved.1.0 ++ g.D.DeserializeComponents.markers_of c.args.saved.1.1) c.in-Err.error c.in-Err.ensures.refused

@@ -1,0 +1,27 @@
+use Rattle.std.proofs.lemmas.Result.{IfErr-weaker, on_ok_weaker}
+use Rattle.specs_saveload.specs.LoadingLemmas.{both-are}
+use Rattle.specs_saveload.proofs.LoadLemmas.{asks-both, goes-both, refused-left, refused-right}
+use Rattle.specs_saveload.proofs.deserialize.load_two.Goals as goal
+
+pub returns-in-Ok-clause-ok : goal.returns-in-Ok-clause-ok
+returns-in-Ok-clause-ok g c =
+    on_ok_weaker c.deserialize_entity-in-Ok.result
+    (λ second alive. both-are _ _ _ _
+    (g.met.A.DeserializeComponents.kept _ _ c.args.saved.0 _ c.deserialize_entity-in-Ok.ensures.keeps.keeps (c.in-Ok.ensures.ok alive))
+    (second (c.deserialize_entity.ensures.keeps.live_on c.args.entity alive)))
+    c.deserialize_entity-in-Ok.ensures.ok
+
+pub returns-in-Ok-clause-adds : goal.returns-in-Ok-clause-adds
+returns-in-Ok-clause-adds g c =
+    on_ok_weaker c.deserialize_entity-in-Ok.result (asks-both _ _ _ _ _ _ _ _ c.in-Ok.ensures.adds c.deserialize_entity-in-Ok.ensures.keeps) c.deserialize_entity-in-Ok.ensures.adds
+
+pub returns-in-Ok-clause-keeps : goal.returns-in-Ok-clause-keeps
+returns-in-Ok-clause-keeps g c = goes-both _ _ _ _ _ c.deserialize_entity.ensures.keeps c.deserialize_entity-in-Ok.ensures.keeps
+
+pub returns-in-Ok-clause-refused : goal.returns-in-Ok-clause-refused
+returns-in-Ok-clause-refused g c =
+    IfErr-weaker c.deserialize_entity-in-Ok.result _ _ (refused-right g.G.MarkerAllocator.refuses g.M.Marker.id_of c.deserialize_entity-in-Ok.new.entities c.deserialize_entity-in-Ok.new.allocator (g.A.DeserializeComponents.markers_of c.args.saved.0) (g.B.DeserializeComponents.markers_of c.args.saved.1)) c.deserialize_entity-in-Ok.ensures.refused
+
+pub returns-in-Err-clause-refused : goal.returns-in-Err-clause-refused
+returns-in-Err-clause-refused g c =
+    refused-left g.G.MarkerAllocator.refuses g.M.Marker.id_of c.deserialize_entity.new.entities c.deserialize_entity.new.allocator (g.A.DeserializeComponents.markers_of c.args.saved.0) (g.B.DeserializeComponents.markers_of c.args.saved.1) c.in-Err.error c.in-Err.ensures.refused

@@ -1,0 +1,141 @@
+//! The forms of an entity's parts, each of which may be absent.
+ghost use Rattle.std.specs.Prelude.{◌≡◌, ◌++◌, List, map, Option, None, Some, IfOk, OnOk, IsErrOf};
+ghost use Rattle.serde_json.specs.Data.{Data};
+ghost use Rattle.serde_json.specs.View.{view};
+ghost use Rattle.specs_saveload.specs.declared.form.FormError.TheVariants as refusal;
+
+use crate::form::{FormError, JsonForm};
+use serde_json::Value;
+use std::alloc::{AllocError, Global};
+
+/// The parts of a saved entity, one after the other, each there or absent: a part that may be, or a pair or three of
+/// such, which nest.
+///
+/// Written they are items of a list, with `null` for an absent part.
+pub trait PartForms: Drop + Sized {
+    /// The JSON of each part.
+    ghost forms: { Self → List Data };
+
+    /// What follows the parts in a list of JSON, or none where it doesn't begin with such.
+    ghost rest_of: { List Data → Option (List Data) };
+
+    /// What is true of all parts, and is known once they are written or read.
+    ghost is_value: { Self → Type 0 };
+
+    /// Two of them are the same to whoever reads them.
+    ghost same: { Self → Self → Type 0 };
+
+    /// Puts the JSON of each part behind a list.
+    ///
+    /// Errors: `AllocError`, and the list is dropped.
+    fn write(&self, alloc: Global, values: Vec<Value>) -> Result<Vec<Value>, AllocError>
+        ensures ok { IfOk result (λ all. map view all.items ≡ map view values.items ++ forms self.now) }
+        ensures written { OnOk result ((rest : List Data) → rest_of (forms self.now ++ rest) ≡ Some rest) }
+        ensures fits { OnOk result (is_value self.now) };
+
+    /// The parts with which a list begins, and what follows them.
+    ///
+    /// Errors: `Shape` if it begins with no such; `Memory`.
+    fn read<'v>(alloc: Global, values: &'v [Value]) -> Result<(Self, &'v [Value]), FormError>
+        ensures ok { IfOk result (λ read. forms read.0 ++ map view read.1.now ≡ map view values.now) }
+        ensures known { IfOk result (λ read. rest_of (map view values.now) ≡ Some (map view read.1.now)) }
+        ensures fits { IfOk result (λ read. is_value read.0) }
+        ensures shape { IsErrOf result refusal.Shape → rest_of (map view values.now) ≡ None };
+
+    /// Parts with one form are the same, whatever follows them.
+    ghost told_apart: { (one other : Self) (rest left : List Data) → is_value one → is_value other
+        → forms one ++ rest ≡ forms other ++ left → same one other × (rest ≡ left) };
+}
+
+/// The part's form, or `null`.
+impl<T: JsonForm> PartForms for Option<T> {
+    ghost use Rattle.specs_saveload.specs.Plain.{same_option, OptionAll};
+    ghost use Rattle.specs_saveload.specs.Parts.{part_form, part_rest};
+    ghost use Rattle.specs_saveload.specs.PartLemmas.{part-apart};
+
+    ghost forms = { part_form T.form };
+
+    ghost rest_of = { part_rest T.is_form };
+
+    ghost is_value = { OptionAll T.is_value };
+
+    ghost same = { same_option T.same };
+
+    fn write(&self, alloc: Global, mut values: Vec<Value>) -> Result<Vec<Value>, AllocError> {
+        match self {
+            Some(part) => values.push(part.to_value(alloc)?)?,
+            None => values.push(Value::Null)?,
+        }
+        Ok(values)
+    }
+
+    fn read<'v>(alloc: Global, values: &'v [Value]) -> Result<(Option<T>, &'v [Value]), FormError> {
+        let Some((first, rest)) = values.split_first() else {
+            return Err(FormError::Shape);
+        };
+        if first.is_null() {
+            return Ok((None, rest));
+        }
+        let part = T::from_value(alloc, first)?;
+        Ok((Some(part), rest))
+    }
+
+    ghost told_apart = { part-apart T.form T.is_value T.same T.told_apart T.never_null };
+}
+
+/// First the one's, then the other's.
+impl<P: PartForms, Q: PartForms> PartForms for (P, Q) {
+    ghost use Rattle.std.specs.Prelude.{◌++◌, option_and_then};
+    ghost use Rattle.specs_saveload.specs.PartLemmas.{both-apart};
+
+    ghost forms = { λ both. P.forms both.0 ++ Q.forms both.1 };
+
+    ghost rest_of = { λ values. option_and_then Q.rest_of (P.rest_of values) };
+
+    ghost is_value = { λ both. P.is_value both.0 × Q.is_value both.1 };
+
+    ghost same = { λ one other. P.same one.0 other.0 × Q.same one.1 other.1 };
+
+    fn write(&self, alloc: Global, values: Vec<Value>) -> Result<Vec<Value>, AllocError> {
+        let values = self.0.write(alloc, values)?;
+        self.1.write(alloc, values)
+    }
+
+    fn read<'v>(alloc: Global, values: &'v [Value]) -> Result<((P, Q), &'v [Value]), FormError> {
+        let (first, values) = P::read(alloc, values)?;
+        let (second, rest) = Q::read(alloc, values)?;
+        Ok(((first, second), rest))
+    }
+
+    ghost told_apart = { both-apart P.forms Q.forms P.is_value Q.is_value P.same Q.same P.told_apart Q.told_apart };
+}
+
+/// First the first one's, then the second one's, then the third one's.
+impl<P: PartForms, Q: PartForms, R: PartForms> PartForms for (P, Q, R) {
+    ghost use Rattle.std.specs.Prelude.{◌++◌, option_and_then};
+    ghost use Rattle.specs_saveload.specs.PartLemmas.{three-apart};
+
+    ghost forms = { λ all. P.forms all.0 ++ (Q.forms all.1 ++ R.forms all.2) };
+
+    ghost rest_of = { λ values. option_and_then R.rest_of (option_and_then Q.rest_of (P.rest_of values)) };
+
+    ghost is_value = { λ all. P.is_value all.0 × Q.is_value all.1 × R.is_value all.2 };
+
+    ghost same = { λ one other. P.same one.0 other.0 × Q.same one.1 other.1 × R.same one.2 other.2 };
+
+    fn write(&self, alloc: Global, values: Vec<Value>) -> Result<Vec<Value>, AllocError> {
+        let values = self.0.write(alloc, values)?;
+        let values = self.1.write(alloc, values)?;
+        self.2.write(alloc, values)
+    }
+
+    fn read<'v>(alloc: Global, values: &'v [Value]) -> Result<((P, Q, R), &'v [Value]), FormError> {
+        let (first, values) = P::read(alloc, values)?;
+        let (second, values) = Q::read(alloc, values)?;
+        let (third, rest) = R::read(alloc, values)?;
+        Ok(((first, second, third), rest))
+    }
+
+    ghost told_apart = { three-apart P.forms Q.forms R.forms P.is_value Q.is_value R.is_value P.same Q.same R.same
+        P.told_apart Q.told_apart R.told_apart };
+}
