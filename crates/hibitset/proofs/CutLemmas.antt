@@ -144,9 +144,6 @@ under-cut members layer first word low high place aligned within below from = re
   high_from = λ i limit upper. ap (λ b. members i && b) (under-same layer first high word i (λ here. let n = number-from layer (first + place) i upper in from.kept (number_in layer i % 64) (omega arith) (omega arith)));
 }
 
-ones : ℕ → ℕ
-ones place = 2 ^ place - 1
-
 has_bit-ones_low : (place i : ℕ) → i < place → has_bit (2 ^ place - 1) i ≡ true
 unfolding has_bit
 has_bit-ones_low place i low = ap (λ x. eqb x 1) (bit_at_ones place i low)

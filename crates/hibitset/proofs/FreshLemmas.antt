@@ -164,9 +164,6 @@ all-any Q (x ∷ xs) i each any =
       | inr there ↦ all-any Q xs i (λ k d low. each (suc k) d (omega arith)) there
     ]
 
-nothing-any : (i : ℕ) → list_any (eqb i) [] ≡ true → ⊥
-nothing-any i any = true≢false (sym any)
-
 -- a walk that begins: its masks are those of layer 3 alone
 module _ (members : ℕ → Bool) (words : ℕ → ℕ → ℕ) (over : StandsOver words) (agree : (i : ℕ) → i < 16777216 → is_marked words 0 i ≡ members i) (fit : (layer i : ℕ) → words layer i < 2 ^ 64)
     (masks prefix : List ℕ) (three : length prefix ≡ 3) (begins : masks ≡ 0 ∷ 0 ∷ 0 ∷ words 3 0 ∷ []) where

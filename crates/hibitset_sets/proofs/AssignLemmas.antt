@@ -15,9 +15,6 @@ pub record IsAssigned (op : Bool → Bool → Bool) (old other : ℕ → Bool) (
   pub done : (i : ℕ) → i / 64 < place → new i ≡ op (old i) (other i)
   pub left : (i : ℕ) → place ≤ i / 64 → new i ≡ old i
 
-pub assigned-none : (op : Bool → Bool → Bool) (old other : ℕ → Bool) → IsAssigned op old other 0 old
-assigned-none op old other = record { done = λ i low. absurd (omega arith); left = λ i high. refl }
-
 -- one word more
 pub assigned-more : (op : Bool → Bool → Bool) (old other : ℕ → Bool) (place word : ℕ) (before after : ℕ → Bool) → IsAssigned op old other place before → PutsWord before place word after → ((i : ℕ) → i / 64 ≡ place → has_bit word (i % 64) ≡ op (before i) (other i)) → IsAssigned op old other (place + 1) after
 assigned-more op old other place word before after assigned puts bits =
@@ -29,20 +26,6 @@ assigned-more op old other place word before after assigned puts bits =
           ];
       left = λ i high. puts i ∙ ap (λ b. cond b (has_bit word (i % 64)) (before i)) (ne_eqb _ _ (λ e. omega arith)) ∙ assigned.left i (omega arith);
     }
-
--- all words, where past them there is nothing
-pub assigned-all : (op : Bool → Bool → Bool) (old other : ℕ → Bool) (words room : ℕ) (new : ℕ → Bool) → IsAssigned op old other words new → 64 * words ≡ room → room ≤ 16777216 → ((i : ℕ) → old i ≡ true → i < room) → ((i : ℕ) → i < 16777216 → room ≤ i → op false (other i) ≡ false) → Assigns (λ i. op (old i) (other i)) new
-assigned-all op old other words room new assigned is limit within past i =
-    elim (cases_lt i room) [
-      | inl inside ↦ assigned.done i (omega arith) ∙ ap (λ b. b && op (old i) (other i)) (sym (lt-ltb i 16777216 (omega arith)))
-      | inr outside ↦
-          let absent : old i ≡ false = false_from_ne_true _ (λ member. let low = within i member in omega arith) in
-          assigned.left i (omega arith) ∙ absent
-          ∙ elim (cases_lt i 16777216) [
-            | inl low ↦ sym (ap (λ b. b && op (old i) (other i)) (lt-ltb i 16777216 low) ∙ ap (λ b. op b (other i)) absent ∙ past i low outside)
-            | inr high ↦ ap (λ b. b && op (old i) (other i)) (sym (le-ltb i 16777216 high))
-          ]
-    ]
 
 -- ---- members and their walk
 
@@ -72,24 +55,6 @@ IsBoundedOrLeft members bound left = (i : ℕ) → i < 16777216 → members i �
 
 pub bounded-first : (members : ℕ → Bool) (left : List ℕ) → left ≡ walk members → IsBoundedOrLeft members 0 left
 bounded-first members left is i within member = inr (ap (list_any (eqb i)) is ∙ any-walk members i within member)
-
-pub bounded-more : (members : ℕ → Bool) (bound bound' x : ℕ) (left rest : List ℕ) → IsBoundedOrLeft members bound left → left ≡ x ∷ rest → bound ≤ bound' → x < bound' → IsBoundedOrLeft members bound' rest
-bounded-more members bound bound' x left rest bounded is grows covers i within member =
-    elim (bounded i within member) [
-      | inl low ↦ inl (omega arith)
-      | inr on ↦
-          elim (or_cases _ _ (sym (ap (list_any (eqb i)) is) ∙ on)) [
-            | inl here ↦ let e = eqb-true i x here in inl (omega arith)
-            | inr later ↦ inr later
-          ]
-    ]
-
-pub bounded-all : (members : ℕ → Bool) (bound : ℕ) (left : List ℕ) → IsBoundedOrLeft members bound left → left ≡ [] → (i : ℕ) → i < 16777216 → members i ≡ true → i < bound
-bounded-all members bound left bounded is i within member =
-    elim (bounded i within member) [
-      | inl low ↦ low
-      | inr on ↦ absurd (true≢false (sym on ∙ ap (list_any (eqb i)) is))
-    ]
 
 -- ---- the bits of one word of layer 0
 

@@ -141,12 +141,6 @@ module _ (members : ℕ → Bool) (words : ℕ → ℕ → ℕ) (over : StandsOv
   pub walk-whole : (word : ℕ) → word ≡ words 3 0 → walk (is_pending members (0 ∷ 0 ∷ 0 ∷ word ∷ []) (0 ∷ 0 ∷ 0 ∷ [])) ≡ walk members
   walk-whole word is = walk-same _ _ (λ i within. pending-whole word i is within)
 
-pub placed-whole : (word : ℕ) → IsPlaced (0 ∷ 0 ∷ 0 ∷ word ∷ []) (0 ∷ 0 ∷ 0 ∷ [])
-placed-whole word zero above low high some = absurd (some refl)
-placed-whole word (suc zero) above low high some = absurd (some refl)
-placed-whole word (suc (suc zero)) above low high some = absurd (some refl)
-placed-whole word (suc (suc (suc k))) above low high some = absurd (omega arith)
-
 without-other : (a b m' m k : Bool) → m' ≡ (not b && m) → b ≡ false → (a || (m' && k)) ≡ (a || (m && k))
 without-other a true m' m k is other = absurd (true≢false other)
 without-other a false m' m k is other = ap (λ x. a || (x && k)) is

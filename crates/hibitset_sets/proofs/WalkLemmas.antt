@@ -5,10 +5,6 @@ use Rattle.std.proofs.Common.{Option, Some, None, MatchOption, is_some, IsTrue, 
 use Rattle.std.proofs.lemmas.Bool.{cases_eq, true≢false, not-false}
 use Rattle.hibitset_sets.specs.Walk.{walk}
 
--- the two tests answer the same from a on, n numbers long
-SameOver : ℕ → ℕ → (ℕ → Bool) → (ℕ → Bool) → Type 0
-SameOver a n p q = (i : ℕ) → a ≤ i → i < a + n → p i ≡ q i
-
 filter-same : (n a : ℕ) (p q : ℕ → Bool) → ((i : ℕ) → a ≤ i → i < a + n → p i ≡ q i) → filter p (range_with_len a n) ≡ filter q (range_with_len a n)
 filter-same zero a p q same = refl
 filter-same (suc n) a p q same =

@@ -18,11 +18,6 @@ sum_below : ℕ → (ℕ → ℕ) → ℕ
 sum_below zero f = 0
 sum_below (suc n) f = f n + sum_below n f
 
-sum_below-same : (n : ℕ) (f g : ℕ → ℕ) → ((i : ℕ) → f i ≡ g i) → sum_below n f ≡ sum_below n g
-unfolding sum_below
-sum_below-same zero f g same = refl
-sum_below-same (suc n) f g same = (λ j. same n j + sum_below-same n f g same j)
-
 sum_below-member : (n k : ℕ) (f : ℕ → ℕ) → k < n → f k ≤ sum_below n f
 unfolding sum_below
 sum_below-member zero k f low = absurd (omega arith)

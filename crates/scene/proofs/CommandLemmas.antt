@@ -32,10 +32,6 @@ pub lead-played : (place : ℕ) (commands : List Command) (scene after : PlainSc
 lead-played place commands scene after places lead =
     ap (λ some. play place some scene) (sym (append-nil commands)) ∙ lead [] ∙ behind_all-played places [] after ∙ ap (played after) (append-nil places)
 
--- what leads with skips leads
-lead-of : (frame place : ℕ) (commands : List Command) (scene after : PlainScene) (old new : List Skip) (ran : RunsTo frame place commands scene after old new) → CommandsLead place commands scene after ran.0
-lead-of frame place commands scene after old new ran = ran.1
-
 module _ {V : Type 0} (kinds : Kinds V) where
   -- commands that are refused behind others that were done are refused among all
   pub acts-behind : (frame place next : ℕ) (one other : List Command) (w between : Slots V) (first second : List Skip) (cause : FrameRefusal) → next ≡ place + length one

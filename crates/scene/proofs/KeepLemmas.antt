@@ -72,10 +72,6 @@ module _ (roll : Roll) where
   read-part None ids marked living_them = refl
   read-part (Some one) ids marked living_them = ap (λ refs. Some (part_with one.written refs)) (sym (all-reached one.named ids marked (living_them one refl)))
 
--- as many ids as entities
-pub as-many : (roll : Roll) (named : List LifeAt) (ids : List ℕ) → AreMarkedBy roll named ids → length ids ≡ length named
-as-many roll named ids marked = sym (length-map ids (λ id. Some id)) ∙ sym (ap length marked) ∙ length-map named (λ entity. roll.marker entity.id)
-
 module _ {V : Type 0} (kinds : Kinds V) (book : Book) (w : Sight V) (stands : IsSceneWorld kinds book w) where
   -- what is stored in a column refers to those who live
   pub stored-live : (kind : Name) → is_among kind kinds.part_names ≡ true → (index : ℕ) (one : Stored) → column_of kinds w kind index ≡ Some one → All (RefLives (ids_in (roll_of kinds w))) (map (ref_to (roll_of kinds w)) one.named)

@@ -3,7 +3,6 @@ pub mod WorldLemmas
 pub mod CountLemmas
 pub mod CommandLemmas
 pub mod SpareLemmas
-pub mod CallerLemmas
 pub mod KeptPlaceLemmas
 pub mod KeepLemmas
 pub mod TurnLemmas

@@ -117,15 +117,6 @@ places-rise (place ∷ places) pairs = (above places (λ k d inside. pairs zero 
     above [] all = tt
     above (other ∷ rest) all = (All-head (λ one. place < one) other rest all, above rest (All-tail (λ one. place < one) other rest all))
 
--- what stands above some places is none of them
-above-none : (least : ℕ) (places : List ℕ) → ArePlacesAbove least places → lives least places ≡ false
-above-none least [] above = refl
-above-none least (place ∷ places) above = by (eqb place least) refl (above-none least places above.1)
-  where
-    by : (b : Bool) → eqb place least ≡ b → lives least places ≡ false → (b || lives least places) ≡ false
-    by true is later = let same : place ≡ least = eqb-true place least is in let over : least < place = above.0 in absurd (omega (arith, same, over))
-    by false is later = later
-
 -- and one of them is above what they stand above
 place-above : (least place : ℕ) (places : List ℕ) → ArePlacesAbove least places → lives place places ≡ true → least < place
 place-above least place [] above there = absurd (false≢true there)

@@ -95,17 +95,6 @@ module _ {V : Type 0} (kinds : Kinds V) (apart : StandApart kinds) where
       born = λ kind known index stored is. subst (λ (roll : Roll). All (WasBorn roll.births) stored.named) (sym roll-stays) (may.born kind known index stored (ap (λ column. column index) (sym (column-stays kind known)) ∙ is));
     }
 
-    -- and a scene stands there as before
-    pub stands-stays : (book : Book) → IsSceneWorld kinds book (seen_of w) → IsSceneWorld kinds book (seen_of later)
-    stands-stays book stands = record {
-      entities = subst (λ held. IsSome (option_and_then kinds.births held)) (sym entities-stay) stands.entities;
-      markers = subst IsSome (sym markers-stay) stands.markers;
-      allocator = subst (λ held. IsSome (option_and_then kinds.noting held)) (sym allocator-stays) stands.allocator;
-      roll = subst IsRoll (sym roll-stays) stands.roll;
-      within = λ kind known. subst (λ roll. IsWithin kinds roll (column_of kinds (seen_of later) kind)) (sym roll-stays) (subst (IsWithin kinds (roll_of kinds (seen_of w))) (sym (column-stays kind known)) (stands.within kind known));
-      proper = subst (IsProper book) (sym scene-stays) stands.proper;
-    }
-
   -- what stays elsewhere, and then beside queues, stays apart from both
   pub stays-apart : (places : List ℕ) (w between later : Slots V) → StaysElsewhere kinds w between → StaysBeside kinds places between later → StaysApart kinds places w later
   stays-apart places w between later elsewhere beside id e m a p none = beside id none ∙ elsewhere id e m a p

@@ -51,17 +51,6 @@ signed_in-some (Some z) read e = (if_signed-some z read e).0
 pub signed_in-json_of : (z : ℤ) → is_signed z ≡ true → signed_in (json_of z) ≡ Some z
 signed_in-json_of z is = ap (option_and_then if_signed) (whole_in-json_of z) ∙ ap (λ b. cond b (Some z) None) is
 
--- what `as_i64` reads is the number of 64 signed bits
-pub signed_in-as_i64 : (json : Json) (read : Option ℤ) → read ≡ option_and_then as_i64 (as_number json) → ((z : ℤ) → read ≡ Some z → FitsSigned w64 z) → read ≡ signed_in json
-signed_in-as_i64 null read e fits = e
-signed_in-as_i64 (boolean b) read e fits = e
-signed_in-as_i64 (number (unsigned n)) read e fits = e
-signed_in-as_i64 (number (negative z)) read e fits = e ∙ sym (ap (λ b. cond b (Some z) None) (is_signed-fits z (fits z e)))
-signed_in-as_i64 (number (float x)) read e fits = e
-signed_in-as_i64 (string s) read e fits = e
-signed_in-as_i64 (array _) read e fits = e
-signed_in-as_i64 (object _) read e fits = e
-
 -- a list of no references is no one reference
 pub refers_once-none : (id : Option ℕ) → refers_once id [] ≡ false
 refers_once-none None = refl
@@ -85,16 +74,6 @@ admits-counting kind z fits = here (bytes_eq kind owner_kind) refl
     here : (b : Bool) → bytes_eq kind owner_kind ≡ b → is_among kind number_kinds ≡ cond b (refers_once (id_in (json_of z)) []) (is_among kind number_kinds && (is_some (signed_in (json_of z)) && true))
     here true is = number_kind-owner kind is ∙ sym (refers_once-none (id_in (json_of z)))
     here false is = among (is_among kind number_kinds)
-
--- a reference is of the kind `owner`
-pub admits-referring : (kind : Name) (id : ℕ) → bytes_eq kind owner_kind ≡ admits kind (referring id)
-admits-referring kind id = here (bytes_eq kind owner_kind) (is_among kind number_kinds) (is_some (signed_in (number (unsigned id))))
-  where
-    here : (b c d : Bool) → b ≡ cond b (eqb id id) (c && (d && false))
-    here true c d = sym ((Decides-eqb id id).1 refl)
-    here false true true = refl
-    here false true false = refl
-    here false false d = refl
 
 -- what is read under a kind is of that kind
 pub law-reads_admitted : (kind : Name) (json : Json) (part : Part) → read_part kind json ≡ Some part → admits kind part ≡ true

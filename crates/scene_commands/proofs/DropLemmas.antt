@@ -24,10 +24,6 @@ twice index at column = by (eqb at index)
     by true = refl
     by false = refl
 
--- nothing is taken out at first
-pub drops-none : {V : Type 0} (kinds : Kinds V) (index : ℕ) (w : Sight V) → DropsParts kinds index [] w w
-drops-none kinds index w = record { gone = λ kind known is. cc; stay = λ kind known is at. refl; others = λ id apart. refl }
-
 -- one kind more is taken out
 module _ {V : Type 0} (kinds : Kinds V) (apart : StandApart kinds) (index : ℕ) (names : List Name) (w between later : Sight V) (drops : DropsParts kinds index names w between)
     (kind : Name) (known : is_among kind kinds.part_names ≡ true) (takes : SetsColumn kinds kind index None between later) where

@@ -64,10 +64,6 @@ under-new part_of entries place d below apart = under-none (get_or entries place
         ∙ ap (λ x. bytes_eq (get_or (map (plain_entry part_of) entries) at (plain_entry part_of d)).0 x.0) (sym (get_or-map (plain_entry part_of) entries place d))
         ∙ apart at place (plain_entry part_of d) lower (omega (arith, size, below))
 
--- nothing is given at first
-pub gives-none : {V : Type 0} (kinds : Kinds V) (roll : Roll) (index : ℕ) (w : Sight V) → GivesParts kinds roll index [] w w
-gives-none kinds roll index w = record { here = λ kind known part e. cc; none = λ kind known e. refl; elsewhere = λ kind known at away. refl; others = λ id apart. refl }
-
 -- one part more is given
 module _ {V : Type 0} (kinds : Kinds V) (apart : StandApart kinds) (index : ℕ) (given : List (Name × Part)) (w between later : Sight V)
     (gives : GivesParts kinds (roll_of kinds w) index given w between) (kind : Name) (part : Part) (known : is_among kind kinds.part_names ≡ true) (new : under kind given ≡ None)

@@ -136,9 +136,6 @@ module _ (roll : Roll) where
       pub within : (id : ℕ) → least ≡ Some id → (index : ℕ) × (index_of roll id ≡ Some index) × (holds index ≡ true)
       pub below : (index id : ℕ) → list_any (λ one. eqb one.id index) front ≡ true → roll.marker index ≡ Some id → holds index ≡ true → IsAtMost least id
 
-    pub least-none : IsLeast [] None
-    least-none = record { within = λ id e. cc; below = λ index id on. absurd (false≢true on) }
-
     module _ (items : List LifeAt) (k : ℕ) (entity : LifeAt) (inside : k < length items) (is : entity ≡ get_or items k entity) where
       -- who is among the entities up to one is among those before, or is that one
       in-front : (index : ℕ) → list_any (λ one. eqb one.id index) (take (k + 1) items) ≡ true → (list_any (λ one. eqb one.id index) (take k items) ≡ true) ⊎ (entity.id ≡ index)
@@ -233,10 +230,6 @@ module _ (roll : Roll) (items : List LifeAt) (k : ℕ) (entity : LifeAt) (inside
       ∙ ap (λ b. b || (is_gone (ref_to roll entity) || false)) none ∙ ap (λ b. b || false) (alive-there roll rolls entity alive)
 
 -- ---- kinds whose parts may refer to an entity
-
--- where nobody is named, nobody who is gone is
-pub none-named : (ref : LifeAt → Ref) (stored : Option Stored) → named_in stored ≡ [] → holds_gone (option_map (part_under ref) stored) ≡ false
-none-named ref stored none = holds-named ref stored ∙ ap (λ named. list_any is_gone (map ref named)) none
 
 -- no test that always fails finds one
 find-none : (test : ℕ → Bool) (ids : List ℕ) → ((id : ℕ) → test id ≡ false) → find test ids ≡ None

@@ -148,10 +148,6 @@ none-gone : (ids : List ℕ) → list_any is_gone (refs_to ids) ≡ false
 none-gone [] = refl
 none-gone (id ∷ ids) = none-gone ids
 
-reach-ids : (ids : List ℕ) → ids_reached (refs_to ids) ≡ ids
-reach-ids [] = refl
-reach-ids (id ∷ ids) = ap (λ l. id ∷ l) (reach-ids ids)
-
 -- what is stored as a part is that part, where its references are to the entities under their ids
 pub stored-part : (roll : Roll) (part : Part) (ids : List ℕ) (named : List LifeAt) (one : Stored) → refs_to ids ≡ part.refs
     → map (entity_under roll) ids ≡ map (λ entity. Some entity) named → StoresAs part named one → part_under (ref_to roll) one ≡ part

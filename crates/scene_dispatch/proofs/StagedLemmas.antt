@@ -71,10 +71,6 @@ module _ {V S : Type 0} (kinds : Kinds V) (kind_of : S → Name) (config_of : S 
     pub facts-there : (plain_of_draft draft).facts ≡ Some (facts_of made)
     facts-there = ap (option_map facts_of) is
 
-    -- what it declares stands in a world
-    pub made-known : AreKnown kinds (declared made.system)
-    made-known = subst (AreKnown kinds) (sym made-of.access) (subst (λ found. FactsKnown kinds (option_map facts_of found)) is fit.known)
-
     -- at a place it is the system of its entry
     pub made-plain : {P : Type 0} (position : P → ℕ) (held : P → S) (sense : S → Sense) (does : S → Fragment → Outcome → Type 0) (taken : P) (place : ℕ) → position taken ≡ place → held taken ≡ made.system
         → (placed_as position held kind_of config_of declared sense does).plain taken ≡ plain_system place (plain_of_draft draft) (facts_of made)
@@ -141,10 +137,6 @@ module _ {V P S : Type 0} (kinds : Kinds V) (same : ResourceId → ResourceId �
   module _ (one : EntryDraft S) (fit : IsFit kinds kind_of config_of declared said_time made_by book one) (draft : SystemDraft S) (made : MadeDraft S) (is : one ≡ entry.System draft) (there : draft.made ≡ Some made) where
     fit-draft : IsFit kinds kind_of config_of declared said_time made_by book (entry.System draft)
     fit-draft = subst (IsFit kinds kind_of config_of declared said_time made_by book) is fit
-
-    -- what the system of an entry declares is known
-    pub entry-known : AreKnown kinds (declared made.system)
-    entry-known = made-known kinds kind_of config_of declared said_time made_by book draft made there fit-draft
 
     module _ (taken : P) (place : ℕ) (at : position taken ≡ place) (holds : held taken ≡ made.system) (early : List DraftEntry) (next : place ≡ suc (length early)) (old new : Drafting P P) (has : HasSystems kinds same placed book early old) where
       plain-taken : placed.plain taken ≡ plain_system (suc (length early)) (plain_of_draft draft) (facts_of made)

@@ -208,19 +208,6 @@ module _ {D : Type 0} (part_of : D → Part) (book : Book) where
 
 -- ---- ids
 
-above-ascending : (id : ℕ) (ids : List ℕ) → AllByRecursion (λ other. nat_cmp id other ≡ Less) ids → All (λ other. id < other) ids
-above-ascending id [] h = All-nil (λ other. id < other)
-above-ascending id (other ∷ ids) h = All-cons (λ other. id < other) other ids (less-below id other h.0) (above-ascending id ids h.1)
-  where
-    less-below : (one other : ℕ) → nat_cmp one other ≡ Less → one < other
-    less-below one other e = grind (arith, nat_tests)
-
--- ids in order ascend
-pub ids-ascend : (ids : List ℕ) → IsStrictlySortedBy nat_cmp ids → AllPairs (λ one other. one < other) ids
-unfolding IsStrictlySortedBy
-ids-ascend [] h = λ i j d below inside. absurd (omega arith)
-ids-ascend (id ∷ ids) h = AllPairs-cons (λ one other. one < other) id ids (above-ascending id ids h.0) (ids-ascend ids h.1)
-
 -- ids that are below the next one are so in order
 pub ids-below : {X : Type 0} (id_of : X → ℕ) (next : ℕ) (xs : List X) → list_any (λ x. not (ltb (id_of x) next)) xs ≡ false → All (λ id. id < next) (ascending (map id_of xs))
 ids-below id_of next [] h = All-nil (λ id. id < next)

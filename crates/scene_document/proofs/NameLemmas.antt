@@ -42,10 +42,6 @@ among-updated other name old new e =
     ∙ ap (λ b. b || list_any (λ key. is_eq (slice_cmp nat_cmp other key.now)) old) (is_eq-slice_cmp name other ∙ bytes_eq-symmetric name other)
     ∙ ap (λ b. bytes_eq other name || b) (contains-among other old)
 
-or_none : (b : Bool) → (b || false) ≡ b
-or_none true = refl
-or_none false = refl
-
 -- the tests of what a system comes after, by names that are among those kept
 wanted_alike : (names others : List Name) (wanted : List Name) → ((name : Name) → is_among name names ≡ is_among name others) → lacks_one_of names wanted ≡ lacks_one_of others wanted
 wanted_alike names others [] h = refl

@@ -130,10 +130,6 @@ shallow-tokens text j found is-text is =
     let fits = value-depth max_depth (tokens text) [] last.0 last.1 in
     omega (arith, ap tree.depth same, fits)
 
--- so does a text in the order of a value
-pub shallow-read : (text : List ℕ) (d found : Data) → IsInOrder text d → read text ≡ Some found → view.depth d ≤ max_depth
-shallow-read text d found order is = omega (arith, depth-outline d, depth-blank order.0, ap tree.depth order.2, shallow-tokens text order.0 found order.1 is)
-
 -- a text that reads as a value where that nests no deeper than the reader allows, and is read only then, reads back
 reads-back : (text : List ℕ) (d : Data) → IsUtf8 text → ((found : Data) → read text ≡ Some found → view.depth d ≤ max_depth) → (view.depth d ≤ max_depth → read text ≡ Some d) → ReadsBack text d
 reads-back text d utf8 fits shallow =
@@ -147,10 +143,6 @@ reads-back text d utf8 fits shallow =
     here None is found same = absurd (none-some found same)
     here (Some one) is found same = ap (λ o. unwrap_or o found) (sym (is ∙ same) ∙ shallow (fits found (is ∙ same)))
 
--- a text that was written for a value reads back,
-pub ReadsBack-written : (text : List ℕ) (d : Data) → IsUtf8 text → IsInOrder text d → (view.depth d ≤ max_depth → read text ≡ Some d) → ReadsBack text d
-ReadsBack-written text d utf8 order = reads-back text d utf8 (λ found is. shallow-read text d found order is)
-
 -- and so does one with the tokens of a value's outline, where that is read as the value
 pub ReadsBack-printed : (text : List ℕ) (d : Data) → IsUtf8 text → tokens text ≡ tree.json_tokens (outline d) → (view.depth d ≤ max_depth → of_json (outline d) ≡ Some d) → ReadsBack text d
 ReadsBack-printed text d utf8 is-text outlined =
@@ -158,8 +150,3 @@ ReadsBack-printed text d utf8 is-text outlined =
     (λ low. ap (λ o. option_and_then of_json (option_and_then (λ p. if_last p.0 p.1) o))
     (ap (value max_depth) (is-text ∙ sym (append-nil (tree.json_tokens (outline d)))) ∙ value-json_tokens (outline d) max_depth [] (omega (arith, depth-outline d, low)))
     ∙ outlined low)
-
--- so does one that a writer gave
-pub IfOk-reads : {V E : Type 0} (items : V → List ℕ) (r : Result V E) (d : Data) → IfOk r (λ v. IsUtf8 (items v)) → IfOk r (λ v. IsInOrder (items v) d) → IfOk r (λ v. view.depth d ≤ max_depth → read (items v) ≡ Some d) → IfOk r (λ v. ReadsBack (items v) d)
-IfOk-reads items (Ok v) d one two three = ReadsBack-written (items v) d one two three
-IfOk-reads items (Err e) d one two three = tt

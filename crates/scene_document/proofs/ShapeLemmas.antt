@@ -111,9 +111,6 @@ read_turn read meaning good all had left x done value before is found =
 
 -- ---- members whose keys differ
 
-keys_of : List (String Global × Value) → List (String Global)
-keys_of entries = map (λ e. e.0) entries
-
 other_keys : (key : String Global) (entries : List (String Global × Value)) → AllByRecursion (λ other. string_cmp key other ≡ Less) (map (λ e. e.0) entries) → IsOtherKey (string_bytes key) (members_seen entries)
 other_keys key [] h = tt
 other_keys key (e ∷ entries) h = (sym (is_eq-slice_cmp (string_bytes key) (string_bytes e.0)) ∙ ap is_eq (h.0), other_keys key entries h.1)

@@ -7,11 +7,6 @@ use Rattle.scene_model.specs.Rulebook.{Access, declares, declares_global, Fragme
 use Rattle.std.proofs.lemmas.Option.{none-some}
 use Rattle.scene_model.specs.Scenes.{PlainScene, fragment, with_left, PartsAdmitted, GlobalsReadable, RefsLive, RefLives}
 
--- one of two, either way the same
-pub cond_same : {X : Type 0} (b : Bool) (x : X) → cond b x x ≡ x
-cond_same true x = refl
-cond_same false x = refl
-
 -- two scenes that hold the same are one
 pub same_scene : (one other : PlainScene) → one.next ≡ other.next → one.ids ≡ other.ids → ((id : ℕ) (kind : Name) → one.part id kind ≡ other.part id kind) → ((name : Name) → one.global name ≡ other.global name) → one ≡ other
 same_scene one other next ids parts globals =

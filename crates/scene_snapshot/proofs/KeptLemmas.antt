@@ -197,14 +197,6 @@ module _ {P : Type 0} where
   pub entries-put-last : (m : FinMap nat_cmp P) (id : ℕ) (parts : P) → All (λ entry. entry.0 < id) (map.entries m) → map.entries (map.insert m id parts) ≡ map.entries m ++ (id, parts) ∷ []
   entries-put-last m id parts below = entries-insert nat_cmp_total m id parts ∙ put-last id parts (map.entries m) below
 
-  -- so its id stands last
-  pub keys-put-last : (m : FinMap nat_cmp P) (id : ℕ) (parts : P) → All (λ key. key < id) (map.keys m) → map.keys (map.insert m id parts) ≡ map.keys m ++ id ∷ []
-  keys-put-last m id parts below =
-      let key : ℕ × P → ℕ = λ entry. entry.0 in
-      let each : All (λ entry. entry.0 < id) (map.entries m) =
-      λ place d within. subst (λ one. one < id) (get_or-map key (map.entries m) place d (key d) within) (below place (key d) (omega (arith, within, length-map (map.entries m) key))) in
-      ap (list_map key) (entries-put-last m id parts each) ∙ map-append key (map.entries m) ((id, parts) ∷ [])
-
   -- the first ids of an ascending list are kept, and the next one is put in: then one more is kept
   pub kept-more : (parts : ℕ → P) (ids : List ℕ) → AllPairs (λ one other. one < other) ids → (k d : ℕ) → k < length ids → (m : FinMap nat_cmp P) → map.entries m ≡ list_map (λ id. (id, parts id)) (take k ids)
       → map.entries (map.insert m (get_or ids k d) (parts (get_or ids k d))) ≡ list_map (λ id. (id, parts id)) (take (k + 1) ids)

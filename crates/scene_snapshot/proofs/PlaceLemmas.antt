@@ -130,10 +130,6 @@ module _ {X : Type 0} where
   pub none_later : (slot : ℕ × X) (slots : List (ℕ × X)) → AreSorted (slot ∷ slots) → (q : ℕ) → same_key q slot.0 ≡ true → lookup (same_key q) slots ≡ None
   none_later slot slots sorted q same = lookup-none (same_key q) slots (none_past_head same_equiv q slot slots (IsDistinct-from_sorted nat_cmp (keys_of (slot ∷ slots)) sorted) same)
 
-  sorted_later : (slot : ℕ × X) (slots : List (ℕ × X)) → AreSorted (slot ∷ slots) → AreSorted slots
-  unfolding IsStrictlySortedBy
-  sorted_later slot slots sorted = sorted.1
-
   all_put : (P : ℕ → Type 0) (slots : List (ℕ × X)) (place : ℕ) (slot : ℕ × X) → AllByRecursion P (keys_of slots) → P slot.0 → AllByRecursion P (keys_of (insert slots place slot))
   all_put P slots zero slot all one = (one, all)
   all_put P [] (suc place) slot all one = (one, tt)

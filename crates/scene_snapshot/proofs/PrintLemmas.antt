@@ -26,9 +26,6 @@ use Rattle.scene_snapshot.specs.Printing.{tokens_of, member_tokens, IsReadable, 
 
 -- ---- tokens behind tokens
 
-pub adds-none : (state : Written) → Adds [] state state
-adds-none state = record { tokens = sym (append-nil state.tokens); before = refl }
-
 -- what a writer says where it has written a token,
 pub wrote : {E : Type 0} (done : Unit {0}) (old new : Written) (token : Token) → Writes {E = E} (Ok done) old new token → Adds (token ∷ []) old new
 wrote done old new token written = record { tokens = written.ok; before = written.room.0 }
@@ -162,9 +159,6 @@ readable text json is back fits =
     ∙ back fits
 
 -- ---- no token of a value is bad
-
-only : (token : Token) → token ≢ bad → All (λ other. other ≢ bad) (token ∷ [])
-only token apart = All-cons (λ other. other ≢ bad) token [] apart (All-nil (λ other. other ≢ bad))
 
 mutual
   pub none-bad : (one : json.Json) → All (λ token. token ≢ bad) (json_tokens one)

@@ -189,15 +189,3 @@ module _ {V S : Type 0} (kinds : Kinds V) (meaning : Meaning S) (book : Book) (a
             (stopped-more (stage_order at stage) (plan_order at stages) _ why (stage-comes stage lent.0 a between (Some why) ready ran))
 
 -- ---- the order of a plan
-
-stage-order : (stage : Stage ResourceId) (at : ℕ → PlainSystem) → stage_order at stage ≡ map (λ one. at one.number) (plan.systems_of stage)
-stage-order [] at = refl
-stage-order (group ∷ stage) at = ap (λ l. group_order at group ++ l) (stage-order stage at) ∙ sym (map-append (λ (one : Placing ResourceId). at one.number) group (plan.systems_of stage))
-
--- it is that of the plan's systems, by their numbers
-pub plan-order : (stages : List (Stage ResourceId)) (at : ℕ → PlainSystem) → plan_order at stages ≡ map (λ one. at one.number) (plan.plan_order stages)
-plan-order [] at = refl
-plan-order (stage ∷ stages) at =
-    ap (λ l. l ++ plan_order at stages) (stage-order stage at)
-    ∙ ap (λ l. map (λ one. at one.number) (plan.systems_of stage) ++ l) (plan-order stages at)
-    ∙ sym (map-append (λ (one : Placing ResourceId). at one.number) (plan.systems_of stage) (plan.plan_order stages))

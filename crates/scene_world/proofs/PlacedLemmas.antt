@@ -147,14 +147,6 @@ module _ {V D S P : Type 0} (places : Places V D) (part_of : D → Part) (column
           let had = owns places.queue q (w (places.queue_id position)) there in
           subst (λ slot. IsLeft slot (owned (places.queue_value later))) (sym (ap w (same_id-is id (places.queue_id position) same) ∙ had.1)) (places.queue_value later, refl)
 
-  -- and the slot of the queue waits for it
-  pub queue-out : (position : ℕ) (w w2 : Holding V) → Leaves (with_slot w (places.queue_id position) out) w2 → w2 (places.queue_id position) ≡ out
-  queue-out position w w2 left = by (same_id (places.queue_id position) (places.queue_id position)) (same_id-itself (places.queue_id position)) (left (places.queue_id position))
-    where
-      by : (b : Bool) → b ≡ true → IsLeft (cond b out (w (places.queue_id position))) (w2 (places.queue_id position)) → w2 (places.queue_id position) ≡ out
-      by true e is = is
-      by false e is = cc
-
 -- ---- the ids of what is declared
 
 -- those of parts and of globals, one after the other

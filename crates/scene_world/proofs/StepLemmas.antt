@@ -45,10 +45,6 @@ fit-fragment book access scene proper = record {
   readable = readable-fragment book access scene proper.readable;
 }
 
-or-right : (a b : Bool) → b ≡ true → (a || b) ≡ true
-or-right true b e = refl
-or-right false b e = e
-
 module _ {V S : Type 0} (kinds : Kinds V) (meaning : Meaning S) (book : Book) where
   -- what is known after a turn
   pub record Stepped (system left : S) (w w2 : Holding V) : Type 0 where

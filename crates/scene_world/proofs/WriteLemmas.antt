@@ -36,9 +36,6 @@ module _ {V : Type 0} (kinds : Kinds V) (apart : StandApart kinds) (kind : Name)
   written-values name is = ap (λ h. option_and_then (kinds.value name) h) (elsewhere (value name) is refl)
 
   module _ (access : Access) where
-    before : Fragment
-    before = fragment_of kinds access seen
-
     -- the fragment that is left: the ids, parts of other kinds and globals are those that were seen
     pub left-ids : (fragment_of kinds access left).ids ≡ (fragment_of kinds access seen).ids
     left-ids = ap ids_in written-roll

@@ -33,13 +33,6 @@ use Rattle.scene_world_tests.specs.declared.turns.values.Velocity.{Velocity}
 use Rattle.scene_world_tests.specs.declared.turns.values.Value.{Value}
 use Rattle.scene_world_tests.specs.declared.turns.values.Value.TheVariants.{PositionValue}
 
--- numbers as they are stored, and as parts
-stored_position : Option Position → Option Stored
-stored_position = option_map (λ p. storing p.0)
-
-stored_velocity : Option Velocity → Option Stored
-stored_velocity = option_map (λ v. storing v.0)
-
 or-left : (b : Bool) → (b || false) ≡ true → b ≡ true
 or-left true e = refl
 or-left false e = e
@@ -52,9 +45,6 @@ moved-stored ref (Some p) None = refl
 moved-stored ref (Some p) (Some v) = refl
 
 module _ (places : Places Value ℕ) (apart : StandApart (kinds_of places counting drifting_columns)) (seen left : Holding Value) (moves : Moves seen left) where
-  abbrev kinds : Kinds Value
-  kinds = kinds_of places counting drifting_columns
-
   here : readable (left position_id) ≡ Some (PositionValue moves.after)
   here = ap (λ w. readable (w position_id)) moves.others ∙ ap (λ b. readable (cond b (owned (PositionValue moves.after)) (seen position_id))) (same_id-itself position_id)
 

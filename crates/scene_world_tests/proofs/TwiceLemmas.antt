@@ -17,14 +17,6 @@ use Rattle.scene_dispatch.specs.Orders.{turn_order}
 use Rattle.scene_dispatch.specs.Frames.{AreRefused, Come}
 use Rattle.scene_world_tests.specs.Twice.{drifting_kinds, drift_at, drift_meaning, two_drifts, DriftsTwice, IsWant}
 
--- the rules know what drift declares
-pub drift-known : AreKnown drifting_kinds drift_access
-drift-known = record { reads = one vel_name refl; writes = one pos_name refl; read_globals = λ k d h. absurd (omega arith); written_globals = λ k d h. absurd (omega arith) }
-  where
-    one : (name : Name) → is_among name drifting_kinds.part_names ≡ true → All (λ kind. is_among kind drifting_kinds.part_names ≡ true) (name ∷ [])
-    one name known zero d h = known
-    one name known (suc k) d h = absurd (omega arith)
-
 -- what one turn leaves
 pub record DriftsOnce (scene after : PlainScene) : Type 0 where
   pub ids : after.ids ≡ scene.ids
@@ -52,21 +44,6 @@ drifts-twice scene after queues (mid, commands, rest, step, (last, more, others,
 
     second : DriftsOnce mid last
     second = drifts-once 2 mid last more next
-
--- drift refuses nothing and asks for nothing, so only memory or a thread can be wanting
-pub only-wants : (scene : PlainScene) (cause : FrameRefusal) → AreRefused drifting_book two_drifts scene cause → IsWant cause
-only-wants scene (System position text) (inl (at, did)) = did
-only-wants scene (System position text) (inr (mid, commands, step, inl (at, did))) = did
-only-wants scene (System position text) (inr (mid, commands, step, inr (last, more, next, none))) = none
-only-wants scene (GoneReference id) refused = refused
-only-wants scene IdsSpent refused = refused
-only-wants scene IndicesSpent refused = refused
-only-wants scene GenerationsSpent refused = refused
-only-wants scene TooManyCommands (inl (commands, filled)) = filled.0
-only-wants scene TooManyCommands (inr (mid, commands, step, inl (more, filled))) = filled.0
-only-wants scene TooManyCommands (inr (mid, commands, step, inr (last, more, next, none))) = none
-only-wants scene Memory refused = tt
-only-wants scene Threads refused = tt
 
 -- so it is after a frame in which the two take their turns
 pub frame-drifts : {P A : Type 0} (position : P → ℕ) (before after : Dispatching P P) (w w_after : Holding Value) (result : Result A FrameRefusal) → turn_order (drift_meaning position).plain before ≡ two_drifts

@@ -39,9 +39,6 @@ pub returned-append : {A : Type 0} (first later : List (Numbered A)) (slots : Li
 returned-append [] later slots = refl
 returned-append (one ∷ first) later slots = ap (λ list. with_load one (slot_at list one.number) list) (returned-append first later slots)
 
-pub all-of-push : {T : Type 0} (rows : List (Vec T)) (row : Vec T) → all_of (rows ++ row ∷ []) ≡ all_of rows ++ row.items
-all-of-push rows row = flat_map-append (λ one. one.items) rows (row ∷ []) ∙ ap (λ list. all_of rows ++ list) (append-nil row.items)
-
 -- a slot that is written with what it has
 set-same : {A : Type 0} (slots : List (Option A)) (number : ℕ) → set slots number (slot_at slots number) ≡ slots
 set-same [] number = refl

@@ -76,23 +76,6 @@ module _ {C T : Type 0} (does : C → T → T → Type 0) where
           let holds : h ≡ held = ap held_by (same ∙ is) in
           (e, (asked, are ∙ ap (λ o. Caller asked ∷ Worker o ∷ []) holds, subst (λ o. Lies does asked o items) holds lies))
 
-  -- a line begins with a caller alone
-  pub begins : Agree does [] (Alone ∷ [])
-  begins = inl (refl, refl)
-
-  -- a worker comes
-  pub joins : (id : ℕ) (v : Hand C T) → v ≡ Alone → Forks (Agree does) id v (Caller None) (Worker None)
-  joins id v is items hands (inl (alone, none)) at =
-      let here = only Alone v id (subst (λ list. get_elem? list id ≡ some v) alone at) in
-      let both : set hands id (Caller None) ++ Worker None ∷ [] ≡ Caller None ∷ Worker None ∷ [] =
-      ap (λ list. set list id (Caller None) ++ Worker None ∷ []) alone ∙ ap (λ (k : ℕ). set (Alone ∷ []) k (Caller None) ++ Worker None ∷ []) here.0 in
-      inr (None, None, both, none)
-  joins id v is items hands (inr (asked, held, are, lies)) at = by (one-of-two (Caller asked) (Worker held) v id (subst (λ list. get_elem? list id ≡ some v) are at))
-    where
-      by : ((id ≡ 0) × (Caller asked ≡ v)) ⊎ ((id ≡ 1) × (Worker held ≡ v)) → Agree does items (set hands id (Caller None) ++ Worker None ∷ [])
-      by (inl (e, same)) = absurd (true≢false (ap is_caller (same ∙ is)))
-      by (inr (e, same)) = absurd (true≢false (ap is_worker (same ∙ is)))
-
   -- the caller asks
   pub asks : (n id : ℕ) (v : Hand C T) (shared : _) (row : Vec T _) → v ≡ Caller None → Pushes (Agree does) n id v (Ask shared row) (λ after. after ≡ hand_after (Ask shared row))
   asks n id v shared row is items hands room agree at = let here = caller-at items hands id v None is agree at in by here.1.0 here.0 here.1.1 here.1.2

@@ -13,10 +13,6 @@ module _ {A B : Type 0} (R : A → B → Type 0) where
   pub zip-both : (all first others : List A) (first2 others2 : List B) → all ≡ first ++ others → AllZip R first first2 → AllZip R others others2 → AllZip R all (first2 ++ others2)
   zip-both all first others first2 others2 is a b = let P : List A → Type 0 = λ list. AllZip R list (first2 ++ others2) in subst P (sym is) (zip-append first others first2 others2 a b)
 
-  -- one more at the front, by what is known of the list and of the relation
-  pub zip-front : (all others : List A) (x : A) (y : B) (others2 : List B) → all ≡ x ∷ others → R x y → AllZip R others others2 → AllZip R all (y ∷ others2)
-  zip-front all others x y others2 is a b = let P : List A → Type 0 = λ list. AllZip R list (y ∷ others2) in subst P (sym is) (a, b)
-
   -- one more at the end
   pub zip-push : (first : List A) (first2 : List B) (all : List A) (all2 : List B) (x : A) (y : B) → all ≡ first ++ x ∷ [] → all2 ≡ first2 ++ y ∷ [] → AllZip R first first2 → R x y → AllZip R all all2
   zip-push first first2 all all2 x y is is2 a r =

@@ -19,25 +19,6 @@ use Rattle.shred_plan.specs.Seats.{KeepsSeats}
 use Rattle.shred_plan.proofs.IndexLemmas.{any-placed, any-before, conflicts-by}
 use Rattle.shred_plan.proofs.LongestLemmas.{longest-new}
 
-no-stages : (Id : Type 0) (number place : ℕ) → stands_before {Id = Id} [] number place ≡ false
-no-stages Id number zero = refl
-no-stages Id number (suc place) = refl
-
--- the index of a plan without stages
-pub keeps-none : {Id : Type 0} (cmp : Id → Id → Ordering) (same : Id → Id → Bool) (index : Index Id)
-    → ((id : Id) (place : ℕ) → has_for cmp index.stages.writers id place ≡ false)
-    → ((id : Id) (place : ℕ) → has_for cmp index.stages.users id place ≡ false)
-    → KeepsSeats cmp same index.seats []
-    → ((number place : ℕ) → stood_before index.firsts.stages number place ≡ false)
-    → Keeps cmp same index []
-keeps-none {Id} cmp same index writers users seats firsts = record {
-  writers = λ id place. writers id place;
-  users = λ id place. users id place;
-  firsts = λ number place. firsts number place ∙ sym (no-stages Id number place);
-  seats = seats;
-  loose = λ place h. refl;
-}
-
 -- what an index tells of the stages with which a system conflicts
 pub keeps-blocks : {Id : Type 0} (cmp : Id → Id → Ordering) (same : Id → Id → Bool) (turns : (x y : Id) → same x y ≡ same y x) (index : Index Id) (one : Placing Id) (stages : List (Stage Id)) (set : StageSet) → Keeps cmp same index stages
     → ((place : ℕ) → has_stage set place ≡ finds cmp index.stages one place)
@@ -46,21 +27,6 @@ keeps-blocks cmp same turns index one stages set keeps is place =
     is place
     ∙ (λ i. list_any (λ id. keeps.writers id place i) one.reads || list_any (λ id. keeps.users id place i) one.writes)
     ∙ conflicts-by same turns one (systems_of (stage_at stages place))
-
--- a stage of one system has no group that is shorter than another
-single-tight : {Id : Type 0} (one : Placing Id) → is_loose ((one ∷ []) ∷ []) ≡ false
-single-tight one =
-    or_from (nat_lt 1 4 && nat_lt (time_of (one ∷ [])) (max 0 (time_of (one ∷ [])))) false
-    (and_right (nat_lt 1 4) (nat_lt (time_of (one ∷ [])) (max 0 (time_of (one ∷ [])))) (le-ltb (time_of (one ∷ [])) (max 0 (time_of (one ∷ []))) (omega arith))) refl
-
--- a group as long as the longest loosens nothing
-alone-tight : {Id : Type 0} (one : Placing Id) (stage : Stage Id) → longest stage ≡ one.time → is_loose stage ≡ false → is_loose (stage ++ (one ∷ []) ∷ []) ≡ false
-alone-tight {Id} one stage same tight =
-    let long : longest (stage ++ (one ∷ []) ∷ []) ≡ longest stage = longest-new stage one ∙ (omega arith) in
-    ap (λ most. list_any (λ (group : Group Id). nat_lt (length group) 4 && nat_lt (time_of group) most) (stage ++ (one ∷ []) ∷ [])) long
-    ∙ list_any-append (λ (group : Group Id). nat_lt (length group) 4 && nat_lt (time_of group) (longest stage)) stage ((one ∷ []) ∷ [])
-    ∙ or_from (is_loose stage) ((nat_lt 1 4 && nat_lt (time_of (one ∷ [])) (longest stage)) || false) tight
-    (or_from (nat_lt 1 4 && nat_lt (time_of (one ∷ [])) (longest stage)) false (and_right (nat_lt 1 4) (nat_lt (time_of (one ∷ [])) (longest stage)) (le-ltb (time_of (one ∷ [])) (longest stage) (omega arith))) refl)
 
 -- other stages are as loose as they were, and so is that of the place, if it takes the system in as a group of the same time
 pub tight-others : {Id : Type 0} (one : Placing Id) (stages : List (Stage Id)) (found : Option Place) → IsPlace stages found → (at : ℕ) → at ≢ stage_of stages found → is_loose (stage_at stages at) ≡ false → is_loose (stage_at (placed_at one stages found) at) ≡ false
@@ -72,27 +38,6 @@ tight-others one stages None fits at ne tight = by (cases_lt at (length stages))
         let past : length stages < at = omega arith in
         ap is_loose (get_or_past (stages ++ ((one ∷ []) ∷ []) ∷ []) at [] (omega (arith, length_push stages ((one ∷ []) ∷ []))))
 tight-others one stages (Some found) fits at ne tight = ap is_loose (get_or-set_other stages found.stage at (taken one (stage_at stages found.stage) found.way) [] ne) ∙ tight
-
-pub tight-new : {Id : Type 0} (one : Placing Id) (stages : List (Stage Id)) (at : ℕ) → is_loose (stage_at stages at) ≡ false → is_loose (stage_at (placed_at one stages None) at) ≡ false
-tight-new one stages at tight = by (cases_eq at (length stages))
-  where
-    by : (at ≡ length stages) ⊎ (at ≡ length stages → ⊥) → is_loose (stage_at (placed_at one stages None) at) ≡ false
-    by (inl e) = ap is_loose (get_or_push stages ((one ∷ []) ∷ []) [] at (sym e)) ∙ single-tight one
-    by (inr ne) = tight-others one stages None tt at ne tight
-
-pub tight-alone : {Id : Type 0} (one : Placing Id) (stages : List (Stage Id)) (stage : ℕ) → stage < length stages → longest (stage_at stages stage) ≡ one.time → (at : ℕ)
-    → is_loose (stage_at stages at) ≡ false → is_loose (stage_at (placed_at one stages (Some (record { stage = stage; way = Alone }))) at) ≡ false
-tight-alone one stages stage within same at tight = by (cases_eq at stage)
-  where
-    P : Type 0
-    P = is_loose (stage_at (set stages stage (taken one (stage_at stages stage) Alone)) at) ≡ false
-
-    by : (at ≡ stage) ⊎ (at ≡ stage → ⊥) → P
-    by (inl e) =
-        ap (λ place. is_loose (stage_at (set stages stage (taken one (stage_at stages stage) Alone)) place)) e
-        ∙ ap is_loose (get_or-set_same stages stage (taken one (stage_at stages stage) Alone) [] within)
-        ∙ alone-tight one (stage_at stages stage) same (ap (λ place. is_loose (stage_at stages place)) (sym e) ∙ tight)
-    by (inr ne) = tight-others one stages (Some (record { stage = stage; way = Alone })) (within, tt) at ne tight
 
 -- the index with a system in it keeps to the plan with the system at its place
 pub keeps-noted : {Id : Type 0} (cmp : Id → Id → Ordering) (same : Id → Id → Bool) (before after : Index Id) (one : Placing Id) (stages : List (Stage Id)) (found : Option Place) (stage : ℕ) → IsPlace stages found → stage ≡ stage_of stages found

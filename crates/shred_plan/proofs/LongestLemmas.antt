@@ -19,12 +19,6 @@ module _ {Id : Type 0} where
   time-push : (group : Group Id) (one : Placing Id) → time_of (group ++ one ∷ []) ≡ time_of group + one.time
   time-push group one = sum_by-append (λ (system : Placing Id). system.time) group (one ∷ []) ∙ ap (λ n. time_of group + n) (omega arith)
 
-  -- with a group of one more system
-  pub longest-new : (stage : Stage Id) (one : Placing Id) → longest (stage ++ (one ∷ []) ∷ []) ≡ max (longest stage) one.time
-  longest-new stage one =
-      fold-append (λ (m : ℕ) (group : Group Id). max m (time_of group)) 0 stage ((one ∷ []) ∷ [])
-      ∙ ap (λ n. max (longest stage) n) (omega arith)
-
   -- with a group that one more system makes longer
   pub longest-longer : (stage : Stage Id) (i : ℕ) (one : Placing Id) → i < length stage → longest (set stage i (get_or stage i [] ++ one ∷ [])) ≡ max (longest stage) (time_of (get_or stage i [] ++ one ∷ []))
   longest-longer [] i one h = absurd (omega arith)

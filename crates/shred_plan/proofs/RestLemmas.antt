@@ -49,8 +49,3 @@ completes-missing group (number ∷ rest) first h read e =
     let gone : list_any (λ system. system.number == number) group ≡ false = ap (λ n. list_any (λ system. system.number == n) group) (sym read) ∙ e in
     ap (λ list. (length list == 0) && nat_lt (length list) (suc (length rest))) (rest-stays group number rest gone)
     ∙ ap (λ b. b && nat_lt (suc (length (rest_after rest group))) (suc (length rest))) (ne_eqb (suc (length (rest_after rest group))) 0 (λ q. omega arith))
-
-pub completes-nothing : {Id : Type 0} (group : List (Placing Id)) (rest : List ℕ) → length rest ≡ 0 → completes rest group ≡ false
-completes-nothing group rest e =
-    ap (λ n. (length (rest_after rest group) == 0) && nat_lt (length (rest_after rest group)) n) e
-    ∙ and_right (length (rest_after rest group) == 0) (nat_lt (length (rest_after rest group)) 0) (le-ltb (length (rest_after rest group)) 0 (omega arith))

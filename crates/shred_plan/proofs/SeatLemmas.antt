@@ -221,13 +221,3 @@ seated-placed {Id} one stages found seat fits of rest test e =
           ∙ ap (λ b. list_any test (get_or stage place []) || (b || false)) e
           ∙ or-true (list_any test (get_or stage place []));
     }
-
--- the tables of a plan without stages
-pub seats-none : {Id : Type 0} (cmp : Id → Id → Ordering) (same : Id → Id → Bool) (seats : IdTable Id)
-    → ((id : Id) (seat : ℕ) → has_for cmp seats.writers id seat ≡ false)
-    → ((id : Id) (seat : ℕ) → has_for cmp seats.users id seat ≡ false)
-    → KeepsSeats cmp same seats []
-seats-none cmp same seats writers users = record {
-  writers = λ id seat e. absurd (false≢true (sym (writers id seat) ∙ e));
-  users = λ id seat e. absurd (false≢true (sym (users id seat) ∙ e));
-}

@@ -97,17 +97,6 @@ is_in-remove words stage place within = by (cases_eq (place / 64) (stage / 64)) 
         ap (λ w. eqb (bit_at w (place % 64)) 1) (get_or-set_other words (stage / 64) (place / 64) word 0 np)
         ∙ sym (other (λ e. np (ap (λ x. x / 64) e)))
 
--- a stage past the words isn't there
-pub is_in-past : (words : List ℕ) (stage place : ℕ) → length words ≤ stage / 64 → is_in words place ≡ (is_in words place && not (stage == place))
-is_in-past words stage place past = by (cases_eq stage place)
-  where
-    by : (stage ≡ place) ⊎ (stage ≡ place → ⊥) → is_in words place ≡ (is_in words place && not (stage == place))
-    by (inl e) =
-        let out : is_in words place ≡ false =
-        ap (λ p. is_in words p) (sym e) ∙ ap (λ w. eqb (bit_at w (stage % 64)) 1) (get_or_past words (stage / 64) 0 past) ∙ ap (λ b. eqb b 1) (bit_at-zero (stage % 64)) in
-        out ∙ sym (ap (λ b. b && not (stage == place)) out)
-    by (inr ne) = sym (ap (λ b. is_in words place && not b) (ne_eqb stage place ne) ∙ and-true (is_in words place))
-
 -- words that read the same have the same stages
 pub is_in-same : (words others : List ℕ) → ((place : ℕ) → get_or words place 0 ≡ get_or others place 0) → (place : ℕ) → is_in words place ≡ is_in others place
 is_in-same words others same place = ap (λ w. eqb (bit_at w (place % 64)) 1) (same (place / 64))

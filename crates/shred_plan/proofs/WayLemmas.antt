@@ -21,13 +21,6 @@ all-other : (x : ℕ) (xs : List ℕ) → AllByRecursion (λ y. eqb x y ≡ fals
 all-other x [] other = refl
 all-other x (y ∷ xs) other = ap (λ b. cond (not b) (y ∷ filter (λ z. not (x == z)) xs) (filter (λ z. not (x == z)) xs)) other.0 ∙ ap (λ list. y ∷ list) (all-other x xs other.1)
 
-turned : (x y : ℕ) → (x == y) ≡ (y == x)
-turned x y = by (cases_eq x y)
-  where
-    by : (x ≡ y) ⊎ (x ≡ y → ⊥) → (x == y) ≡ (y == x)
-    by (inl e) = eq-eqb x y e ∙ sym (eq-eqb y x (sym e))
-    by (inr ne) = ne_eqb x y ne ∙ sym (ne_eqb y x (λ e. ne (sym e)))
-
 -- a number that is taken out of different ones is gone
 without-distinct : (xs : List ℕ) (n : ℕ) → IsDistinct eqb xs → without xs n ≡ filter (λ w. not (n == w)) xs
 without-distinct [] n apart = refl

@@ -24,16 +24,6 @@ use Rattle.shred_stages.proofs.ApartLemmas.{set-other}
 
 -- places of a list
 
-pub set-beyond : {A : Type 0} (xs : List A) (n : ℕ) (a : A) → length xs ≤ n → set xs n a ≡ xs
-set-beyond [] n a h = refl
-set-beyond (x ∷ xs) zero a h = absurd (omega (arith, h))
-set-beyond (x ∷ xs) (suc n) a h = ap (λ list. x ∷ list) (set-beyond xs n a (omega (arith, h)))
-
-pub get-beyond : {A : Type 0} (xs : List A) (n : ℕ) (d : A) → length xs ≤ n → get_or xs n d ≡ d
-get-beyond [] n d h = refl
-get-beyond (x ∷ xs) zero d h = absurd (omega (arith, h))
-get-beyond (x ∷ xs) (suc n) d h = get-beyond xs n d (omega (arith, h))
-
 nat-same : (a b : ℕ) → (a ≡ b) ⊎ (a ≢ b)
 nat-same zero zero = inl refl
 nat-same zero (suc b) = inr (λ e. absurd (omega (arith, e)))
@@ -230,9 +220,6 @@ all-parts : {A : Type 0} (P : A → Type 0) (x : A) (xs : List A) → All P (x �
 all-parts P x xs all = (all 0 x (omega arith), λ k d h. all (suc k) d (omega (arith, h)))
 
 module _ {V S : Type 0} where
-  abbrev system_of : Staged V S → S
-  system_of staged = staged.system
-
   -- the systems of a group, as they stand in their slots
   pub standing-group : (group : Group ResourceId) (slots : List (Option (Staged V S))) (all : List (Staged V S)) (numbers : List ℕ) → AreAway slots all numbers → Misses group numbers → AreDistinct group → AreSeated group all
       → ArePlaced group (standing group slots) × StandAt (map (λ one. one.system) all) group (map (λ one. one.system) (standing group slots))

@@ -58,17 +58,6 @@ module _ {V : Type 0} where
   out-slot (Some (Some v)) (shared x) true r e some left = absurd (cc)
   out-slot (Some (Some v)) (owned x) true r e some left = refl
 
-free-of-take : (n : ℕ) (group : Group ResourceId) (stage : Stage ResourceId) → IsFreeOfAll group stage → IsFreeOfAll group (take n stage)
-free-of-take zero group stage free = tt
-free-of-take (suc n) group [] free = tt
-free-of-take (suc n) group (other ∷ stage) free = (free.0, free-of-take n group stage free.1)
-
--- so are the first groups of a stage
-pub free-take : (n : ℕ) (stage : Stage ResourceId) → AreFree stage → AreFree (take n stage)
-free-take zero stage free = tt
-free-take (suc n) [] free = tt
-free-take (suc n) (group ∷ stage) free = (free.0, free-of-take n group stage free.1, free-take n stage free.2)
-
 module _ {V S : Type 0} where
   -- one more group is lent its values
   pub lent-more : (stage : Stage ResourceId) (packs : List (Packed V S)) (w between next : Holding V) (group : Group ResourceId) (pack : Packed V S) → AreLent stage packs w between → IsLent group pack between next
@@ -79,15 +68,6 @@ module _ {V S : Type 0} where
   lent-more [] (p ∷ packs) w between next group pack lent one = absurd lent
   lent-more (g ∷ stage) [] w between next group pack lent one = absurd lent
   lent-more (g ∷ stage) (p ∷ packs) w between next group pack (middle, first, later) one = (middle, first, lent-more stage packs middle between next group pack later one)
-
-  abbrev AllFit : Stage ResourceId → List (Packed V S) → Type 0
-  AllFit stage packs = AllZip (λ group pack. FitsSeat (group_writes group) pack.seat) stage packs
-
-  lent-fit : (stage : Stage ResourceId) (packs : List (Packed V S)) (w w2 : Holding V) → AreLent stage packs w w2 → AllFit stage packs
-  lent-fit [] [] w w2 lent = tt
-  lent-fit [] (pack ∷ packs) w w2 lent = absurd lent
-  lent-fit (group ∷ stage) [] w w2 lent = absurd lent
-  lent-fit (group ∷ stage) (pack ∷ packs) w w2 (between, first, later) = (λ id. fit (is_listed (group_writes group) id) (get pack.seat id) (w id) (first.seat id), lent-fit stage packs between w2 later)
 
   -- what packs hold is what groups left, each of what the state held to which the earlier ones came back
   abbrev Backs : Stage ResourceId → List (Packed V S) → Holding V → Type 0
@@ -131,49 +111,6 @@ module _ {V S : Type 0} where
           let before : cut (group_reads group) (group_writes group) w id ≡ owned_of (takable (w id)) = ap (λ b. if b then owned_of (takable (w id)) else reading (group_reads group) w id) L in
           let left = subst Q (ap (λ h. h id) holds.held) (subst P before (leaves id)) in
           there ∙ out-slot (get pack.seat id) (w id) (is_listed holds.writes id) (reading holds.reads holds.world id) (holds.fits id) some left
-
-  -- nothing ran: what was lent is what was there
-  backs-unrun : (stage : Stage ResourceId) (packs : List (Packed V S)) (w w_after : Holding V) → IsWhole w → SeeWhatTheyDeclare stage packs w w_after → AllFit stage packs → Backs stage packs w
-  backs-unrun [] [] w w_after whole see fits = tt
-  backs-unrun [] (pack ∷ packs) w w_after whole see fits = absurd see
-  backs-unrun (group ∷ stage) [] w w_after whole see fits = absurd see
-  backs-unrun (group ∷ stage) (pack ∷ packs) w w_after whole see fits =
-      let held = cut (group_reads group) (group_writes group) w in
-      let P : Holding V → Type 0 = λ h. Backs stage packs h in (
-        record { refused = pack.refused; systems = pack.systems; held = held },
-        record { reads = group_reads group; writes = group_writes group; world = w_after; fits = fits.0; held = sym see.0; systems = refl; refused = refl },
-        leaves-itself held,
-        subst P (sym (cut-back (group_reads group) (group_writes group) w whole)) (backs-unrun stage packs w w_after whole see.1 fits.1),
-      )
-
-  last-unrun : (stage : Stage ResourceId) (packs : List (Packed V S)) (w w_after now last : Holding V) → IsWhole w → AreFree stage → SeeWhatTheyDeclare stage packs w w_after → AllFit stage packs → now ≡ out_of stage w
-      → AreBack stage packs now last → last ≡ w
-  last-unrun [] [] w w_after now last whole free see fits is back = fun_ext back ∙ is
-  last-unrun [] (pack ∷ packs) w w_after now last whole free see fits is back = absurd see
-  last-unrun (group ∷ stage) [] w w_after now last whole free see fits is back = absurd see
-  last-unrun (group ∷ stage) (pack ∷ packs) w w_after now last whole (_, free_of, free) see fits is (between, one, later) =
-      let held = cut (group_reads group) (group_writes group) w in
-      let ran : Ran V S = record { refused = pack.refused; systems = pack.systems; held = held } in
-      let holds : Holds pack ran = record { reads = group_reads group; writes = group_writes group; world = w_after; fits = fits.0; held = sym see.0; systems = refl; refused = refl } in
-      let next : between ≡ out_of stage w = one-back group stage pack ran w now between free_of holds (leaves-itself held) is one ∙ ap (out_of stage) (cut-back (group_reads group) (group_writes group) w whole) in
-      last-unrun stage packs w w_after between last whole free see.1 fits.1 next later
-
-  have-groups : (all : List S) (stage : Stage ResourceId) (packs : List (Packed V S)) → AllZip (IsPack all) stage packs → HaveGroups stage packs
-  have-groups all [] [] are = tt
-  have-groups all [] (pack ∷ packs) are = absurd are
-  have-groups all (group ∷ stage) [] are = absurd are
-  have-groups all (group ∷ stage) (pack ∷ packs) are = (are.0.group, have-groups all stage packs are.1)
-
-  have-writes : (all : List S) (stage : Stage ResourceId) (packs : List (Packed V S)) → AllZip (IsPack all) stage packs → HaveWrites stage packs
-  have-writes all [] [] are = tt
-  have-writes all [] (pack ∷ packs) are = absurd are
-  have-writes all (group ∷ stage) [] are = absurd are
-  have-writes all (group ∷ stage) (pack ∷ packs) are = (are.0.writes, have-writes all stage packs are.1)
-
-  put-all-same : (all : List S) (stage : Stage ResourceId) (packs : List (Packed V S)) → AllZip (IsPack all) stage packs → put_all stage packs all ≡ all
-  put-all-same all [] packs are = refl
-  put-all-same all (group ∷ stage) [] are = refl
-  put-all-same all (group ∷ stage) (pack ∷ packs) are = ap (put_all stage packs) (put-same group pack.systems all are.0.stand) ∙ put-all-same all stage packs are.1
 
   module _ (meets : S → Holding V → Option Stop → S → Holding V → Type 0) where
     backs-run : (stage : Stage ResourceId) (packs : List (Packed V S)) (rans : List (Ran V S)) (before : State V S) → AreFree stage → RanApart meets before stage rans → AllZip Holds packs rans → Backs stage packs before.held
@@ -241,30 +178,6 @@ module _ {V S : Type 0} where
         by [] (pack ∷ packs) have = absurd have
         by (group ∷ stage) [] have = absurd have
         by (group ∷ stage) (pack ∷ packs) have = ap₂ (λ one others. one ∷ others) have.0 (by stage packs have.1)
-
-  module _ (stage : Stage ResourceId) (all : List (Staged V S)) (packs : List (Packed V S)) (slots : List (Option (Staged V S))) (w : Slots V) (world : Slots V)
-      (free : AreFree stage) (loaded : AreLoaded all stage packs slots (holding_of w) (holding_of world)) where
-    -- what didn't run comes home
-    pub unrun-home : ComeHome packs (holding_of world)
-    unrun-home =
-        come-home stage packs (holding_of w) (holding_of world) free (have-writes (map (λ one. one.system) all) stage packs loaded.packs)
-        (backs-unrun stage packs (holding_of w) (holding_of world) (world-whole w) (lent-see stage packs (holding_of w) (holding_of world) free loaded.lent) (lent-fit stage packs (holding_of w) (holding_of world) loaded.lent))
-        (lent-out stage packs (holding_of w) (holding_of world) loaded.lent)
-
-    -- and all is as it was
-    pub unrun-stage : (slots2 : List (Option (Staged V S))) (w2 : Slots V) → StageIsSeated stage all → AreHome packs (holding_of world) (holding_of w2) → ArePutBack packs slots slots2
-        → (state_of (systems_in slots2) (holding_of w2) ≡ state_of all (holding_of w)) × AreIn slots2 × SeatsKept all (systems_in slots2) × (length (systems_in slots2) ≡ length all)
-    unrun-stage slots2 w2 seated home put =
-        let back = back-stage stage packs slots slots2 all (have-groups (map (λ one. one.system) all) stage packs loaded.packs) seated loaded.away put in
-        let is = back-in slots2 back.0 back.1 in
-        let held : holding_of w2 ≡ holding_of w =
-        last-unrun stage packs (holding_of w) (holding_of world) (holding_of world) (holding_of w2) (world-whole w) free (lent-see stage packs (holding_of w) (holding_of world) free loaded.lent)
-        (lent-fit stage packs (holding_of w) (holding_of world) loaded.lent) (lent-out stage packs (holding_of w) (holding_of world) loaded.lent)
-        (home-back stage packs (holding_of world) (holding_of w2) (have-writes (map (λ one. one.system) all) stage packs loaded.packs) home) in
-        let same : map (λ one. one.system) (systems_in slots2) ≡ map (λ one. one.system) all = ap (map (λ one. one.system)) is.1 ∙ back.2 ∙ put-all-same (map (λ one. one.system) all) stage packs loaded.packs in
-        let made : List S → Holding V → State V S = λ list h. record { systems = list; held = h } in
-        let Q : List (Staged V S) → Type 0 = λ list. SeatsKept all list in
-        (ap (λ list. made list (holding_of w2)) same ∙ ap (made (map (λ one. one.system) all)) held, is.0, subst Q (sym is.1) back.3, ap length is.1 ∙ back.4)
 
 -- lists that are related place by place are as long
 pub zip-length : {A B : Type 0} (R : A → B → Type 0) (xs : List A) (ys : List B) → AllZip R xs ys → length xs ≡ length ys

@@ -11,16 +11,6 @@ use Rattle.shred_world.specs.Bundles.{Slot, absent, out, shared, owned, Holding,
 use Rattle.shred_world.proofs.CallerLemmas.{same_id-is, same_id-itself}
 use Rattle.shred_stages.specs.Moves.{emptied, filled, left_of, moved_to, HasSlots}
 
--- an element of a list is listed
-pub listed-at : (ids : List ResourceId) (k : ℕ) (id : ResourceId) → k < length ids → id ≡ get_or ids k id → is_listed ids id ≡ true
-listed-at [] k id h e = absurd (omega arith)
-listed-at (first ∷ ids) zero id h e = let P : ResourceId → Type 0 = λ q. (same_id id q || is_listed ids id) ≡ true in subst P e (rw (same_id-itself id) refl)
-listed-at (first ∷ ids) (suc k) id h e = by (same_id id first) (listed-at ids k id (omega arith) e)
-  where
-    by : (b : Bool) → is_listed ids id ≡ true → (b || is_listed ids id) ≡ true
-    by true q = refl
-    by false q = q
-
 -- one more id of the list
 pub listed-more : (done : List ResourceId) (id q : ResourceId) → is_listed (done ++ id ∷ []) q ≡ (is_listed done q || (same_id q id || false))
 listed-more done id q = list_any-append (same_id q) done (id ∷ [])
@@ -80,19 +70,6 @@ module _ {V : Type 0} where
       by false (shared v) f m = m ∙ f
       by false (owned v) f m = m
 
-  slot-here : (l : Bool) (start now to_start to_now : Slot V) → now ≡ (if l then emptied start else start) → to_now ≡ (if l then filled start to_start else to_start)
-      → (IsSome (takable start) → to_start ≡ out) → IsSome (takable now) → to_now ≡ out
-  slot-here l start now to_start to_now e f slot there =
-      by l start f slot (let P : Slot V → Type 0 = λ x. IsSome (takable x) in subst P e there)
-    where
-      by : (l : Bool) (start : Slot V) → to_now ≡ (if l then filled start to_start else to_start) → (IsSome (takable start) → to_start ≡ out)
-          → IsSome (takable (if l then emptied start else start)) → to_now ≡ out
-      by true absent f slot there = absurd (false≢true there)
-      by true out f slot there = absurd (false≢true there)
-      by true (shared v) f slot there = absurd (false≢true there)
-      by true (owned v) f slot there = absurd (false≢true there)
-      by false start f slot there = f ∙ slot there
-
   step-from : (done : List ResourceId) (id : ResourceId) (start now after : Holding V) → ((q : ResourceId) → now q ≡ left_of done start q)
       → Edits (takable (now id)) (λ _. out) now after id
       → (q : ResourceId) → after q ≡ left_of (done ++ id ∷ []) start q
@@ -131,12 +108,6 @@ module _ {V : Type 0} where
           edits-other (takable (now id)) owned to_now to_after id q is edits ∙ to_known q
           ∙ keep (is_listed done q) (same_id q id) (to_start q) (filled (start q) (to_start q)) is
           ∙ ap (λ b. if b then filled (start q) (to_start q) else to_start q) (sym (listed-more done id q))
-
-  pub slot-there : (ids done : List ResourceId) (id : ResourceId) (start now to_start to_now : Holding V) → HasSlots ids start to_start → is_listed ids id ≡ true
-      → ((q : ResourceId) → now q ≡ left_of done start q) → ((q : ResourceId) → to_now q ≡ moved_to done start to_start q)
-      → IsSome (takable (now id)) → to_now id ≡ out
-  slot-there ids done id start now to_start to_now slots listed known to_known there =
-      slot-here (is_listed done id) (start id) (now id) (to_start id) (to_now id) (known id) (to_known id) (slots id listed) there
 
   -- the step of a loop over the ids
   pub loop-from : (ids : List ResourceId) (k : ℕ) (id : ResourceId) (start now after : Holding V) → k < length ids → id ≡ get_or ids k id

@@ -33,9 +33,6 @@ module _ {V S : Type 0} where
       by None e m = absurd m
       by (Some x) e m = slice_get_within staged one.number x e
 
-  pub seat-at : (staged : List (Staged V S)) (one : Placing ResourceId) (x : Staged V S) → slice_get staged one.number ≡ Some x → IsSeated staged one → IsSeat one.writes x.seat
-  seat-at staged one x e seated = let P : Option (Staged V S) → Type 0 = λ o. MatchOption o ⊥ (λ there. IsSeat one.writes there.seat) in subst P e seated
-
   -- another in the place of one
   kept-at : (P : Staged V S → Type 0) (staged : List (Staged V S)) (n m : ℕ) (x y : Staged V S) → slice_get staged n ≡ Some x → (P x → P y)
       → MatchOption (slice_get staged m) ⊥ P → MatchOption (slice_get (set staged n y) m) ⊥ P
@@ -94,13 +91,6 @@ module _ {V S : Type 0} where
         let P : Group ResourceId → Type 0 = λ list. GroupRuns meets list now (Some (number, why)) next in
         known (Some (number, why)) next (subst P (sym (from-at group i one h read)) (next, Some why, turn, (ap (λ n. Some (n, why)) same, refl)))
 
-    pub group-ends : (group : Group ResourceId) (i : ℕ) (start now : State V S) → length group ≤ i
-        → ((refused : Option (ℕ × Stop)) (after : State V S) → GroupRuns meets (drop i group) now refused after → GroupRuns meets group start refused after)
-        → GroupRuns meets group start None now
-    group-ends group i start now h known =
-        let P : Group ResourceId → Type 0 = λ list. GroupRuns meets list now None now in
-        known None now (subst P (sym (from-end group i h)) (refl, refl))
-
     -- the loop over a stage
     pub or-assoc : (a b c : Option (ℕ × Stop)) → option_or a (option_or b c) ≡ option_or (option_or a b) c
     or-assoc None b c = refl
@@ -146,28 +136,3 @@ module _ {V S : Type 0} where
         let R : Stage ResourceId → Type 0 = λ list. StageRuns meets list now (Some why) next in
         let P : List (Stage ResourceId) → Type 0 = λ list. StagesRun meets list now (Some why) next in
         known (Some why) next (subst P (sym (from-at stages i stage h read)) (next, Some why, subst R lends runs, (refl, refl)))
-
-    -- one more stage ran to its end
-    stages-add : (xs : List (Stage ResourceId)) (stage : Stage ResourceId) (before mid after : State V S) → StagesRun meets xs before None mid → StageRuns meets stage mid None after → StagesRun meets (xs ++ stage ∷ []) before None after
-    stages-add [] stage before mid after (none, e) runs = let P : State V S → Type 0 = λ state. StageRuns meets stage state None after in (after, None, subst P e runs, (refl, refl))
-    stages-add (x ∷ xs) stage before mid after (between, stop, first, later) runs = (between, stop, first, by stop (λ ran. stages-add xs stage between mid after ran runs) later)
-      where
-        by : (stop : Option (ℕ × Stop)) → (StagesRun meets xs between None mid → StagesRun meets (xs ++ stage ∷ []) between None after) → MatchOption stop (StagesRun meets xs between None mid) (λ why. (None ≡ Some why) × (mid ≡ between))
-            → MatchOption stop (StagesRun meets (xs ++ stage ∷ []) between None after) (λ why. (None ≡ Some why) × (after ≡ between))
-        by None add m = add m
-        by (Some why) add m = absurd (let e : None ≡ Some why = m.0 in cc)
-
-    pub stages-ran : (stages : List (Stage ResourceId)) (i : ℕ) (stage lent : Stage ResourceId) (start now next : State V S) → i < length stages → stage ≡ get_or stages i stage
-        → StagesRun meets (take i stages) start None now → lent ≡ stage → StageRuns meets lent now None next → StagesRun meets (take (i + 1) stages) start None next
-    stages-ran stages i stage lent start now next h read ran lends runs =
-        let R : Stage ResourceId → Type 0 = λ list. StageRuns meets list now None next in
-        let longer : take i stages ++ stage ∷ [] ≡ take (i + 1) stages = ap (λ s. take i stages ++ s ∷ []) read ∙ sym (take_more stages i stage h) in
-        let P : List (Stage ResourceId) → Type 0 = λ list. StagesRun meets list start None next in
-        subst P longer (stages-add (take i stages) stage start now next ran (subst R lends runs))
-
-    pub stages-end : (stages : List (Stage ResourceId)) (i : ℕ) (start now : State V S) → length stages ≤ i
-        → ((refused : Option (ℕ × Stop)) (after : State V S) → StagesRun meets (drop i stages) now refused after → StagesRun meets stages start refused after)
-        → StagesRun meets stages start None now
-    stages-end stages i start now h known =
-        let P : List (Stage ResourceId) → Type 0 = λ list. StagesRun meets list now None now in
-        known None now (subst P (sym (from-end stages i h)) (refl, refl))

@@ -82,16 +82,3 @@ module _ {V S : Type 0} (meets : S → Holding V → Option Stop → S → Holdi
       ends : (s : Option Stop) → MatchOption s (PlacesRun meets [] none after (option_map told s) none after) (λ why. (option_map told s ≡ Some (told why)) × (none ≡ none) × (after ≡ after))
       ends None = (refl, refl, refl)
       ends (Some why) = (refl, refl, refl)
-
--- a list of one
-pub of-one : {A : Type 0} (xs : List A) (d : A) → length xs ≡ 1 → xs ≡ get_or xs 0 d ∷ []
-of-one [] d e = absurd (omega arith)
-of-one (x ∷ []) d e = refl
-of-one (x ∷ y ∷ xs) d e = absurd (omega arith)
-
--- what a group of one reads and writes
-pub reads-of-one : (group : Group ResourceId) (one : Placing ResourceId) → group ≡ one ∷ [] → group_reads group ≡ one.reads
-reads-of-one group one is = ap group_reads is ∙ append-nil one.reads
-
-pub writes-of-one : (group : Group ResourceId) (one : Placing ResourceId) → group ≡ one ∷ [] → group_writes group ≡ one.writes
-writes-of-one group one is = ap group_writes is ∙ append-nil one.writes

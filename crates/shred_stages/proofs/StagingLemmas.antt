@@ -52,9 +52,6 @@ module _ {V : Type 0} where
       let P : List ResourceId → Type 0 = λ list. IsSeat list after in
       subst P more (seat-next (take k ids) id seat after seated made)
 
-  pub seat-done : (ids : List ResourceId) (k : ℕ) (seat : Slots V) → length ids ≤ k → IsSeat (take k ids) seat → IsSeat ids seat
-  seat-done ids k seat h seated = let P : List ResourceId → Type 0 = λ list. IsSeat list seat in subst P (take_all k ids h) seated
-
 all-uncons : {A : Type 0} (P : A → Type 0) (x : A) (xs : List A) → All P (x ∷ xs) → P x × All P xs
 all-uncons P x xs all = (all 0 x (omega arith), λ k d h. all (suc k) d (omega arith))
 

@@ -104,17 +104,6 @@ module _ {V : Type 0} where
   flat-slot (Some None) = refl
   flat-slot (Some (Some v)) = refl
 
-  abbrev is_slot : Slot V → Bool
-  is_slot absent = false
-  is_slot out = true
-  is_slot (shared v) = true
-  is_slot (owned v) = true
-
-  some-slot : (o : Option (Option V)) → is_some o ≡ is_slot (slot_of o)
-  some-slot None = refl
-  some-slot (Some None) = refl
-  some-slot (Some (Some v)) = refl
-
   abbrev content : Slot V → Option (Option V)
   content absent = None
   content out = Some None
@@ -183,22 +172,8 @@ module _ {V : Type 0} where
 
   module _ (reads writes : List ResourceId) (start : Holding V) (seat : Slots V) (seated : IsSeat writes seat) (lent : Holding V) (lent_seat : Slots V)
       (from : (q : ResourceId) → lent q ≡ left_of writes start q) (to : (q : ResourceId) → holding_of lent_seat q ≡ moved_to writes start (holding_of seat) q) where
-    -- the seat has what it needs
-    pub first-slots : HasSlots writes start (holding_of seat)
-    first-slots q listed there = ap slot_of (seated q ∙ ap (λ b. if b then Some None else None) listed)
-
     lent-slot : (q : ResourceId) → holding_of lent_seat q ≡ (if is_listed writes q then filled (start q) (slot_of (if is_listed writes q then Some None else None)) else slot_of (if is_listed writes q then Some None else None))
     lent-slot q = to q ∙ ap (λ slot. if is_listed writes q then filled (start q) (slot_of slot) else slot_of slot) (seated q)
-
-    pub lent-fits : FitsSeat writes lent_seat
-    lent-fits q = some-slot (get lent_seat q) ∙ ap is_slot (lent-slot q) ∙ by (is_listed writes q) (start q)
-      where
-        by : (l : Bool) (slot : Slot V) → is_slot (if l then filled slot (slot_of (if l then Some None else None)) else slot_of (if l then Some None else None)) ≡ l
-        by true absent = refl
-        by true out = refl
-        by true (shared v) = refl
-        by true (owned v) = refl
-        by false slot = refl
 
     -- the view shows what is held, cut to what is declared
     pub lent-view : view_slots reads writes lent lent_seat ≡ cut reads writes start

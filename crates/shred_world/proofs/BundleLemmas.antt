@@ -18,14 +18,6 @@ module _ {V : Type 0} where
   pub holding_of-insert : (w : Slots V) (id : ResourceId) (x : Option V) → holding_of (insert w id x) ≡ with_slot (holding_of w) id (slot_of (Some x))
   holding_of-insert w id x = fun_ext (λ q. ap slot_of (get-insert ids_total w id x q) ∙ slot_of-cond (eq_by_cmp id_cmp q id) (Some x) (get w q))
 
-  -- to put a slot's content again changes nothing
-  pub with_slot-same : (w : Holding V) (id : ResourceId) (slot : Slot V) → w id ≡ slot → with_slot w id slot ≡ w
-  with_slot-same w id slot e = fun_ext (λ q. at q (same_id q id) refl)
-    where
-      at : (q : ResourceId) (b : Bool) → same_id q id ≡ b → cond b slot (w q) ≡ w q
-      at q true t = sym e ∙ ap w (sym (same_id-is q id t))
-      at q false t = refl
-
   twice : (b : Bool) (x y z : Slot V) → cond b x (cond b y z) ≡ cond b x z
   twice true x y z = refl
   twice false x y z = refl
@@ -33,10 +25,6 @@ module _ {V : Type 0} where
   -- of two edits of one slot the later counts
   pub with_slot-with_slot : (w : Holding V) (id : ResourceId) (x y : Slot V) → with_slot (with_slot w id x) id y ≡ with_slot w id y
   with_slot-with_slot w id x y = fun_ext (λ q. twice (same_id q id) y x (w q))
-
-  -- what was taken out and put back leaves all as it was
-  pub with_slot-back : (w : Holding V) (id : ResourceId) (x y : Slot V) → w id ≡ y → with_slot (with_slot w id x) id y ≡ w
-  with_slot-back w id x y e = with_slot-with_slot w id x y ∙ with_slot-same w id y e
 
 -- two setups, the first of which was accepted
 pub in_turn : {V : Type 0} (first second : Bool → Slots V → Slots V → Type 0) (accepted : Bool) (old middle new : Slots V) → first true old middle → second accepted middle new

@@ -14,20 +14,6 @@ use Rattle.std.specs.List.{list_any}
 pub listed_by : (kinds : List ℕ) {k kind : ℕ} {b : Bool} → k ≡ kind → list_any (λ x. x == k) kinds ≡ b → list_any (λ x. x == kind) kinds ≡ b
 listed_by kinds e h = ap (λ n. list_any (λ x. x == n) kinds) (sym e) ∙ h
 
--- a kind that isn't listed stands behind the others, and none stands twice
-pub distinct-push : (kinds : List ℕ) (kind : ℕ) → AreDistinct kinds → list_any (λ k. k == kind) kinds ≡ false → AreDistinct (kinds ++ kind ∷ [])
-distinct-push kinds kind distinct fresh i j before within same =
-    let long : length (kinds ++ kind ∷ []) ≡ length kinds + 1 = length-append kinds (kind ∷ []) in
-    let low : i < length kinds = omega arith in
-    let here : get_or (kinds ++ kind ∷ []) i 0 ≡ get_or kinds i 0 = get_or_append_left kinds (kind ∷ []) 0 i low in
-    elim (cases_lt j (length kinds)) [
-      | inl inside ↦ distinct i j before inside (sym here ∙ same ∙ get_or_append_left kinds (kind ∷ []) 0 j inside)
-      | inr last ↦
-          let at : j ≡ length kinds = omega arith in
-          let there : get_or (kinds ++ kind ∷ []) j 0 ≡ kind = ap (λ n. get_or (kinds ++ kind ∷ []) n 0) at ∙ get_or-append_right kinds (kind ∷ []) (length kinds) (length kinds) 0 refl (omega arith) ∙ ap (λ n. get_or (kind ∷ []) n 0) (let e : length kinds - length kinds ≡ 0 = omega arith in e) in
-          true≢false (sym (list_any_at (λ k. k == kind) kinds i 0 low (eq-eqb _ _ (sym here ∙ same ∙ there))) ∙ fresh)
-    ]
-
 -- the values of the kinds that are held, each found under its kind
 pub values-are-held : {V : Type 0} (w : Slots V) (kinds : List ℕ) → map (λ v. Some v) (values_of_kinds w kinds) ≡ map (λ kind. value_at w (id_of kind 0)) (held_kinds w kinds)
 values-are-held w [] = refl

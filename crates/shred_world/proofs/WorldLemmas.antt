@@ -50,14 +50,6 @@ on_some None x P e h = cc
 on_some (Some y) x P e h = h
 
 module _ {X : Type 0} where
-  -- what a loan of a slot that is there leaves
-  pub put_on_some : (o : Option (MutBor X)) (es fs : List (ResourceId × X)) (w : FinMap id_cmp X) (id : ResourceId) (x : X) → from_entries es ≡ w
-      → option_copied_mut o ≡ lookup (same_id id) es
-      → (IsSome (lookup (same_id id) es) → (q : ResourceId) → lookup (same_id q) fs ≡ cond (same_id q id) (Some x) (lookup (same_id q) es))
-      → OnSome o (from_entries {R = id_cmp} fs ≡ insert w id x)
-  put_on_some None es fs w id x e value h = tt
-  put_on_some (Some r) es fs w id x e value h = one_put es fs id x (h (subst IsSome value refl)) ∙ ap (λ m. insert m id x) e
-
   -- to put what is there changes nothing
   pub insert_same : (w : FinMap id_cmp X) (id : ResourceId) (x : X) → get w id ≡ Some x → insert w id x ≡ w
   insert_same w id x e = same_map ids_total exact_ids _ _ (λ q. get-insert ids_total w id x q ∙ at q (same_id q id) refl)

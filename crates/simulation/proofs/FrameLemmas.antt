@@ -34,9 +34,6 @@ use Rattle.simulation.specs.declared.values.Value.TheVariants.{EntitiesValue, Ta
 use Rattle.simulation.specs.Steps.{births_id, table_id, position_id, velocity_id, Moves, Reaps, Does, StepMeets}
 use Rattle.simulation.specs.Frames.{moving, reaping, two_staged, IsTwo, MovesAndReaps}
 
-ok-err : {A E : Type 0} (a : A) (e : E) → Ok a ≡ Err e → ⊥
-ok-err a e h = cc
-
 abbrev Staged : Type 0
 Staged = Work Step (Batched Step NoBatch)
 
@@ -119,21 +116,3 @@ module _ (batch_meets : Batched Step NoBatch → Holding Value → Option Stop �
         let none = subst L two.locals did.locals in
         let Q : Holding Value → Type 0 = λ held. MovesAndReaps w held in
         subst Q (sym none.2) (turned before after w did.w_between two did.steps).does
-
-    planned : {A : Type 0} (before after : Dispatching Staged NoLocal) (w w_after : Holding Value) (a : A) → DispatchesAll meets local_meets before w (Ok a) after w_after → after.staging.planning ≡ before.staging.planning
-    planned {A} before after w w_after a did = by did.staged_result did.then_locals
-      where
-        by : (staged : Result A DispatchError) → ThenLocals meets local_meets did.between did.w_between staged (Ok a) after w_after → after.staging.planning ≡ before.staging.planning
-        by (Ok b) then = ap (λ staging. staging.planning) then.staging ∙ did.staged.plan
-        by (Err error) then = absurd (ok-err a error then.0)
-
-    -- and leaves the two as they are
-    pub dispatch-two : (before after : Dispatching Staged NoLocal) (w w_after : Holding Value) (result : Result Unit DispatchError) → IsTwo before
-        → DispatchesAll meets local_meets before w result after w_after → DispatchesInAnyOrder meets local_meets before w result after w_after → OnOk result (IsTwo after)
-    dispatch-two before after w w_after (Err error) two runs did = tt
-    dispatch-two before after w w_after (Ok a) two runs did =
-        let L : List NoLocal → Type 0 = λ locals. LocalsRun local_meets 0 locals did.w_between None after.locals w_after in
-        let none = subst L two.locals did.locals in
-        let planning = planned before after w w_after a runs ∙ ap (λ staging. staging.planning) two.staging in
-        let systems = (turned before after w did.w_between two did.steps).systems in
-        record { staging = λ j. record { planning = planning j; systems = systems j }; locals = none.1 }

@@ -9,10 +9,6 @@ use Rattle.specs_entity.specs.Births.{Births, deleted, living}
 use Rattle.simulation.specs.declared.values.Position.{Position}
 use Rattle.simulation.specs.Steps.{Accepts, is_far, is_reaped}
 
-bool-cases : (b : Bool) → (b ≡ true) ⊎ (b ≡ false)
-bool-cases true = inl refl
-bool-cases false = inr refl
-
 or-cases : (a b : Bool) → (a || b) ≡ true → (a ≡ true) ⊎ (b ≡ true)
 or-cases true b e = inl refl
 or-cases false b e = inr e

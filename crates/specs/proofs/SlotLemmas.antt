@@ -11,11 +11,6 @@ use Rattle.specs_world.specs.Dropping.{StayOut}
 use Rattle.specs_world.specs.Resources.{Place, Becomes, held}
 use Rattle.specs.specs.Marking.{without}
 
-found-slot : {V : Type 0} (slot : Option (Option V)) (v : V) → option_flatten slot ≡ Some v → slot ≡ Some (Some v)
-found-slot None v is = cc
-found-slot (Some None) v is = cc
-found-slot (Some (Some u)) v is = ap Some is
-
 out-none : {V R : Type 0} (part : V → Option R) (slot : Option (Option V)) (r : R) → slot ≡ Some None → option_and_then part (option_flatten slot) ≡ Some r → ⊥
 out-none part slot r out is = false≢true (ap is_some (sym (ap (λ s. option_and_then part (option_flatten s)) out) ∙ is))
 

@@ -111,11 +111,6 @@ still-lives births kept left entity alive =
     living-freshened (with_next_taken births) (next_index births) entity.id (other-index births kept left entity alive)
     ∙ (taken-lives births kept left entity.id ∙ alive)
 
-pub allocated-live_on : (births : Births) (kept : AreBirths births) (left : ¬ (IndicesAreSpent births)) → LivesOn births (allocated births)
-allocated-live_on births kept left entity alive =
-    living-with_life (with_next_taken births) (next_index births) (newborn births).generation entity.id (other-index births kept left entity alive)
-    ∙ (taken-lives births kept left entity.id ∙ alive)
-
 -- where the newborn lives, and each other index is as it was
 brings : (births : Births) (entity : LifeAt) (after : Births) → IsAlive after entity → ((other : ℕ) → other ≢ entity.id → living after other ≡ living births other) → BringsToLife births entity after
 brings births entity after alive others index =
@@ -128,11 +123,6 @@ pub created-brings : (births : Births) (kept : AreBirths births) (left : ¬ (Ind
 created-brings births kept left =
     brings births (newborn births) (created births) (created-lives births kept left)
     (λ other ne. living-freshened (with_next_taken births) (next_index births) other ne ∙ taken-lives births kept left other)
-
-pub allocated-brings : (births : Births) (kept : AreBirths births) (left : ¬ (IndicesAreSpent births)) → BringsToLife births (newborn births) (allocated births)
-allocated-brings births kept left =
-    brings births (newborn births) (allocated births) (allocated-lives births kept left)
-    (λ other ne. living-with_life (with_next_taken births) (next_index births) (newborn births).generation other ne ∙ taken-lives births kept left other)
 
 pub continues-same : (births : Births) → Continues births births
 continues-same births = record { births = λ index. omega arith; lives = λ index life is. inl is }
@@ -191,12 +181,3 @@ newborns-fresh-all (suc more) births =
 pub newborns-fresh : (number : ℕ) (births : Births) → AreBirths births → CanCreate number births → AreFresh (all_created number births) (newborns number births)
 newborns-fresh number births kept can =
     record { fresh = newborns-fresh-all number births; apart = (newborns-new number births kept can).live.apart }
-
--- who lives on does so where nobody began to live or died since
-pub live_on-same : (before between after : Births) → LivesOn before between → ((index : ℕ) → living after index ≡ living between index) → LivesOn before after
-live_on-same before between after on same entity alive = same entity.id ∙ on entity alive
-
--- entities that are new stay so where nobody began to live or died since
-pub new-same : (before between after : Births) (entities : List LifeAt) → AreNew before entities between → ((index : ℕ) → living after index ≡ living between index) → AreNew before entities after
-new-same before between after entities new same =
-    record { unborn = new.unborn; range = new.range; live = CanKill-same (living between) (living after) entities same new.live }

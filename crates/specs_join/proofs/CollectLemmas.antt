@@ -48,10 +48,6 @@ module _ {I S T E : Type 0} (look : ℕ → Option S) (show : I → S) (post : I
   collected-both list other sofar more (Err e) held held' both = both
 
 module _ {S : Type 0} (members : ℕ → Bool) (joins value_at : ℕ → Option S) (mask : (index : ℕ) → index < 16777216 → members index ≡ is_some (joins index)) (values : (index : ℕ) → index < 16777216 → IsSome (joins index) → value_at index ≡ joins index) where
-  -- each member below 2 ^ 24 has a value
-  pub known-at : (index : ℕ) → index < 16777216 → members index ≡ true → IsSome (value_at index)
-  known-at index low is = let has = sym (mask index low) ∙ is in ap is_some (values index low has) ∙ has
-
   -- the values at the members are the join's
   pub members-joined : values_at (at_members members value_at) (walk members) ≡ join_list joins
   members-joined =

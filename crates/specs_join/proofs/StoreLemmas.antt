@@ -112,10 +112,6 @@ told-one true events done index =
     (append_assoc events.held (map event.Modified done) (event.Modified index ∷ []) ∙ ap (λ list. events.held ++ list) (sym (map-append event.Modified done (index ∷ []))))
 told-one false events done index = refl
 
-empty-list : {A : Type 0} (list : List A) → length list ≡ 0 → list ≡ []
-empty-list [] is = refl
-empty-list (first ∷ rest) is = absurd (omega (arith, is))
-
 module _ {T : Type 0} (before now : ℕ → Option T) (indices left : List ℕ) (values remaining : List T) (emits : Bool) (events events_now : Log ComponentEvent) (storing : IsStoring before now indices left values remaining emits events events_now) where
   -- one value more at the next index
   pub storing-goes-on : (p : ℕ → Bool) → indices ≡ walk p → (index : ℕ) (rest : List ℕ) → left ≡ index ∷ rest → (value : T) (others : List T) → remaining ≡ value ∷ others → (after : ℕ → Option T) → Puts now index (Some value) after → (events_after : Log ComponentEvent) → events_after ≡ told emits events_now (event.Modified index) → IsStoring before after indices rest values others emits events events_after
@@ -135,38 +131,6 @@ module _ {T : Type 0} (before now : ℕ → Option T) (indices left : List ℕ) 
   -- the next index has a part
   pub storing-member : (p : ℕ → Bool) → indices ≡ walk p → (index : ℕ) (rest : List ℕ) → left ≡ index ∷ rest → p index ≡ true
   storing-member p walks index rest next = walk-member p storing.done index rest (ap (λ list. storing.done ++ list) (sym next) ∙ storing.indices_are ∙ walks)
-
-  module _ (as_many : length values ≡ length indices) where
-    counts : length left ≡ length remaining
-    counts =
-        let of_indices = ap length storing.indices_are in
-        let of_values = ap length storing.values_are in
-        let one = length-append storing.done left in
-        let other = length-append storing.taken remaining in
-        let same = storing.same in
-        omega (arith, of_indices, of_values, one, other, same, as_many)
-
-    -- an index is left for each value
-    pub storing-none-left : (value : T) (others : List T) → remaining ≡ value ∷ others → left ≡ [] → ⊥
-    storing-none-left value others given none =
-        let one = counts in
-        let two = ap length given in
-        let three = ap length none in
-        absurd (omega (arith, one, two, three))
-
-  -- where no value is left, all are stored
-  module _ (as_many : length values ≡ length indices) (ended : remaining ≡ []) where
-    none-left : left ≡ []
-    none-left = empty-list left (counts as_many ∙ ap length ended)
-
-    all-done : storing.done ≡ indices
-    all-done = sym (append-nil storing.done) ∙ ap (λ list. storing.done ++ list) (sym none-left) ∙ storing.indices_are
-
-    pub storing-ends : values_at now indices ≡ values
-    storing-ends = ap (values_at now) (sym all-done) ∙ storing.stored ∙ sym (append-nil storing.taken) ∙ ap (λ list. storing.taken ++ list) (sym ended) ∙ storing.values_are
-
-    pub storing-told : events_now ≡ all_told emits events indices
-    storing-told = storing.told_of ∙ ap (all_told emits events) all-done
 
 -- a step of a walk over a set is one over its equal
 pub moved-on : (one other : SetWithRoom) → one ≡ other → (masks prefix : List ℕ) (index : ℕ) (masks_after prefix_after : List ℕ) → left_at one masks prefix ≡ index ∷ left_at one masks_after prefix_after → left_at other masks prefix ≡ index ∷ left_at other masks_after prefix_after

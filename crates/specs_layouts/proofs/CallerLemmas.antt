@@ -1,4 +1,4 @@
 -- What proofs of the crates above cite, and nothing else of these lemmas.
 pub use Rattle.specs_layouts.proofs.DropSteps.{room-for-one}
 pub use Rattle.specs_layouts.proofs.ToCome.{walk-come}
-pub use Rattle.specs_layouts.proofs.ShowsLemmas.{more-more, shows-inserted, shows-put, shows-refl, shows-same, shows-taken, shows-trans, shows-written, unread-more}
+pub use Rattle.specs_layouts.proofs.ShowsLemmas.{more-more, shows-refl, shows-same, shows-taken, shows-trans, shows-written}

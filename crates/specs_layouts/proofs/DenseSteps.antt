@@ -25,37 +25,6 @@ owns-none s index same none h =
     let there = slice_get-within s.parts (slice_index s.places index) (omega (arith, h.place, same)) in
     false≢true (sym (ap is_some (sym (dense_part-there s index h) ∙ none)) ∙ there)
 
--- the table is longer, and reads as before
-pub longer-dense : (places more owners : List ℕ) (count : ℕ) → IsDense places owners count → length places ≤ length more → ((i : ℕ) → slice_index more i ≡ slice_index places i) → IsDense more owners count
-longer-dense places more owners count dense longer same =
-    record {
-      same = dense.same;
-      known = λ place within. omega (arith, dense.known place within, longer);
-      placed = λ place within. same (slice_index owners place) ∙ dense.placed place within;
-    }
-
--- a longer table that reads as before gives no index a place
-pub longer-same : {T : Type 0} (places more owners : List ℕ) (parts : List T) (count : ℕ) → IsDense places owners count → length places ≤ length more → ((i : ℕ) → slice_index more i ≡ slice_index places i) → SameParts (dense_part (record { places = places; owners = owners; parts = parts })) (dense_part (record { places = more; owners = owners; parts = parts }))
-longer-same {T} places more owners parts count dense longer same index =
-    let s : Dense T = record { places = places; owners = owners; parts = parts } in
-    let t : Dense T = record { places = more; owners = owners; parts = parts } in
-    elim (owns-cases places owners index) [
-      | inl h ↦
-          let h' : Owns more owners index = record {
-            inside = omega (arith, h.inside, longer);
-            place = omega (arith, h.place, same index);
-            owner = ap (slice_index owners) (same index) ∙ h.owner;
-          } in
-          dense_part-there t index h' ∙ (ap (slice_get parts) (same index) ∙ sym (dense_part-there s index h))
-      | inr never ↦
-          dense_part-none t index (λ h'. never (record {
-            inside = omega (arith, dense.known (slice_index places index) (omega (arith, h'.place, same index)), sym (ap (slice_index owners) (same index)) ∙ h'.owner);
-            place = omega (arith, h'.place, same index);
-            owner = sym (ap (slice_index owners) (same index)) ∙ h'.owner;
-          }))
-          ∙ sym (dense_part-none s index never)
-    ]
-
 -- one index more has a place, the last
 pub record Grows (places owners places' owners' : List ℕ) (index count : ℕ) : Type 0 where
   pub same : length owners ≡ count

@@ -38,13 +38,6 @@ module _ {T : Type 0} (had : ℕ → Option T) (was_told : Log ComponentEvent) (
     emission = same ∙ dropped.emission;
   }
 
-  pub drops-same : (after : ℕ → Option T) (events : Log ComponentEvent) (emits_after : Bool) → SameParts has after → events ≡ tells → emits_after ≡ emits_now → DropsAll had was_told emits indices after events emits_after
-  drops-same after events emits_after parts told_same same = record {
-    parts = λ other. parts other ∙ dropped.parts other;
-    events = told_same ∙ dropped.events;
-    emission = same ∙ dropped.emission;
-  }
-
 -- the index of one entity more
 pub ids-next : (entities : List LifeAt) (place : ℕ) (entity : LifeAt) (index : ℕ) → place < length entities → entity ≡ get_or entities place entity → index ≡ entity.id → ids_of (take (place + 1) entities) ≡ ids_of (take place entities) ++ index ∷ []
 ids-next entities place entity index within is same =

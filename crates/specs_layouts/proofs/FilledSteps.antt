@@ -78,13 +78,3 @@ module _ {T : Type 0} (is_default : T → Type 0) (values : List T) (present aft
 
       pub inserted-kept : (other : ℕ) → other ≢ index → other < length values → slice_get (set more index part) other ≡ slice_get values other
       inserted-kept other apart within = slice_get-set_other more index other part apart ∙ kept other within
-
--- a default pushed fills the slot after the last
-pub pushed-filled : {T : Type 0} (is_default : T → Type 0) (values : List T) (value : T) (from : ℕ) → is_default value → ((i : ℕ) → from ≤ i → IfSome (slice_get values i) is_default) → (i : ℕ) → from ≤ i → IfSome (slice_get (values ++ value ∷ []) i) is_default
-pushed-filled is_default values value from default gaps i past = elim (cases_lt i (length values)) [
-  | inl within ↦ subst (λ (o : Option _). IfSome o is_default) (sym (slice_get-kept values value i within)) (gaps i past)
-  | inr after ↦ elim (cases_eq i (length values)) [
-    | inl here ↦ subst (λ (o : Option _). IfSome o is_default) (sym (ap (slice_get (values ++ value ∷ [])) here ∙ slice_get-push values value)) default
-    | inr beyond ↦ subst (λ (o : Option _). IfSome o is_default) (sym (slice_get_past (values ++ value ∷ []) i (omega (arith, length-append values (value ∷ []), after, beyond)))) tt
-  ]
-]

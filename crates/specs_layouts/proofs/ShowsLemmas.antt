@@ -24,12 +24,6 @@ told-more : {E : Type 0} (on : Bool) (log : Log E) (event : E) → told on log e
 told-more true log event = refl
 told-more false log event = more-none log
 
--- a reader who has read all has to read just what comes
-pub unread-more : {E : Type 0} (log : Log E) (more : List E) (reader : ℕ) → CaughtUp log reader → unread (with_more log more) reader ≡ more
-unread-more log more reader caught =
-    ap (λ place. drop place (log.held ++ more)) (get_or_default log.places reader (length (log.held ++ more)) (length log.held) caught.known ∙ caught.all)
-    ∙ drop-append_seam log.held more
-
 -- ---- indices that are named
 
 or-left : (a b : Bool) → a ≡ true → (a || b) ≡ true
@@ -105,11 +99,6 @@ module _ {S T : Type 0} (part_at : S → ℕ → Option T) (events : S → Log C
       → (s : S) (index : ℕ) (part : T) → IsSome (part_at s index) → Shows part_at events emits s (written s index part)
   shows-written written puts tells emission s index part there =
       shows-put s (written s index part) (Modified index) (Some part) (puts s index part there) (tells s index part) (emission s index part)
-
-  -- a part was put, over another or where none was
-  pub shows-inserted : (before after : S) (was : Bool) (index : ℕ) (part : Option T) → Puts (part_at before) index part (part_at after) → events after ≡ told (emits before) (events before) (cond was (Modified index) (Inserted index)) → emits after ≡ emits before → Shows part_at events emits before after
-  shows-inserted before after true index part = shows-put before after (Modified index) part
-  shows-inserted before after false index part = shows-put before after (Inserted index) part
 
   lacking : (part : Option T) → is_some part ≡ false → part ≡ None
   lacking None _ = refl

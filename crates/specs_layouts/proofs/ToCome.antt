@@ -19,14 +19,6 @@ filter-come (suc n) a p index low high is =
       | inr there ↦ kept index a rest (p a) (filter-come n (a + 1) p index (omega arith) (omega arith) is)
     ]
 
-rest-of : (index first : ℕ) (rest : List ℕ) → index ≢ first → IsToCome index (first ∷ rest) → IsToCome index rest
-rest-of index first rest other (inl here) = absurd (other (sym here))
-rest-of index first rest other (inr come) = come
-
-none-of : {T : Type 0} (part : Option T) → (IsSome part → ⊥) → part ≡ None
-none-of None lacks = refl
-none-of (Some part) lacks = absurd (lacks refl)
-
 -- each member comes
 pub walk-come : (p : ℕ → Bool) (index : ℕ) → index < 16777216 → p index ≡ true → IsToCome index (walk p)
 unfolding walk
@@ -36,14 +28,3 @@ walk-come p index within is = filter-come 16777216 0 p index (omega arith) (omeg
 pub all-come : {T : Type 0} (parts : ℕ → Option T) (p : ℕ → Bool) (left : List ℕ) → ((index : ℕ) → p index ≡ is_some (parts index)) → ((index : ℕ) → IsSome (parts index) → index < 16777216) → left ≡ walk p → (index : ℕ) → IsSome (parts index) → IsToCome index left
 all-come parts p left mask range whole index there =
     subst (IsToCome index) (sym whole) (walk-come p index (range index there) (mask index ∙ there))
-
--- a part that is left after the first index lost its own is to come after it
-pub rest-come : {T : Type 0} (before after : ℕ → Option T) (first : ℕ) (left rest : List ℕ) → Puts before first None after → left ≡ first ∷ rest → ((index : ℕ) → IsSome (before index) → IsToCome index left) → (index : ℕ) → IsSome (after index) → IsToCome index rest
-rest-come before after first left rest taken begins come index there = elim (cases_eq index first) [
-  | inl here ↦ absurd (false≢true (sym (ap is_some (ap after here ∙ taken.here)) ∙ there))
-  | inr other ↦ rest-of index first rest other (subst (IsToCome index) begins (come index (sym (ap is_some (taken.others index other)) ∙ there)))
-]
-
--- where nothing is to come, no part is left
-pub none-come : {T : Type 0} (parts : ℕ → Option T) (left : List ℕ) → left ≡ [] → ((index : ℕ) → IsSome (parts index) → IsToCome index left) → HasNone parts
-none-come parts left ended come index = none-of (parts index) (λ there. subst (IsToCome index) ended (come index there))

@@ -49,12 +49,6 @@ one_alive births one other alive alive' same =
 -- ---- a marker was looked for
 
 module _ {A S M I : Type 0} (noted : A → I → Option LifeAt) (allocates : A → LifeAt → Option I → M → A → Type 0) (id_of : M → I) (s : StorageMembers S M) (births births' : Births) (before after : A) (had has : Masked S) where
-  Old : Known A S
-  Old = record { births = births; allocator = before; markers = had }
-
-  New : Known A S
-  New = record { births = births'; allocator = after; markers = has }
-
   -- each known entity stays known
   abbrev Keeps : Type 0
   Keeps = (id : I) (entity : LifeAt) → IsKnown noted s.part_at id births before had entity → IsKnown noted s.part_at id births' after has entity
@@ -181,11 +175,6 @@ module _ {A S M I : Type 0} (noted : A → I → Option LifeAt) (allocates : A �
     -- ---- made
 
     module _ (made : MakesMarked noted allocates id_of s (id_of marker) births births' before after had has entity) where
-      now-lives : (index : ℕ) → index ≡ (newborn births).id → living births' index ≡ Some (newborn births).generation
-      now-lives index is =
-          made.lives index ∙ ap (λ b. cond b (Some entity.generation) (living births index)) (eq-eqb index entity.id (is ∙ ap (λ (e : LifeAt). e.id) (sym made.born)))
-          ∙ ap (λ (e : LifeAt). Some e.generation) made.born
-
       still-lives : (index : ℕ) → index ≢ (newborn births).id → living births' index ≡ living births index
       still-lives index apart =
           elim (eqb_tells index entity.id) [
@@ -263,11 +252,6 @@ module _ {A S M I : Type 0} (noted : A → I → Option LifeAt) (allocates : A �
             alive = made.alive;
             marked = ap (λ (e : LifeAt). is_some (s.part_at has.inner e.id)) made.born ∙ ap is_some made.given.puts.here;
           })
-
-    -- who is asked for is the bearer
-    pub retrieved-bearer : Retrieves noted allocates id_of s (id_of marker) births births' before after had has entity → bearer_at {A = A} {S = S} noted s.part_at id_of (record { births = births'; allocator = after; markers = has }) marker ≡ Some entity
-    retrieved-bearer (inl found) = known-bearer noted s.part_at id_of (record { births = births'; allocator = after; markers = has }) marker entity (found-keeps (id_of marker) entity found (id_of marker) entity found.known)
-    retrieved-bearer (inr made) = made-bearer made
 
     pub retrieved-asks : Retrieves noted allocates id_of s (id_of marker) births births' before after had has entity → Asks {S = Known A S} {M = M} (bearer_at noted s.part_at id_of) LivesIn (IsSound noted s.part_at id_of) (marker ∷ []) (record { births = births; allocator = before; markers = had }) (record { births = births'; allocator = after; markers = has })
     retrieved-asks (inl found) = record { only = λ one alive. inl (found-only found one alive); sound = found-sound found }

@@ -52,9 +52,6 @@ lives-there births entity alive = ap (λ (o : Option Life). unwrap_or (option_ma
 
 module _ {A S M I : Type 0} (noted : A → I → Option LifeAt) (part_at : S → ℕ → Option M) (id_of : M → I) where
   module _ (known : Known A S) (marker : M) (entity : LifeAt) where
-    test : LifeAt → Bool
-    test other = lives_there known.births other && is_some (part_at known.markers.inner other.id)
-
     chosen : (b : Bool) (other : LifeAt) → cond b (Some other) None ≡ Some entity → (b ≡ true) × (other ≡ entity)
     chosen true other is = (refl, ap (unwrap_or_one other) is)
       where

@@ -16,9 +16,6 @@ module _ {S M : Type 0} (bearer_of : S → M → Option LifeAt) (lives : S → L
   pub goes-none : (state : S) → GoesOn bearer_of lives state state
   goes-none state = record { keeps = λ marker entity is. is; live_on = λ entity lives. lives }
 
-  pub asks-none : (IsSound : S → Type 0) (state : S) → Asks bearer_of lives IsSound [] state state
-  asks-none IsSound state = record { only = λ entity lives. inl lives; sound = λ sound. sound }
-
   module _ (first second third : S) where
     pub goes-both : GoesOn bearer_of lives first second → GoesOn bearer_of lives second third → GoesOn bearer_of lives first third
     goes-both one other =

@@ -45,10 +45,6 @@ module _ {A S M I : Type 0} (noted : A → I → Option LifeAt) (part_at : S →
   abbrev pub bearer_in : Births → A → Masked S → M → Option LifeAt
   bearer_in births allocator markers = bearer_at noted part_at id_of (record { births = births; allocator = allocator; markers = markers })
 
-  -- each known bearer has just the marker that it is known by
-  abbrev pub IsSoundIn : Births → A → Masked S → Type 0
-  IsSoundIn births allocator markers = IsSound noted part_at id_of (record { births = births; allocator = allocator; markers = markers })
-
   module _ (births births' : Births) (before after : A) (had has : Masked S) where
     -- each known bearer stays so, and who lived lives on
     abbrev pub KeepsBearers : Type 0

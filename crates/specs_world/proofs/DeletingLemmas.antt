@@ -41,10 +41,6 @@ same_id-sym a b = at (same_id a b) (same_id b a) refl refl
     at false true e f = absurd (false≢true (sym e ∙ ap (λ q. same_id a q) (same_id-is b a f) ∙ same_id-itself a))
 
 module _ {V : Type 0} (drops : V → List ℕ → V → Type 0) where
-  -- where no part changed, what is out stays out
-  pub rests-out : (w w' : Slots V) → Rests drops w w' → StayOut w w'
-  rests-out w w' rests id out = subst (λ slot. SlotDrops drops [] slot (get w' id)) out (rests id)
-
   -- so it is where storages dropped parts
   pub drops-out : (kinds indices : List ℕ) (w w' : Slots V) → DropsIn drops kinds indices w w' → StayOut w w'
   drops-out kinds indices w w' dropped id out = at (is_of_kinds kinds id) refl

@@ -31,12 +31,6 @@ module _ {V : Type 0} (drops : V → List ℕ → V → Type 0) where
   slot-dropped indices w id was now stands dropped =
       subst (λ slot. SlotDrops drops indices slot (get (insert w id (Some now)) id)) (sym (slot-of-value (get w id) was stands)) (now, get-insert_here w id (Some now), dropped)
 
-  -- where no value stands nothing is dropped
-  pub slot-empty : (indices : List ℕ) (slot : Option (Option V)) → option_flatten slot ≡ None → SlotDrops drops indices slot slot
-  slot-empty indices None none = refl
-  slot-empty indices (Some None) none = refl
-  slot-empty indices (Some (Some v)) none = cc
-
   module _ (none : (v : V) → drops v [] v) where
     pub slot-rests : (slot : Option (Option V)) → SlotDrops drops [] slot slot
     slot-rests None = refl

@@ -22,17 +22,7 @@ module _ {V X : Type 0} (tries : X → Option Error → Slots V → Slots V → 
   left-first items same refused after tried = subst (λ xs. TriesEach tries xs None refused start after) same tried
 
   module _ (items : List X) (so_far : Option Error) (now : Slots V) (left : AreLeft items so_far now) where
-    -- where none is left all is over
-    pub left-over : items ≡ [] → TriesEach tries all None so_far start now
-    left-over none = left so_far now (subst (λ xs. TriesEach tries xs so_far so_far now now) (sym none) (refl, refl))
-
     module _ (x : X) (xs : List X) (first : items ≡ x ∷ xs) (one : Option Error) (middle : Slots V) (tried : tries x one now middle) where
-      -- where one found no memory all is over
-      pub left-end : one ≡ Some variant.Memory → TriesEach tries all None (Some variant.Memory) start middle
-      left-end memory =
-          left (Some variant.Memory) middle
-          (subst (λ items. TriesEach tries items so_far (Some variant.Memory) now middle) (sym first) (inl (subst (λ one. tries x one now middle) memory tried, refl)))
-
       -- else the others are left
       pub left-on : one ≢ Some variant.Memory → (kept : Option Error) → kept ≡ earlier so_far one → AreLeft xs kept middle
       left-on other kept is refused after rest =

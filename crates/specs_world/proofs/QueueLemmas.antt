@@ -67,17 +67,6 @@ module _ {V J : Type 0} (at : Place V (List J)) (w : Slots V) where
         at_other (inl before) = none-below other before
         at_other (inr behind) = let e : other ≡ number = omega arith in ap (waiting at w) e ∙ here
 
-  -- where none is found from a number on, no job waits anywhere
-  pub none-anywhere : (kind from : ℕ) (found : Option ℕ) → kind ≡ at.id.kind → IsLeastFrom w kind from found → found ≡ None → NoneBelow at w from → NoneWaits at w
-  none-anywhere kind from found same least is none number small = at_number (cases_lt number from)
-    where
-      found_none : (d : ℕ) → from ≤ d → value_at w (id_of kind d) ≡ None
-      found_none = subst (λ o. IsLeastFrom w kind from o) is least
-
-      at_number : (number < from) ⊎ (from ≤ number) → waiting at w number ≡ []
-      at_number (inl before) = none number before
-      at_number (inr behind) = none-there number (ap (λ k. value_at w (id_of k number)) (sym same) ∙ found_none number behind)
-
 -- each number of 64 bits is below the one behind the greatest
 pub below-all : {V J : Type 0} (at : Place V (List J)) (w : Slots V) (number : ℕ) → number ≡ 18446744073709551615 → NoneBelow at w (number + 1) → NoneWaits at w
 below-all at w number greatest none other small = none other (omega arith)

@@ -32,13 +32,6 @@ module _ {V J S : Type 0} (runs : J → Option Error → Slots V → Slots V →
             (subst (λ left. JobsRun runs at shared left counts now result after) (sym more)
             (inr (inr (refused, ran, other, next, subst (λ counts. JobsRun runs at shared rest counts ran result after) is rest_runs))))
 
-    -- where none may run any more, a job that is left ends it
-    pub run-limit : left ≡ zero → MayBeLeft at shared now → JobsRun runs at shared limit none_ran start (Err variant.Limit) now
-    run-limit none may = to_run (Err variant.Limit) now (subst (λ left. JobsRun runs at shared left counts now (Err variant.Limit) now) (sym none) (refl, inr (refl, may)))
-
-    pub run-none : left ≡ zero → NoneWaits at now → JobsRun runs at shared limit none_ran start (Ok counts) now
-    run-none none waits = to_run (Ok counts) now (subst (λ left. JobsRun runs at shared left counts now (Ok counts) now) (sym none) (refl, inl (refl, waits)))
-
 -- one more job is one more, and at most one more failed
 pub counted-jobs : (refused : Option Error) (counts : Maintained) → (counted refused counts).jobs ≡ counts.jobs + 1
 counted-jobs None counts = refl
