@@ -3,12 +3,12 @@ use Rattle.std.proofs.Common.{◌≡◌, ◌≢◌, ℕ, List, ◌∷◌, Option
 use Rattle.std.proofs.lemmas.Bool.{false≢true}
 use Rattle.std.specs.FinSet as set
 use Rattle.std.specs.Ordering.{nat_cmp}
+use Rattle.std.proofs.lemmas.Option.{same_Some}
 use Rattle.specs_entity.specs.Births.{Births, IsAlive, living_of, none_born}
 use Rattle.specs_entity.specs.Life.{LifeAt}
 use Rattle.specs_saveload.specs.declared.entity_data.EntityData.{EntityData}
 use Rattle.specs_saveload.specs.Bearing.{IsAmong}
 use Rattle.specs_saveload.specs.Loading.{AreApart}
-use Rattle.specs_saveload.specs.LoadingLemmas.{the-same}
 
 module _ {D : Type 0} (list rest : List (EntityData ℕ D)) (first : EntityData ℕ D) (is : list ≡ first ∷ rest) where
   pub lacks-more : (id : ℕ) → id ≢ first.marker → ((other : EntityData ℕ D) → IsAmong other rest → id ≢ other.marker) → (other : EntityData ℕ D) → IsAmong other list → id ≢ other.marker
@@ -30,4 +30,4 @@ nobody-lives births indices generations is entity alive =
 
 -- two that are saved of one world are one list, and so is one that is saved of a world of which the other is
 pub same-again : {E : Type 0} (whole back : Option (List E)) (list copy again : List E) → whole ≡ Some list → whole ≡ Some copy → back ≡ Some copy → back ≡ Some again → list ≡ again
-same-again whole back list copy again is is' same saved = the-same list copy (sym is ∙ is') ∙ the-same copy again (sym same ∙ saved)
+same-again whole back list copy again is is' same saved = same_Some list copy (sym is ∙ is') ∙ same_Some copy again (sym same ∙ saved)

@@ -3,7 +3,7 @@ use Rattle.std.proofs.Common.{◌≡◌, ◌<◌, ℕ, zero, suc, Bool, true, fa
 use Rattle.std.specs.List.{filter_map, find, cons_option}
 use Rattle.std.specs.Prelude.{slice_get, option_map}
 use Rattle.std.specs.Global.{Vec}
-use Rattle.std.proofs.lemmas.Bool.{eq-eqb}
+use Rattle.std.proofs.lemmas.Bool.{eq-eqb, or_right}
 use Rattle.std.proofs.lemmas.Option.{none-some, same_Some}
 use Rattle.std.proofs.lemmas.List.Elements.{All-nil, All-cons, All-head, All-tail, All-append, All-weaker}
 use Rattle.std.proofs.lemmas.List.Kept.{AllPairs-cons}
@@ -53,13 +53,9 @@ found-there : (test : PlainSystem → Bool) (systems : List PlainSystem) (one : 
 found-there test [] one is = absurd (none-some one is)
 found-there test (first ∷ systems) one is = by (test first) is (found-there test systems one)
   where
-    right : (a b : Bool) → b ≡ true → (a || b) ≡ true
-    right true b is = refl
-    right false b is = is
-
     by : (b : Bool) → cond b (Some first) (find test systems) ≡ Some one → (find test systems ≡ Some one → lives one.position (places_of systems) ≡ true) → (eqb first.position one.position || lives one.position (places_of systems)) ≡ true
     by true found later = ap (λ b. b || lives one.position (places_of systems)) (eq-eqb first.position one.position (ap (λ s. s.position) (same_Some first one found)))
-    by false found later = right (eqb first.position one.position) (lives one.position (places_of systems)) (later found)
+    by false found later = or_right (eqb first.position one.position) (lives one.position (places_of systems)) (later found)
 
 all-found : {X Y : Type 0} (P : Y → Type 0) (f : X → Option Y) → ((x : X) (y : Y) → f x ≡ Some y → P y) → (xs : List X) → All P (filter_map f xs)
 all-found {X} {Y} P f gives [] = All-nil P
@@ -78,14 +74,10 @@ locals-there place (system one ∷ entries) = by one.local one.facts (locals-the
     rest : List PlainSystem
     rest = systems_at (λ other. true) (suc place) entries
 
-    right : (a b : Bool) → b ≡ true → (a || b) ≡ true
-    right true b is = refl
-    right false b is = is
-
     more : (facts : Option Facts) → All (λ other. lives other.position (places_of rest) ≡ true) (systems_at (λ other. other.local) (suc place) entries)
         → All (λ other. lives other.position (places_of (with_facts place one facts ++ rest)) ≡ true) (systems_at (λ other. other.local) (suc place) entries)
     more None later = later
-    more (Some facts) later = All-weaker (λ other. lives other.position (places_of rest) ≡ true) (λ other. lives other.position (place ∷ places_of rest) ≡ true) (λ other is. right (eqb place other.position) (lives other.position (places_of rest)) is) (systems_at (λ other. other.local) (suc place) entries) later
+    more (Some facts) later = All-weaker (λ other. lives other.position (places_of rest) ≡ true) (λ other. lives other.position (place ∷ places_of rest) ≡ true) (λ other is. or_right (eqb place other.position) (lives other.position (places_of rest)) is) (systems_at (λ other. other.local) (suc place) entries) later
 
     by : (b : Bool) (facts : Option Facts) → All (λ other. lives other.position (places_of rest) ≡ true) (systems_at (λ other. other.local) (suc place) entries)
         → All (λ other. lives other.position (places_of (with_facts place one facts ++ rest)) ≡ true) (cond b (with_facts place one facts) [] ++ systems_at (λ other. other.local) (suc place) entries)

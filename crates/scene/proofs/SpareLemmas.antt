@@ -2,7 +2,7 @@
 use Rattle.std.proofs.Common.{◌≡◌, ℕ, Bool, true, false, ◌&&◌, ◌||◌, cond, eqb, List, [], ◌∷◌, Option, Some, None, refl, sym, subst, All}
 use Rattle.std.specs.List.{find, list_all, list_any}
 use Rattle.std.specs.Str.{bytes_eq}
-use Rattle.std.proofs.lemmas.Bool.{false≢true}
+use Rattle.std.proofs.lemmas.Bool.{false≢true, or_from}
 use Rattle.std.proofs.lemmas.List.Elements.{All-nil, All-cons, All-head, All-tail, All-append}
 use Rattle.scene_model.specs.declared.command.Command.{Command as CodeCommand}
 use Rattle.scene_model.specs.declared.command.Command.TheVariants as code
@@ -79,12 +79,7 @@ proper-none book scene proper id kind = by (scene.part id kind) refl
 
 none-under : (scene : PlainScene) → NoneGone scene → (id : ℕ) (names : List Name) → list_any (λ kind. holds_gone (scene.part id kind)) names ≡ false
 none-under scene none id [] = refl
-none-under scene none id (kind ∷ names) = either (holds_gone (scene.part id kind)) (list_any (λ other. holds_gone (scene.part id other)) names) (none id kind) (none-under scene none id names)
-  where
-    either : (b c : Bool) → b ≡ false → c ≡ false → (b || c) ≡ false
-    either true c one other = one
-    either false c one other = other
-
+none-under scene none id (kind ∷ names) = or_from (holds_gone (scene.part id kind)) (list_any (λ other. holds_gone (scene.part id other)) names) (none id kind) (none-under scene none id names)
 -- and where none is held, none is found
 pub none-found : (book : Book) (scene : PlainScene) → NoneGone scene → first_gone book scene ≡ None
 none-found book scene none = among scene.ids

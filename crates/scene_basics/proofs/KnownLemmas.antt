@@ -7,7 +7,7 @@ use Rattle.std.specs.Option.{unwrap_or, option_copied}
 use Rattle.std.specs.FinMap as slots
 use Rattle.std.specs.FinSet as set
 use Rattle.std.specs.Ordering.{nat_cmp}
-use Rattle.std.proofs.lemmas.Bool.{false≢true, eqb-true, eq-eqb}
+use Rattle.std.proofs.lemmas.Bool.{false≢true, eqb-true, eq-eqb, or_right}
 use denote.Ref.{Bor}
 use Rattle.shred_world.specs.declared.resource_id.ResourceId.{ResourceId}
 use Rattle.shred_world.specs.Bundles.{Holding, readable}
@@ -48,10 +48,6 @@ both-ways true false to from = sym (to refl)
 both-ways false true to from = from refl
 both-ways false false to from = refl
 
-or-right : (a b : Bool) → b ≡ true → (a || b) ≡ true
-or-right true b e = refl
-or-right false b e = e
-
 -- of ids that ascend, those among which all are that give something give what all give
 given-among : {X : Type 0} (f : ℕ → Option X) (xs ys : List ℕ) → IdsAscend xs → IdsAscend ys → ((id : ℕ) → lives id xs ≡ true → lives id ys ≡ true) → ((id : ℕ) → lives id ys ≡ true → IsSome (f id) → lives id xs ≡ true)
     → filter_map f xs ≡ filter_map f ys
@@ -70,7 +66,7 @@ given-among f xs ys up other within gives = ap (filter_map f) same ∙ kept ys (
     kept : (some : List ℕ) → ((id : ℕ) → lives id some ≡ true → lives id ys ≡ true) → filter_map f (filter test some) ≡ filter_map f some
     kept [] known = refl
     kept (id ∷ some) known =
-        by (test id) refl (f id) refl (known id (ap (λ b. b || lives id some) (eq-eqb id id refl))) (kept some (λ one e. known one (or-right (eqb id one) (lives one some) e)))
+        by (test id) refl (f id) refl (known id (ap (λ b. b || lives id some) (eq-eqb id id refl))) (kept some (λ one e. known one (or_right (eqb id one) (lives one some) e)))
       where
         by : (b : Bool) → test id ≡ b → (o : Option _) → f id ≡ o → lives id ys ≡ true → filter_map f (filter test some) ≡ filter_map f some → filter_map f (cond (test id) (id ∷ filter test some) (filter test some)) ≡ cons_option (f id) (filter_map f some)
         by true is o at on later = ap (λ b. filter_map f (cond b (id ∷ filter test some) (filter test some))) is ∙ ap (cons_option (f id)) later
@@ -118,7 +114,7 @@ module _ (roll : Roll) where
     where
       behind : (o : Option ℕ) → lives id (found indices) ≡ true → lives id (cons_option o (found indices)) ≡ true
       behind None f = f
-      behind (Some m) f = or-right (eqb m id) (lives id (found indices)) f
+      behind (Some m) f = or_right (eqb m id) (lives id (found indices)) f
 
       by : (b : Bool) → eqb index first ≡ b → (b || list_any (eqb index) indices) ≡ true → (list_any (eqb index) indices ≡ true → lives id (found indices) ≡ true)
           → lives id (cons_option (known_at roll first) (found indices)) ≡ true

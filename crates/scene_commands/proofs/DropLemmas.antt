@@ -5,7 +5,7 @@ use denote.Ref.{Bor}
 use Rattle.std.proofs.Math.Seq.{take-suc}
 use Rattle.std.proofs.lemmas.List.{map-append}
 use Rattle.scene_model.specs.Declaring.{texts}
-use Rattle.std.proofs.lemmas.Bool.{true≢false}
+use Rattle.std.proofs.lemmas.Bool.{true≢false, or_right}
 use Rattle.std.proofs.lemmas.Slice.Eq.{bytes_eq-Decides}
 use Rattle.std.proofs.lemmas.List.Folds.{list_any-append}
 use Rattle.scene_model.specs.Parts.{Name, is_among}
@@ -65,16 +65,11 @@ module _ {V : Type 0} (kinds : Kinds V) (apart : StandApart kinds) (index : ℕ)
 abbrev pub no_name : Bor (List ℕ)
 no_name = record { ref_ptr = (0, 0); now = [] }
 
--- what holds on the right holds
-pub or-true : (a b : Bool) → b ≡ true → (a || b) ≡ true
-or-true true b e = refl
-or-true false b e = e
-
 -- the name at a place of a list is among its names
 pub named-there : (names : List (Bor (List ℕ))) (place : ℕ) (d : Bor (List ℕ)) → place < length names → is_among (get_or names place d).now (texts names) ≡ true
 named-there [] place d below = absurd (below_none (λ (k : ℕ). ⊥) place below)
 named-there (name ∷ names) zero d below = ap (λ b. b || is_among name.now (texts names)) ((bytes_eq-Decides name.now name.now).1 refl)
-named-there (name ∷ names) (suc place) d below = or-true (bytes_eq (get_or names place d).now name.now) (is_among (get_or names place d).now (texts names)) (named-there names place d (omega (arith, below)))
+named-there (name ∷ names) (suc place) d below = or_right (bytes_eq (get_or names place d).now name.now) (is_among (get_or names place d).now (texts names)) (named-there names place d (omega (arith, below)))
 
 -- the names up to a place and the one there
 pub texts-more : (names : List (Bor (List ℕ))) (place : ℕ) (d : Bor (List ℕ)) → place < length names → texts (take (place + 1) names) ≡ texts (take place names) ++ (get_or names place d).now ∷ []

@@ -2,7 +2,7 @@
 use Rattle.std.proofs.Common.{◌≡◌, ◌<◌, ◌≤◌, ◌+◌, ℕ, suc, Bool, true, false, cond, eqb, ◌||◌, ◌⊎◌, inl, inr, ⊎_elim, List, [], ◌∷◌, ◌++◌, length, get_or, map, take, Option, Some, None, is_some, refl, ap, sym, ◌∙◌, subst, arith}
 use Rattle.std.specs.Prelude.{IsSome, option_and_then, option_map}
 use Rattle.std.specs.List.{list_any, find}
-use Rattle.std.proofs.lemmas.Bool.{true≢false, false≢true, eqb-true, eq-eqb}
+use Rattle.std.proofs.lemmas.Bool.{true≢false, false≢true, eqb-true, eq-eqb, or_right}
 use Rattle.std.proofs.lemmas.List.Folds.{list_any_more, list_any_at, list_any-append}
 use Rattle.std.proofs.Math.ListN.{get_or-map}
 use Rattle.std.proofs.lemmas.List.{length-map, map-append, take_more}
@@ -24,7 +24,6 @@ use Rattle.scene_world.proofs.CallerLemmas.{life-is, living-lives, lives-index, 
 use Rattle.scene_world.specs.Putting.{named_in}
 use Rattle.scene_commands.specs.Acts.{entity_under}
 use Rattle.scene_commands.specs.Gone.{AreLiving, IsAtMost, IsLesser, IsLesserIf}
-use Rattle.scene_commands.proofs.DropLemmas.{or-true}
 use Rattle.scene_commands.proofs.LookLemmas.{lives-under, under-is, index-under}
 
 -- the entities that live, as they are listed, are those
@@ -38,7 +37,7 @@ are-living births entities bounded are can = record { alive = can.alive; all = �
         by : (b : Bool) → eqb index first ≡ b → (b || list_any (eqb index) walked) ≡ true → (list_any (eqb index) walked ≡ true → list_any (λ one. eqb one.id index) (map (entity_at births) walked) ≡ true)
             → (eqb first index || list_any (λ one. eqb one.id index) (map (entity_at births) walked)) ≡ true
         by true is f later = ap (λ b. b || list_any (λ one. eqb one.id index) (map (entity_at births) walked)) (eq-eqb first index (sym (eqb-true index first is)))
-        by false is f later = or-true (eqb first index) (list_any (λ one. eqb one.id index) (map (entity_at births) walked)) (later f)
+        by false is f later = or_right (eqb first index) (list_any (λ one. eqb one.id index) (map (entity_at births) walked)) (later f)
 
     listed : (entity : LifeAt) → IsAlive births entity → list_any (λ one. eqb one.id entity.id) (all_living births) ≡ true
     listed entity alive =
@@ -212,7 +211,7 @@ test-at roll names column id index at = among names (λ kind known. known)
     among [] known = refl
     among (kind ∷ some) known =
         ap (λ b. b || list_any by_id some) (one kind (known kind (ap (λ b. b || is_among kind some) ((bytes_eq-Decides kind kind).1 refl))))
-        ∙ ap (λ b. by_index kind || b) (among some (λ other on. known other (or-true (bytes_eq other kind) (is_among other some) on)))
+        ∙ ap (λ b. by_index kind || b) (among some (λ other on. known other (or_right (bytes_eq other kind) (is_among other some) on)))
 
 -- where one of a list passes, one does
 pub any-here : {X Y : Type 0} (f : X → Y) (xs : List X) (k : ℕ) (d : X) → k < length xs → (p : Y → Bool) → p (f (get_or xs k d)) ≡ true → list_any p (map f xs) ≡ true

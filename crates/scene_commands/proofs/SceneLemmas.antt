@@ -2,7 +2,7 @@
 use Rattle.std.proofs.Common.{◌≡◌, ◌<◌, ◌+◌, ℕ, Bool, true, false, not, cond, eqb, ltb, ◌||◌, ◌&&◌, max, List, [], ◌∷◌, map, Option, Some, None, refl, ap, sym, ◌∙◌, arith}
 use Rattle.std.specs.List.{list_any}
 use Rattle.std.specs.Str.{bytes_eq}
-use Rattle.std.proofs.lemmas.Bool.{true≢false, eqb-true, eq-eqb, not-false}
+use Rattle.std.proofs.lemmas.Bool.{true≢false, eqb-true, eq-eqb, not-false, or_parts, ltb-true}
 use Rattle.std.proofs.lemmas.Bool.Decides.{nat_tests}
 use Rattle.scene_model.specs.Ids.{ascending}
 use Rattle.scene_model.specs.Parts.{Json, Name, Part}
@@ -27,11 +27,6 @@ put-done scene after id kind part = by (lives id scene.ids && refs_live scene.id
     by true e = let same : made ≡ after = cc in sym same
     by false e = cc
 
--- two tests fail where neither holds
-neither : (a b : Bool) → (a || b) ≡ false → (a ≡ false) × (b ≡ false)
-neither true b e = absurd (true≢false e)
-neither false b e = (refl, e)
-
 -- ids put in one after another are those ids in order
 pub ids-tie : (ids : List ℕ) → ids_with ids [] ≡ ascending ids
 ids-tie [] = refl
@@ -44,13 +39,9 @@ ids-tie (id ∷ ids) =
 pub next-tie : {X : Type 0} (id_of : X → ℕ) (next : ℕ) (xs : List X) → list_any (λ x. not (ltb (id_of x) next)) xs ≡ false → next_above (map id_of xs) next ≡ next
 next-tie id_of next [] none = refl
 next-tie id_of next (x ∷ xs) none =
-    let both = neither (not (ltb (id_of x) next)) (list_any (λ one. not (ltb (id_of one) next)) xs) none in
-    let below : id_of x < next = lower (id_of x) next (not-false (ltb (id_of x) next) both.0) in
+    let both = or_parts (not (ltb (id_of x) next)) (list_any (λ one. not (ltb (id_of one) next)) xs) none in
+    let below : id_of x < next = ltb-true (id_of x) next (not-false (ltb (id_of x) next) both.0) in
     ap (λ n. max n (id_of x + 1)) (next-tie id_of next xs both.1) ∙ omega (arith, below)
-  where
-    lower : (one other : ℕ) → ltb one other ≡ true → one < other
-    lower one other e = grind (arith, nat_tests)
-
 -- the parts of an id are as they were once those of another were put in
 list-away : (id other : ℕ) (parts : List DraftPart) (base : Parts) (kind : Name) → eqb other id ≡ false → list_put id parts base other kind ≡ base other kind
 list-away id other [] base kind differ = refl
@@ -70,14 +61,14 @@ list-here id (Some one ∷ parts) base kind none =
 unlisted : (entities : List DraftEntity) (id : ℕ) (kind : Name) → lives id (map (λ entity. entity.id) entities) ≡ false → part_among entities id kind ≡ None
 unlisted [] id kind absent = refl
 unlisted (entity ∷ entities) id kind absent =
-    let both = neither (eqb entity.id id) (lives id (map (λ one. one.id) entities)) absent in
+    let both = or_parts (eqb entity.id id) (lives id (map (λ one. one.id) entities)) absent in
     ap (λ b. cond b (part_in entity.parts kind) (part_among entities id kind)) both.0 ∙ unlisted entities id kind both.1
 
 -- parts put in where there were none are those of the document, where no id stands twice
 pub parts-tie : (entities : List DraftEntity) → has_double (map (λ entity. entity.id) entities) ≡ false → (id : ℕ) (kind : Name) → parts_put entities (λ one name. None) id kind ≡ part_among entities id kind
 parts-tie [] distinct id kind = refl
 parts-tie (entity ∷ entities) distinct id kind =
-    let both = neither (lives entity.id (map (λ one. one.id) entities)) (has_double (map (λ one. one.id) entities)) distinct in
+    let both = or_parts (lives entity.id (map (λ one. one.id) entities)) (has_double (map (λ one. one.id) entities)) distinct in
     by (eqb entity.id id) refl both.0 (λ one. parts-tie entities both.1 one kind)
   where
     by : (b : Bool) → eqb entity.id id ≡ b → lives entity.id (map (λ one. one.id) entities) ≡ false → ((one : ℕ) → parts_put entities (λ other name. None) one kind ≡ part_among entities one kind)

@@ -3,7 +3,7 @@ use Rattle.std.proofs.Common.{◌≡◌, ℕ, Bool, true, false, cond, eqb, ◌|
 use Rattle.std.specs.Prelude.{IsSome, option_and_then, option_map}
 use Rattle.std.specs.List.{list_any, find}
 use Rattle.std.specs.Str.{bytes_eq}
-use Rattle.std.proofs.lemmas.Bool.{true≢false, false≢true, eqb-true}
+use Rattle.std.proofs.lemmas.Bool.{true≢false, false≢true, eqb-true, or_parts}
 use Rattle.std.proofs.lemmas.List.Elements.{All-nil, All-cons, All-head, All-tail}
 use Rattle.std.proofs.lemmas.Slice.Eq.{bytes_eq-Decides}
 use Rattle.shred_world.specs.Worlds.{Slots}
@@ -36,11 +36,6 @@ refs-alive roll (entity ∷ named) all =
     All-cons (WasBorn roll.births) entity named (alive-born roll.births entity (ref-alive roll entity (All-head (RefLives (ids_in roll)) (ref_to roll entity) (map (ref_to roll) named) all)))
     (refs-alive roll named (All-tail (RefLives (ids_in roll)) (ref_to roll entity) (map (ref_to roll) named) all))
 
--- neither of two holds
-neither : (a b : Bool) → (a || b) ≡ false → (a ≡ false) × (b ≡ false)
-neither true b e = absurd (true≢false e)
-neither false b e = (refl, e)
-
 -- what is found nowhere fails of each
 find-passed : (test : ℕ → Bool) (ids : List ℕ) (id : ℕ) → find test ids ≡ None → lives id ids ≡ true → test id ≡ false
 find-passed test [] id none lived = absurd (false≢true lived)
@@ -53,7 +48,7 @@ find-passed test (first ∷ ids) id none lived = by (test first) refl none (eqb 
 
 any-passed : (test : Name → Bool) (names : List Name) (kind : Name) → list_any test names ≡ false → is_among kind names ≡ true → test kind ≡ false
 any-passed test [] kind none among = absurd (false≢true among)
-any-passed test (first ∷ names) kind none among = by (bytes_eq kind first) refl among (neither (test first) (list_any test names) none) (λ on. any-passed test names kind (neither (test first) (list_any test names) none).1 on)
+any-passed test (first ∷ names) kind none among = by (bytes_eq kind first) refl among (or_parts (test first) (list_any test names) none) (λ on. any-passed test names kind (or_parts (test first) (list_any test names) none).1 on)
   where
     by : (b : Bool) → bytes_eq kind first ≡ b → (b || is_among kind names) ≡ true → (test first ≡ false) × (list_any test names ≡ false) → (is_among kind names ≡ true → test kind ≡ false) → test kind ≡ false
     by true is on both later = ap test ((bytes_eq-Decides kind first).0 is) ∙ both.0
@@ -108,7 +103,7 @@ module _ {V : Type 0} (kinds : Kinds V) (book : Book) (w : Slots V) where
   refs-live : IsRoll roll → (named : List LifeAt) → list_any is_gone (map (ref_to roll) named) ≡ false → All (RefLives (ids_in roll)) (map (ref_to roll) named)
   refs-live is [] none = All-nil (RefLives (ids_in roll))
   refs-live is (entity ∷ named) none =
-      let both = neither (is_gone (ref_to roll entity)) (list_any is_gone (map (ref_to roll) named)) none in
+      let both = or_parts (is_gone (ref_to roll entity)) (list_any is_gone (map (ref_to roll) named)) none in
       All-cons (RefLives (ids_in roll)) (ref_to roll entity) (map (ref_to roll) named) (ref-lives is entity both.0) (refs-live is named both.1)
 
   -- the part of an id is one that is stored

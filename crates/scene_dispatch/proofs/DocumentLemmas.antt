@@ -4,7 +4,7 @@ use Rattle.std.specs.Prelude.{◌≤◌, length, nat_lt, Ok, Err, codes, if◌th
 use Rattle.std.specs.List.{All, AllByRecursion}
 use Rattle.std.specs.Option.{option_and_then}
 use Rattle.std.specs.Ordering.{nat_cmp, match_ordering, is_eq}
-use Rattle.std.proofs.lemmas.Bool.{ltb-false}
+use Rattle.std.proofs.lemmas.Bool.{ltb-false, and_parts}
 use Rattle.std.specs.declared.cmp.Ordering.{Ordering}
 use Rattle.std.specs.declared.cmp.Ordering.TheVariants.{Less, Equal, Greater}
 use Rattle.std.specs.Cmp.Lexicographic.{slice_cmp}
@@ -43,12 +43,8 @@ key-absent key keys absent no_members within = refl
 key-absent key keys absent (member other value members) within =
     by (slice_cmp nat_cmp key other) (is_eq-slice_cmp key other) (both.0) (key-absent key keys absent members both.1)
   where
-    and-parts : (a b : Bool) → (a && b) ≡ true → (a ≡ true) × (b ≡ true)
-    and-parts true b e = (refl, e)
-    and-parts false b e = cc
-
     both : (is_among other keys ≡ true) × (keys_within keys (members_list members) ≡ true)
-    both = and-parts (is_among other keys) (keys_within keys (members_list members)) within
+    both = and_parts (is_among other keys) (keys_within keys (members_list members)) within
 
     by : (order : Ordering) → is_eq order ≡ bytes_eq key other → is_among other keys ≡ true → get_member key members ≡ None → match_ordering order (get_member key members) (Some value) (get_member key members) ≡ None
     by Less same there rest = rest

@@ -9,7 +9,7 @@ use Rattle.std.specs.Global.{Vec}
 use Rattle.std.specs.Ordering.{nat_cmp}
 use Rattle.std.specs.declared.cmp.Ordering.TheVariants.{Less}
 use Rattle.std.specs.Str.{bytes_eq}
-use Rattle.std.proofs.lemmas.Bool.{not-false}
+use Rattle.std.proofs.lemmas.Bool.{not-false, or_parts, ltb-true}
 use Rattle.std.proofs.lemmas.Bool.Decides.{nat_tests}
 use Rattle.std.proofs.lemmas.Option.{slice_get-map}
 use Rattle.std.proofs.lemmas.List.{length-map}
@@ -35,7 +35,6 @@ use Rattle.scene_document.specs.DraftViews.{named, plain_entity, plain_draft, pl
 use Rattle.scene_model.specs.Ids.{ascending}
 use Rattle.scene_document.specs.Openings.{part_in, part_among, global_among, command_of, commands_in}
 use Rattle.scene_document.specs.Loading.{commands_found}
-use Rattle.scene_document.proofs.PlaceLemmas.{or_false}
 
 -- a fact holds of what a document gives, where it is known
 abbrev Holds : (Name → Part → Type 0) → DraftPart → Type 0
@@ -70,7 +69,7 @@ part_among-has P (entity ∷ entities) id kind held h e =
 -- what a list of tests that finds nothing says of each
 none_passes : {X : Type 0} (test : X → Bool) (xs : List X) → list_any test xs ≡ false → All (λ x. test x ≡ false) xs
 none_passes test [] e = All-nil (λ x. test x ≡ false)
-none_passes test (x ∷ xs) e = let apart = or_false (test x) (list_any test xs) e in All-cons (λ y. test y ≡ false) x xs (apart.0) (none_passes test xs (apart.1))
+none_passes test (x ∷ xs) e = let apart = or_parts (test x) (list_any test xs) e in All-cons (λ y. test y ≡ false) x xs (apart.0) (none_passes test xs (apart.1))
 
 -- a test that is passed over
 passed_over : {X : Type 0} (b : Bool) (refusal : X) (rest : Option X) → cond b (Some refusal) rest ≡ None → (b ≡ false) × (rest ≡ None)
@@ -98,7 +97,7 @@ no_past indices draft e =
 refs_live : (ids : List ℕ) (refs : List Ref) → list_any (λ ref. not (ref_lives ids ref)) refs ≡ false → All (RefLives (ascending ids)) refs
 refs_live ids [] e = All-nil (RefLives (ascending ids))
 refs_live ids (living id ∷ refs) e =
-    let apart = or_false (not (lives id ids)) (list_any (λ ref. not (ref_lives ids ref)) refs) e in
+    let apart = or_parts (not (lives id ids)) (list_any (λ ref. not (ref_lives ids ref)) refs) e in
     All-cons (RefLives (ascending ids)) (living id) refs (lives-ascending id ids ∙ not-false (lives id ids) (apart.0)) (refs_live ids refs (apart.1))
 refs_live ids (gone ∷ refs) e = absurd cc
 
@@ -212,12 +211,8 @@ module _ {D : Type 0} (part_of : D → Part) (book : Book) where
 pub ids-below : {X : Type 0} (id_of : X → ℕ) (next : ℕ) (xs : List X) → list_any (λ x. not (ltb (id_of x) next)) xs ≡ false → All (λ id. id < next) (ascending (map id_of xs))
 ids-below id_of next [] h = All-nil (λ id. id < next)
 ids-below id_of next (x ∷ xs) h =
-    let apart = or_false (not (ltb (id_of x) next)) (list_any (λ one. not (ltb (id_of one) next)) xs) h in
-    All-insert_key nat_cmp (id_of x) (λ id. id < next) (ascending (map id_of xs)) (ids-below id_of next xs apart.1) (ltb-below (id_of x) next (not-false (ltb (id_of x) next) apart.0))
-  where
-    ltb-below : (one other : ℕ) → ltb one other ≡ true → one < other
-    ltb-below one other e = grind (arith, nat_tests)
-
+    let apart = or_parts (not (ltb (id_of x) next)) (list_any (λ one. not (ltb (id_of one) next)) xs) h in
+    All-insert_key nat_cmp (id_of x) (λ id. id < next) (ascending (map id_of xs)) (ids-below id_of next xs apart.1) (ltb-true (id_of x) next (not-false (ltb (id_of x) next) apart.0))
 -- against a document no refusal stands
 pub unrefused : (book : Book) (indices : ℕ) (json : Json) (draft : Draft) → document_from book indices json ≡ Ok draft → refusal_of indices draft ≡ None
 unrefused book indices json draft made = whole (has_float json) (draft_from book json) made

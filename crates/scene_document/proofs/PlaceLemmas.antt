@@ -3,18 +3,13 @@ use Rattle.std.proofs.Common.{◌≡◌, ℕ, ◌<◌, Bool, true, false, cond, 
 use Rattle.std.specs.Ordering.{nat_cmp, is_eq}
 use Rattle.std.specs.Cmp.Lexicographic.{slice_cmp}
 use Rattle.std.specs.declared.cmp.Ordering.TheVariants.{Less}
-use Rattle.std.proofs.lemmas.Bool.{cases_lt, false≢true}
+use Rattle.std.proofs.lemmas.Bool.{cases_lt, false≢true, or_parts}
 use Rattle.std.proofs.lemmas.Slice.Eq.{bytes_eq-Decides}
 use Rattle.std.proofs.lemmas.Map.Text.{is_eq-slice_cmp}
 use Rattle.scene_document.specs.declared.draft.EntityDraft.{EntityDraft}
 use Rattle.scene_model.specs.Parts.{Name, Part, name_at}
 use Rattle.scene_model.specs.Laws.{Ascend}
 use Rattle.scene_document.specs.DraftViews.{plain_entity}
-
--- what is false of two tests is false of each
-pub or_false : (one other : Bool) → (one || other) ≡ false → (one ≡ false) × (other ≡ false)
-or_false true other e = absurd cc
-or_false false other e = (refl, e)
 
 module _ {D : Type 0} (part_of : D → Part) (names : List Name) where
   -- ids stay

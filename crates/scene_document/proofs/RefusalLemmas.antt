@@ -19,6 +19,7 @@ use Rattle.scene_document.specs.declared.draft.MadeDraft.{MadeDraft}
 use Rattle.scene_document.specs.declared.draft.CommandDraft.{CommandDraft}
 use Rattle.scene_document.specs.declared.draft.CommandDraft.TheVariants as asked
 use Rattle.std.specs.Global.{Vec}
+use Rattle.std.proofs.lemmas.Bool.{lt-ltb}
 use Rattle.scene_model.specs.declared.access.Accessor.{Accessor}
 use Rattle.scene_model.specs.Parts.{Json, Name, Ref, living, gone, Part, is_among, name_at}
 use Rattle.scene_model.specs.Rulebook.{Book, Access}
@@ -42,9 +43,6 @@ dangle-refs_to ids (id ∷ wanted) = ap (λ b. not (lives id ids) || b) (dangle-
 -- equal bytes are equal the other way round
 same_bytes : (one other : Name) → bytes_eq one other ≡ bytes_eq other one
 same_bytes one other = same_from_decides {P = one ≡ other} (bytes_eq one other) (bytes_eq other one) (bytes_eq-Decides one other) (λ t. sym ((bytes_eq-Decides other one).0 t), λ e. (bytes_eq-Decides other one).1 (sym e))
-
-lt-ltb : (a b : ℕ) → a < b → ltb a b ≡ true
-lt-ltb a b h = grind (arith, nat_tests)
 
 -- a text at a place has a name's bytes
 pub stands_at : (names : List (Bor (List ℕ))) (place : ℕ) (name : Name) (d : Bor (List ℕ)) → d.now ≡ [] → place < length names

@@ -2,7 +2,7 @@
 use Rattle.std.proofs.Common.{◌≡◌, ◌<◌, ℕ, Bool, true, false, not, cond, eqb, ◌||◌, ◌&&◌, List, [], ◌∷◌, map, Option, Some, None, filter, refl, ap, sym, ◌∙◌, subst}
 use Rattle.std.specs.Prelude.{is_some, option_and_then, option_map, IsSome}
 use Rattle.std.specs.List.{list_any}
-use Rattle.std.proofs.lemmas.Bool.{true≢false, eqb-true, eq-eqb}
+use Rattle.std.proofs.lemmas.Bool.{true≢false, eqb-true, eq-eqb, or_parts}
 use Rattle.std.proofs.lemmas.List.Kept.{AllPairs-filter}
 use Rattle.serde_json.specs.Data.{null}
 use Rattle.specs_entity.specs.Births.{living}
@@ -22,10 +22,6 @@ use Rattle.scene_world.proofs.PartLemmas.{at-one, at-other, one-id}
 
 -- ---- references
 
-any-parts : (a b : Bool) → (a || b) ≡ false → (a ≡ false) × (b ≡ false)
-any-parts true b e = absurd (true≢false e)
-any-parts false b e = (refl, e)
-
 -- where one is to the id, one is gone without it
 now-gone : (id : ℕ) (refs : List Ref) → list_any (is_to id) refs ≡ true → list_any is_gone (map (without_ref id) refs) ≡ true
 now-gone id [] e = absurd (true≢false (sym e))
@@ -42,7 +38,7 @@ none-to : (id : ℕ) (refs : List Ref) → list_any (is_to id) refs ≡ false �
 none-to id [] e = refl
 none-to id (gone ∷ refs) e = ap (λ l. gone ∷ l) (none-to id refs e)
 none-to id (reaching other ∷ refs) e =
-    let both = any-parts (eqb other id) (list_any (is_to id) refs) e in
+    let both = or_parts (eqb other id) (list_any (is_to id) refs) e in
     ap (λ b. cond b gone (reaching other) ∷ map (without_ref id) refs) both.0 ∙ ap (λ l. reaching other ∷ l) (none-to id refs both.1)
 
 -- a part whose references to an id are gone is one that lost it

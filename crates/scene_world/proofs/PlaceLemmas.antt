@@ -3,7 +3,7 @@ use Rattle.std.proofs.Common.{◌≡◌, ℕ, Bool, true, false, eqb, ◌||◌, 
 use Rattle.std.specs.List.{list_any}
 use Rattle.std.specs.Str.{bytes_eq}
 use Rattle.std.specs.FinMap as map
-use Rattle.std.proofs.lemmas.Bool.{eqb-true, eq-eqb}
+use Rattle.std.proofs.lemmas.Bool.{eqb-true, eq-eqb, or_from, false_from_ne_true}
 use Rattle.std.proofs.lemmas.List.Elements.{All-head, All-tail}
 use Rattle.std.proofs.lemmas.List.Folds.{list_any-append}
 use Rattle.shred_world.specs.Bundles.{takable, readable, slot_of, holding_of, is_listed}
@@ -35,16 +35,9 @@ none-of : (place : Place) (make : Name → Place) → ((name : Name) → same_pl
 none-of place make apart [] = refl
 none-of place make apart (first ∷ names) = ap (λ b. b || list_any (same_place place) (map make names)) (apart first) ∙ none-of place make apart names
 
-both-false : (a b : Bool) → a ≡ false → b ≡ false → (a || b) ≡ false
-both-false a b one other = ap (λ x. x || b) one ∙ other
-
 or-false : (a b : Bool) → b ≡ false → (a || b) ≡ a
 or-false true b e = refl
 or-false false b e = e
-
-isnt : (b : Bool) → (b ≡ true → ⊥) → b ≡ false
-isnt true e = absurd (e refl)
-isnt false e = refl
 
 -- all of a list are known
 abbrev AllKnown : {V : Type 0} → Kinds V → List Place → Type 0
@@ -86,7 +79,7 @@ module _ {V : Type 0} (kinds : Kinds V) (apart : StandApart kinds) where
         ∙ ap (λ b. b || list_any (same_place (value name)) (map value access.written_globals)) (none-of (value name) parts (λ kind. refl) access.writes) ∙ values-there name access.written_globals;
     queue = listed (queue position) refl (written_places access position) writes_known
         ∙ ap (λ b. b || list_any (same_place (queue position)) (map parts access.writes ++ map value access.written_globals)) (eq-eqb position position refl);
-    other_queues = λ other differ. unwritten (queue other) refl (λ name. refl) (λ name. refl) (isnt (eqb other position) (λ e. differ (eqb-true other position e)));
+    other_queues = λ other differ. unwritten (queue other) refl (λ name. refl) (λ name. refl) (false_from_ne_true (eqb other position) (λ e. differ (eqb-true other position e)));
   }
     where
       reads_known : AllKnown kinds (read_places access)
@@ -99,6 +92,6 @@ module _ {V : Type 0} (kinds : Kinds V) (apart : StandApart kinds) where
           → is_listed (map (id_of_place kinds) (written_places access position)) (id_of_place kinds place) ≡ false
       unwritten place is no_parts no_values no_queue =
           listed place is (written_places access position) writes_known
-          ∙ both-false (same_place place (queue position)) _ no_queue
+          ∙ or_from (same_place place (queue position)) _ no_queue
           (list_any-append (same_place place) (map parts access.writes) (map value access.written_globals)
-          ∙ both-false _ _ (none-of place parts no_parts access.writes) (none-of place value no_values access.written_globals))
+          ∙ or_from _ _ (none-of place parts no_parts access.writes) (none-of place value no_values access.written_globals))

@@ -4,7 +4,7 @@ use Rattle.std.specs.Prelude.{◌==◌, if◌then◌else◌, is_some, is_none, n
 use Rattle.std.specs.List.{fold, cons_option}
 use Rattle.std.specs.Str.{bytes_eq}
 use Rattle.std.proofs.lemmas.Option.{none-some, same_Some}
-use Rattle.std.proofs.lemmas.Bool.{false≢true}
+use Rattle.std.proofs.lemmas.Bool.{false≢true, or_right}
 use Rattle.std.proofs.lemmas.Bool.Decides.{Decides-eqb}
 use Rattle.shred_world.specs.declared.resource_id.ResourceId.{ResourceId}
 use Rattle.shred_plan.specs.Plan.{added}
@@ -37,11 +37,8 @@ or-right : (a : Bool) → (a || true) ≡ true
 or-right true = refl
 or-right false = refl
 
-or-true : (a b : Bool) → b ≡ true → (a || b) ≡ true
-or-true a b e = ap (λ x. a || x) e ∙ or-right a
-
 known-more : (known : List ℕ) (number n : ℕ) → has known n ≡ true → has (number ∷ known) n ≡ true
-known-more known number n e = or-true (number == n) (has known n) e
+known-more known number n e = or_right (number == n) (has known n) e
 
 known-first : (known : List ℕ) (number n : ℕ) → n ≡ number → has (number ∷ known) n ≡ true
 known-first known number n e = ap (λ b. b || has known n) ((Decides-eqb number n).1 (sym e))

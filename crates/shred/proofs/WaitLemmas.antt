@@ -4,7 +4,7 @@ use Rattle.std.specs.Prelude.{◌⊎◌, ◌==◌, ◌+◌, if◌then◌else◌,
 use Rattle.std.specs.List.{Contains, cons_option}
 use Rattle.std.specs.Str.{bytes_eq}
 use Rattle.std.proofs.lemmas.Option.{none-some}
-use Rattle.std.proofs.lemmas.Bool.{false≢true}
+use Rattle.std.proofs.lemmas.Bool.{false≢true, or_right}
 use Rattle.std.proofs.lemmas.Bool.Decides.{Decides-eqb}
 use Rattle.std.proofs.lemmas.List.Sorted.{IsPermutation-sym, Contains-permutation}
 use Rattle.shred_world.specs.declared.resource_id.ResourceId.{ResourceId}
@@ -24,10 +24,6 @@ use Rattle.shred.proofs.HistoryLemmas.{planned, named-wait, none-unknown}
 has-first : (k n : ℕ) (rest : Bool) → k ≡ n → ((k == n) || rest) ≡ true
 has-first k n rest is = ap (λ b. b || rest) ((Decides-eqb k n).1 is)
 
-has-later : (b rest : Bool) → rest ≡ true → (b || rest) ≡ true
-has-later true rest is = refl
-has-later false rest is = is
-
 -- a number that is found is the first, or is found later
 has-either : (k n : ℕ) (rest : Bool) → ((k == n) || rest) ≡ true → (k ≡ n) ⊎ (rest ≡ true)
 has-either k n rest = by (k == n) refl
@@ -46,13 +42,13 @@ has-split (one ∷ list) others n is = by (has-either one.number n (has (numbers
     by (inr there) later = onward (later there)
       where
         onward : (has (numbers_of list) n ≡ true) ⊎ (has (numbers_of others) n ≡ true) → (has (numbers_of (one ∷ list)) n ≡ true) ⊎ (has (numbers_of others) n ≡ true)
-        onward (inl early) = inl (has-later (one.number == n) (has (numbers_of list) n) early)
+        onward (inl early) = inl (or_right (one.number == n) (has (numbers_of list) n) early)
         onward (inr late) = inr late
 
 has-in : {Id : Type 0} (list : List (Placing Id)) (one : Placing Id) → IsIn one list → has (numbers_of list) one.number ≡ true
 has-in [] one there = absurd there
 has-in (x ∷ list) one (inl is) = has-first x.number one.number (has (numbers_of list) one.number) (ap (λ p. p.number) is)
-has-in (x ∷ list) one (inr there) = has-later (x.number == one.number) (has (numbers_of list) one.number) (has-in list one there)
+has-in (x ∷ list) one (inr there) = or_right (x.number == one.number) (has (numbers_of list) one.number) (has-in list one there)
 
 in-split : {Id : Type 0} (list others : List (Placing Id)) (one : Placing Id) → IsIn one (list ++ others) → IsIn one list ⊎ IsIn one others
 in-split [] others one there = inr there
@@ -162,7 +158,7 @@ numbered names (name ∷ after) other known (suc k, within, is) = by (number_und
     by : (o : Option ℕ) → (is_none o || lacks_one names after) ≡ false → (lacks_one names after ≡ false → (n : ℕ) × (number_under names other ≡ Some n) × (has (numbers_under names after) n ≡ true))
         → (n : ℕ) × (number_under names other ≡ Some n) × (has (cons_option o (numbers_under names after)) n ≡ true)
     by None lacks later = absurd (false≢true (sym lacks))
-    by (Some m) lacks later = let found = later lacks in (found.0, found.1, has-later (m == found.0) (has (numbers_under names after) found.0) found.2)
+    by (Some m) lacks later = let found = later lacks in (found.0, found.1, or_right (m == found.0) (has (numbers_under names after) found.0) found.2)
 
 snoc-length : {A : Type 0} (list : List A) (x : A) → length (list ++ x ∷ []) ≡ length list + 1
 snoc-length [] x = refl

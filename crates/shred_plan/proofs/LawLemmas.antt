@@ -6,7 +6,7 @@ use Rattle.std.specs.List.Sorted.{IsPermutation}
 use Rattle.std.specs.Option.{option_map, option_map_or}
 use Rattle.std.proofs.Math.ListN.{set}
 use Rattle.std.proofs.Math.Bool.{or_comm}
-use Rattle.std.proofs.lemmas.Bool.{and_parts, false≢true, eqb-true}
+use Rattle.std.proofs.lemmas.Bool.{and_parts, false≢true, eqb-true, or_from, or_parts}
 use Rattle.std.proofs.lemmas.List.Folds.{list_any-append}
 use Rattle.std.proofs.lemmas.List.Quantifiers.{position-Some}
 use Rattle.std.proofs.lemmas.List.Sums.{sum_by-cons}
@@ -97,13 +97,6 @@ module _ {Id : Type 0} (same : Id → Id → Bool) where
 
 -- groups of a stage are apart
 
-or-parts : (a b : Bool) → (a || b) ≡ false → (a ≡ false) × (b ≡ false)
-or-parts true b e = cc
-or-parts false b e = (refl, e)
-
-or-none : (a b : Bool) → a ≡ false → b ≡ false → (a || b) ≡ false
-or-none a b e f = rw (e, f) refl
-
 pub count-none : {A : Type 0} (p : A → Bool) (xs : List A) → count_by p xs ≡ 0 → list_any p xs ≡ false
 count-none p [] e = refl
 count-none p (x ∷ xs) e = by (p x) (sym (sum_by-cons (λ y. cond (p y) 1 0) x xs) ∙ e) (count-none p xs)
@@ -114,8 +107,8 @@ count-none p (x ∷ xs) e = by (p x) (sym (sum_by-cons (λ y. cond (p y) 1 0) x 
 
 none-at : {A : Type 0} (p : A → Bool) (xs : List A) (i : ℕ) (d : A) → i < length xs → list_any p xs ≡ false → p (get_or xs i d) ≡ false
 none-at p [] i d h e = absurd (omega arith)
-none-at p (x ∷ xs) zero d h e = (or-parts (p x) (list_any p xs) e).0
-none-at p (x ∷ xs) (suc i) d h e = none-at p xs i d (omega arith) ((or-parts (p x) (list_any p xs) e).1)
+none-at p (x ∷ xs) zero d h e = (or_parts (p x) (list_any p xs) e).0
+none-at p (x ∷ xs) (suc i) d h e = none-at p xs i d (omega arith) ((or_parts (p x) (list_any p xs) e).1)
 
 -- the first group that passes a test, as a way
 pub behind-found : {Id : Type 0} (test : Group Id → Bool) (stage : Stage Id) (way : Way) → option_map Behind (position test stage) ≡ Some way
@@ -141,35 +134,35 @@ module _ {Id : Type 0} (same : Id → Id → Bool) where
     missed : (group : Group Id) → hits same one group ≡ false → groups_conflict same group (one ∷ []) ≡ false
     missed [] e = refl
     missed (x ∷ group) e =
-        let p = or-parts (conflict same one x) (hits same one group) e in
-        or-none _ _ (or-none _ _ (or_comm (touches same x one) (touches same one x) ∙ p.0) refl) (missed group p.1)
+        let p = or_parts (conflict same one x) (hits same one group) e in
+        or_from _ _ (or_from _ _ (or_comm (touches same x one) (touches same one x) ∙ p.0) refl) (missed group p.1)
 
     apart-longer : (group other : Group Id) → groups_conflict same group other ≡ false → hits same one group ≡ false → groups_conflict same group (other ++ one ∷ []) ≡ false
     apart-longer [] other e m = refl
     apart-longer (x ∷ group) other e m =
-        let p = or-parts (hits same x other) (groups_conflict same group other) e in
-        let q = or-parts (conflict same one x) (hits same one group) m in
+        let p = or_parts (hits same x other) (groups_conflict same group other) e in
+        let q = or_parts (conflict same one x) (hits same one group) m in
         let swapped : conflict same x one ≡ false = or_comm (touches same x one) (touches same one x) ∙ q.0 in
-        or-none _ _ (list_any-append (conflict same x) other (one ∷ []) ∙ or-none _ _ p.0 (or-none _ _ swapped refl)) (apart-longer group other p.1 q.1)
+        or_from _ _ (list_any-append (conflict same x) other (one ∷ []) ∙ or_from _ _ p.0 (or_from _ _ swapped refl)) (apart-longer group other p.1 q.1)
 
     longer-apart : (group other : Group Id) → groups_conflict same group other ≡ false → hits same one other ≡ false → groups_conflict same (group ++ one ∷ []) other ≡ false
-    longer-apart group other e m = list_any-append (λ x. hits same x other) group (one ∷ []) ∙ or-none _ _ e (or-none _ _ m refl)
+    longer-apart group other e m = list_any-append (λ x. hits same x other) group (one ∷ []) ∙ or_from _ _ e (or_from _ _ m refl)
 
     all-longer : (group : Group Id) (stage : Stage Id) → list_any (groups_conflict same group) stage ≡ false → list_any (hits same one) stage ≡ false → list_any (groups_conflict same (group ++ one ∷ [])) stage ≡ false
     all-longer group [] e m = refl
     all-longer group (other ∷ stage) e m =
-        let p = or-parts (groups_conflict same group other) (list_any (groups_conflict same group) stage) e in
-        let q = or-parts (hits same one other) (list_any (hits same one) stage) m in
-        or-none _ _ (longer-apart group other p.0 q.0) (all-longer group stage p.1 q.1)
+        let p = or_parts (groups_conflict same group other) (list_any (groups_conflict same group) stage) e in
+        let q = or_parts (hits same one other) (list_any (hits same one) stage) m in
+        or_from _ _ (longer-apart group other p.0 q.0) (all-longer group stage p.1 q.1)
 
     from-longer : (group : Group Id) (stage : Stage Id) (i : ℕ) → i < length stage → list_any (groups_conflict same group) stage ≡ false → hits same one group ≡ false → list_any (groups_conflict same group) (longer one stage i) ≡ false
     from-longer group [] i h e m = absurd (omega arith)
     from-longer group (other ∷ stage) zero h e m =
-        let p = or-parts (groups_conflict same group other) (list_any (groups_conflict same group) stage) e in
-        or-none _ _ (apart-longer group other p.0 m) p.1
+        let p = or_parts (groups_conflict same group other) (list_any (groups_conflict same group) stage) e in
+        or_from _ _ (apart-longer group other p.0 m) p.1
     from-longer group (other ∷ stage) (suc i) h e m =
-        let p = or-parts (groups_conflict same group other) (list_any (groups_conflict same group) stage) e in
-        or-none _ _ p.0 (from-longer group stage i (omega arith) p.1 m)
+        let p = or_parts (groups_conflict same group other) (list_any (groups_conflict same group) stage) e in
+        or_from _ _ p.0 (from-longer group stage i (omega arith) p.1 m)
 
     stage-longer : (stage : Stage Id) (i : ℕ) → i < length stage → Apart stage → OthersMiss one stage i → Apart (longer one stage i)
     stage-longer [] i h apart miss = absurd (omega arith)
@@ -179,18 +172,18 @@ module _ {Id : Type 0} (same : Id → Id → Bool) where
     stage-new : (stage : Stage Id) → Apart stage → list_any (hits same one) stage ≡ false → Apart (stage ++ (one ∷ []) ∷ [])
     stage-new [] apart miss = (refl, tt)
     stage-new (group ∷ stage) apart miss =
-        let p = or-parts (hits same one group) (list_any (hits same one) stage) miss in
-        (list_any-append (groups_conflict same group) stage ((one ∷ []) ∷ []) ∙ or-none _ _ apart.0 (or-none _ _ (missed group p.0) refl), stage-new stage apart.1 p.1)
+        let p = or_parts (hits same one group) (list_any (hits same one) stage) miss in
+        (list_any-append (groups_conflict same group) stage ((one ∷ []) ∷ []) ∙ or_from _ _ apart.0 (or_from _ _ (missed group p.0) refl), stage-new stage apart.1 p.1)
 
     none-hit : (stage : Stage Id) (i : ℕ) → list_any (hits same one) stage ≡ false → OthersMiss one stage i
     none-hit [] i miss = tt
-    none-hit (group ∷ stage) zero miss = (or-parts (hits same one group) (list_any (hits same one) stage) miss).1
-    none-hit (group ∷ stage) (suc i) miss = let p = or-parts (hits same one group) (list_any (hits same one) stage) miss in (p.0, none-hit stage i p.1)
+    none-hit (group ∷ stage) zero miss = (or_parts (hits same one group) (list_any (hits same one) stage) miss).1
+    none-hit (group ∷ stage) (suc i) miss = let p = or_parts (hits same one group) (list_any (hits same one) stage) miss in (p.0, none-hit stage i p.1)
 
     not-there : (stage : Stage Id) (i : ℕ) → i < length stage → list_any (hits same one) stage ≡ false → hits same one (get_or stage i []) ≡ true → ⊥
     not-there [] i h miss hit = omega arith
-    not-there (group ∷ stage) zero h miss hit = let p = or-parts (hits same one group) (list_any (hits same one) stage) miss in false≢true (sym p.0 ∙ hit)
-    not-there (group ∷ stage) (suc i) h miss hit = let p = or-parts (hits same one group) (list_any (hits same one) stage) miss in not-there stage i (omega arith) p.1 hit
+    not-there (group ∷ stage) zero h miss hit = let p = or_parts (hits same one group) (list_any (hits same one) stage) miss in false≢true (sym p.0 ∙ hit)
+    not-there (group ∷ stage) (suc i) h miss hit = let p = or_parts (hits same one group) (list_any (hits same one) stage) miss in not-there stage i (omega arith) p.1 hit
 
     single-hit : (stage : Stage Id) (i : ℕ) → i < length stage → count_by (hits same one) stage ≡ 1 → hits same one (get_or stage i []) ≡ true → OthersMiss one stage i
     single-hit [] i h single hit = tt

@@ -4,7 +4,7 @@ use Rattle.std.specs.Prelude.{◌==◌, if◌then◌else◌, count_by}
 use Rattle.std.specs.List.{fold, position}
 use Rattle.std.specs.List.Sorted.{IsPermutation}
 use Rattle.std.specs.Option.{option_map, option_map_or}
-use Rattle.std.proofs.lemmas.Bool.{and_parts, eqb-true}
+use Rattle.std.proofs.lemmas.Bool.{and_parts, eqb-true, or_right, or_left}
 use Rattle.std.proofs.lemmas.List.Folds.{list_any-append}
 use Rattle.std.proofs.lemmas.List.Sums.{fold-append}
 use Rattle.std.proofs.lemmas.List.Sorted.{IsPermutation-map, list_any-IsPermutation}
@@ -21,13 +21,6 @@ map-append : {A B : Type 0} (f : A → B) (xs ys : List A) → map f (xs ++ ys) 
 map-append f [] ys = refl
 map-append f (x ∷ xs) ys = ap (λ list. f x ∷ list) (map-append f xs ys)
 
-or-left : (a b : Bool) → a ≡ true → (a || b) ≡ true
-or-left a b e = rw e refl
-
-or-right : (a b : Bool) → b ≡ true → (a || b) ≡ true
-or-right true b e = refl
-or-right false b e = e
-
 -- one of two passes: by cases
 or-either : {P : Type 0} (a b : Bool) → (a || b) ≡ true → (a ≡ true → P) → (b ≡ true → P) → P
 or-either true b e f g = f refl
@@ -39,8 +32,8 @@ without-kept [] n d e = cc
 without-kept (first ∷ ds) n d e = by (first == n) refl (without-kept ds n d)
   where
     by : (b : Bool) → (first == n) ≡ b → (has ds d ≡ true → ((n == d) || has (without ds n) d) ≡ true) → ((n == d) || has (if b then ds else first ∷ without ds n) d) ≡ true
-    by true is later = or-either (first == d) (has ds d) e (λ h. or-left _ _ (ap (λ x. x == d) (sym (eqb-true first n is)) ∙ h)) (λ h. or-right _ _ h)
-    by false is later = or-either (first == d) (has ds d) e (λ h. or-right _ _ (or-left _ _ h)) (λ h. or-either (n == d) (has (without ds n) d) (later h) (λ q. or-left _ _ q) (λ q. or-right _ _ (or-right _ _ q)))
+    by true is later = or-either (first == d) (has ds d) e (λ h. or_left _ _ (ap (λ x. x == d) (sym (eqb-true first n is)) ∙ h)) (λ h. or_right _ _ h)
+    by false is later = or-either (first == d) (has ds d) e (λ h. or_right _ _ (or_left _ _ h)) (λ h. or-either (n == d) (has (without ds n) d) (later h) (λ q. or_left _ _ q) (λ q. or_right _ _ (or_right _ _ q)))
 
 module _ {Id : Type 0} where
   -- with the same systems behind both
@@ -50,7 +43,7 @@ module _ {Id : Type 0} where
       = ap (λ list. has list d) (map-append (λ s. s.number) before more) ∙ list_any-append (λ n. n == d) (numbers_of before) (numbers_of more) in
       let joined : has (numbers_of (after ++ more)) d ≡ (has (numbers_of after) d || has (numbers_of more) d)
       = ap (λ list. has list d) (map-append (λ s. s.number) after more) ∙ list_any-append (λ n. n == d) (numbers_of after) (numbers_of more) in
-      joined ∙ or-either _ _ (sym split ∙ e) (λ h. or-left _ _ (a d h)) (λ h. or-right _ _ h)
+      joined ∙ or-either _ _ (sym split ∙ e) (λ h. or_left _ _ (a d h)) (λ h. or_right _ _ h)
 
   -- with the more behind the same
   among-behind : (before more after : List (Placing Id)) → AreAmong (numbers_of more) (numbers_of after) → AreAmong (numbers_of (before ++ more)) (numbers_of (before ++ after))
@@ -59,11 +52,11 @@ module _ {Id : Type 0} where
       = ap (λ list. has list d) (map-append (λ s. s.number) before more) ∙ list_any-append (λ n. n == d) (numbers_of before) (numbers_of more) in
       let joined : has (numbers_of (before ++ after)) d ≡ (has (numbers_of before) d || has (numbers_of after) d)
       = ap (λ list. has list d) (map-append (λ s. s.number) before after) ∙ list_any-append (λ n. n == d) (numbers_of before) (numbers_of after) in
-      joined ∙ or-either _ _ (sym split ∙ e) (λ h. or-left _ _ h) (λ h. or-right _ _ (a d h))
+      joined ∙ or-either _ _ (sym split ∙ e) (λ h. or_left _ _ h) (λ h. or_right _ _ (a d h))
 
   among-more : (before more : List (Placing Id)) → AreAmong (numbers_of before) (numbers_of (before ++ more))
   among-more before more d e =
-      ap (λ list. has list d) (map-append (λ s. s.number) before more) ∙ list_any-append (λ n. n == d) (numbers_of before) (numbers_of more) ∙ or-left _ _ e
+      ap (λ list. has list d) (map-append (λ s. s.number) before more) ∙ list_any-append (λ n. n == d) (numbers_of before) (numbers_of more) ∙ or_left _ _ e
 
   -- a list and one in another order
   among-permuted : (xs ys : List (Placing Id)) → IsPermutation xs ys → AreAmong (numbers_of ys) (numbers_of xs)
@@ -74,8 +67,8 @@ module _ {Id : Type 0} where
   rest-none [] ds e d h = ap (λ list. has list d) (sym e) ∙ h
   rest-none (one ∷ systems) ds e d h =
       or-either (one.number == d) (has (without ds one.number) d) (without-kept ds one.number d h)
-      (λ q. or-left _ _ q)
-      (λ q. or-right _ _ (rest-none systems (without ds one.number) e d q))
+      (λ q. or_left _ _ q)
+      (λ q. or_right _ _ (rest-none systems (without ds one.number) e d q))
 
   -- more may stand before
 
@@ -167,7 +160,7 @@ module _ {Id : Type 0} (same : Id → Id → Bool) (one : Placing Id) where
           → StagesWait before (option_map_or (λ w. taken one stage w ∷ later) (if b then way else None) (stage ∷ placed same (closed - 1) one (rest_after rest (systems_of stage)) later))
       by true (Some way) is passed =
           let more : AreAmong (numbers_of (systems_of stage)) (numbers_of (systems_of (taken one stage way)))
-          = λ d h. among-permuted _ _ (systems-taken one stage way (admitted-room same one rest stage way is)) d (or-right _ _ h) in (
+          = λ d h. among-permuted _ _ (systems-taken one stage way (admitted-room same one rest stage way is)) d (or_right _ _ h) in (
             stage-taken rest stage way before known is waits.0,
             stages-more later (before ++ systems_of stage) (before ++ systems_of (taken one stage way)) (among-behind before (systems_of stage) (systems_of (taken one stage way)) more) waits.1,
           )
@@ -182,7 +175,7 @@ module _ {Id : Type 0} (same : Id → Id → Bool) where
   stages-folded (placing one ∷ later) planning known among after waits =
       stages-folded later (added same planning (placing one)) (one.number ∷ known)
       (λ d h. among-permuted _ _ (systems-placed same planning.stages planning.first one one.after) d
-      (or-either (one.number == d) (has known d) h (λ q. or-left _ _ q) (λ q. or-right _ _ (among d q))))
+      (or-either (one.number == d) (has known d) h (λ q. or_left _ _ q) (λ q. or_right _ _ (among d q))))
       after.1
       (stages-placed same one planning.stages planning.first one.after [] refl (λ d h. among d (after.0 d h)) waits)
 

@@ -4,7 +4,7 @@ use Rattle.std.specs.Prelude.{slice_get, if◌then◌else◌, ◌++◌}
 use Rattle.std.specs.Option.{MatchOption}
 use Rattle.std.proofs.Math.ListN.{set}
 use Rattle.std.proofs.Math.Path.{fun_ext}
-use Rattle.std.proofs.lemmas.Bool.{false≢true}
+use Rattle.std.proofs.lemmas.Bool.{false≢true, or_right}
 use Rattle.std.proofs.lemmas.List.Folds.{list_any-append}
 use Rattle.shred_world.specs.declared.resource_id.ResourceId.{ResourceId}
 use Rattle.shred_world.specs.ResourceIds.{same_id}
@@ -128,9 +128,6 @@ or-true false = refl
 listed-later : (ids others : List ResourceId) → AreListed others (ids ++ others)
 listed-later ids others id e = list_any-append (same_id id) ids others ∙ ap (λ b. is_listed ids id || b) e ∙ or-true (is_listed ids id)
 
-listed-or : (a b : Bool) → b ≡ true → (a || b) ≡ true
-listed-or a b e = ap (λ x. a || x) e ∙ or-true a
-
 module _ {V S : Type 0} (meets : S → Holding V → Option Stop → S → Holding V → Type 0) where
   pub places-leave : (group : Group ResourceId) (systems : List S) (w : Holding V) (refused : Option (ℕ × Stop)) (after : List S) (w2 : Holding V) → PlacesRun meets group systems w refused after w2 → Leaves w w2
   places-leave [] systems w refused after w2 (_, _, e) = leaves-to w w w2 (leaves-itself w) e
@@ -154,7 +151,7 @@ module _ {V S : Type 0} (meets : S → Holding V → Option Stop → S → Holdi
     see-same : (r w : List ResourceId) (held : Holding V) → AreListed r reads → AreListed w writes → Leaves (cut reads writes start) held → cut r w held ≡ cut r w (back held)
     see-same r w held among_reads among_writes leaves =
         fun_ext (λ id. see (is_listed writes id) (is_listed reads id) (is_listed w id) (is_listed r id) (start id) (held id) (whole id) (among_writes id)
-        (λ e. listed-or (is_listed writes id) (is_listed reads id) (among_reads id e)) (leaves id))
+        (λ e. or_right (is_listed writes id) (is_listed reads id) (among_reads id e)) (leaves id))
 
     step-back : (r w : List ResourceId) (system left : S) (held next : Holding V) (stop : Option Stop) → AreListed r reads → AreListed w writes → Leaves (cut reads writes start) held
         → Step meets r w system held stop left next → Step meets r w system (back held) stop left (back next)

@@ -6,7 +6,7 @@ use Rattle.std.specs.Option.{MatchOption, option_map, option_to_list}
 use Rattle.std.proofs.Math.ListN.{set}
 use Rattle.std.proofs.lemmas.Bool.{false≢true}
 use Rattle.std.proofs.lemmas.List.{append_assoc, append-nil, map-set}
-use Rattle.std.proofs.lemmas.Option.{slice_get-map}
+use Rattle.std.proofs.lemmas.Option.{slice_get-map, get_or_from_slice_get}
 use Rattle.shred_world.specs.declared.resource_id.ResourceId.{ResourceId}
 use Rattle.shred_plan.specs.Plan.{Placing, Group, Stage}
 use Rattle.shred_plan.specs.Laws.{numbers_of}
@@ -40,11 +40,6 @@ set-here (x ∷ xs) zero zero a e = refl
 set-here (x ∷ xs) zero (suc k) a e = absurd (omega (arith, e))
 set-here (x ∷ xs) (suc n) zero a e = absurd (omega (arith, e))
 set-here (x ∷ xs) (suc n) (suc k) a e = set-here xs n k a (omega (arith, e))
-
-got : {A : Type 0} (xs : List A) (n : ℕ) (x d : A) → slice_get xs n ≡ Some x → get_or xs n d ≡ x
-got [] n x d e = absurd (let f : None ≡ Some x = e in cc)
-got (y ∷ xs) zero x d e = cc
-got (y ∷ xs) (suc n) x d e = got xs n x d e
 
 -- numbers that are among some
 
@@ -234,7 +229,7 @@ module _ {V S : Type 0} where
           → ArePlaced (one ∷ others) (standing (one ∷ others) slots) × StandAt (map (λ s. s.system) all) (one ∷ others) (map (λ s. s.system) (standing (one ∷ others) slots))
       by None is seat later = absurd seat
       by (Some x) is seat later =
-          let there : get_or slots one.number None ≡ Some x = got slots one.number (Some x) None (there-still slots all numbers one.number x away misses.0 is) in
+          let there : get_or slots one.number None ≡ Some x = get_or_from_slice_get slots one.number (Some x) None (there-still slots all numbers one.number x away misses.0 is) in
           let P : Option (Staged V S) → Type 0 = λ o. ArePlaced (one ∷ others) (option_to_list o ++ standing others (set slots one.number None)) × StandAt (map (λ s. s.system) all) (one ∷ others) (map (λ s. s.system) (option_to_list o ++ standing others (set slots one.number None))) in
           subst P (sym there) ((seat, later.0), (slice_get-map (λ s. s.system) all one.number ∙ ap (option_map (λ s. s.system)) is, later.1))
 

@@ -3,7 +3,7 @@ use Rattle.std.proofs.Common.{◌≡◌, ℕ, ◌<◌, ◌+◌, zero, suc, Bool,
 use Rattle.std.specs.Prelude.{◌==◌}
 use Rattle.std.specs.List.{All, AllByRecursion, AllPairs, list_any, fold, IsDistinct}
 use Rattle.std.proofs.Math.Path.{fun_ext}
-use Rattle.std.proofs.lemmas.Bool.{false≢true, eqb-true, eqb-false, eq-eqb}
+use Rattle.std.proofs.lemmas.Bool.{false≢true, eqb-true, eqb-false, eq-eqb, or_from, or_parts}
 use Rattle.std.proofs.lemmas.List.Folds.{list_any-append}
 use Rattle.std.proofs.lemmas.List.Sorted.{IsPermutation-sym}
 use Rattle.std.proofs.lemmas.Map.Keys.{IsDistinct-IsPermutation}
@@ -18,19 +18,11 @@ use Rattle.shred_stages.specs.Apart.{group_reads, group_writes}
 use Rattle.shred_stages.specs.Free.{IsNone, AreDistinct, ShareNone, IsFreeOfAll, AreFree}
 use Rattle.shred_stages.specs.Seats.{AreNumbered, IsPlanned}
 
-pub or-parts : (a b : Bool) → (a || b) ≡ false → (a ≡ false) × (b ≡ false)
-or-parts true b e = cc
-or-parts false b e = (refl, e)
-
-or-none : (a b : Bool) → a ≡ false → b ≡ false → (a || b) ≡ false
-or-none true b e f = cc
-or-none false b e f = f
-
 -- ids of lists that share none
 pub unshared : (ids others : List ResourceId) (q : ResourceId) → share same_id ids others ≡ false → is_listed ids q ≡ true → is_listed others q ≡ false
 unshared [] others q none listed = absurd (false≢true listed)
 unshared (i ∷ ids) others q none listed =
-    let parts = or-parts (list_any (same_id i) others) (share same_id ids others) none in
+    let parts = or_parts (list_any (same_id i) others) (share same_id ids others) none in
     by (same_id q i) refl parts.0 (unshared ids others q parts.1) listed
   where
     by : (b : Bool) → same_id q i ≡ b → is_listed others i ≡ false → (is_listed ids q ≡ true → is_listed others q ≡ false) → (b || is_listed ids q) ≡ true → is_listed others q ≡ false
@@ -45,14 +37,14 @@ not-listed ids others q none listed = by (is_listed ids q) refl
     by false is = is
 
 both-none : (ids others : List ResourceId) (q : ResourceId) → is_listed ids q ≡ false → is_listed others q ≡ false → is_listed (ids ++ others) q ≡ false
-both-none ids others q e f = list_any-append (same_id q) ids others ∙ or-none (is_listed ids q) (is_listed others q) e f
+both-none ids others q e f = list_any-append (same_id q) ids others ∙ or_from (is_listed ids q) (is_listed others q) e f
 
 one-writes : (one : Placing ResourceId) (other : Group ResourceId) (q : ResourceId) → hits same_id one other ≡ false → is_listed one.writes q ≡ true → (is_listed (group_reads other) q ≡ false) × (is_listed (group_writes other) q ≡ false)
 one-writes one [] q miss listed = (refl, refl)
 one-writes one (x ∷ other) q miss listed =
-    let parts = or-parts (conflict same_id one x) (hits same_id one other) miss in
-    let touch = or-parts (touches same_id one x) (touches same_id x one) parts.0 in
-    let none = or-parts (share same_id one.writes x.reads) (share same_id one.writes x.writes) touch.0 in
+    let parts = or_parts (conflict same_id one x) (hits same_id one other) miss in
+    let touch = or_parts (touches same_id one x) (touches same_id x one) parts.0 in
+    let none = or_parts (share same_id one.writes x.reads) (share same_id one.writes x.writes) touch.0 in
     let later = one-writes one other q parts.1 listed in (
       both-none x.reads (group_reads other) q (unshared one.writes x.reads q none.0 listed) later.0,
       both-none x.writes (group_writes other) q (unshared one.writes x.writes q none.1 listed) later.1,
@@ -61,9 +53,9 @@ one-writes one (x ∷ other) q miss listed =
 one-reads : (one : Placing ResourceId) (other : Group ResourceId) (q : ResourceId) → hits same_id one other ≡ false → is_listed one.reads q ≡ true → is_listed (group_writes other) q ≡ false
 one-reads one [] q miss listed = refl
 one-reads one (x ∷ other) q miss listed =
-    let parts = or-parts (conflict same_id one x) (hits same_id one other) miss in
-    let touch = or-parts (touches same_id one x) (touches same_id x one) parts.0 in
-    let none = or-parts (share same_id x.writes one.reads) (share same_id x.writes one.writes) touch.1 in
+    let parts = or_parts (conflict same_id one x) (hits same_id one other) miss in
+    let touch = or_parts (touches same_id one x) (touches same_id x one) parts.0 in
+    let none = or_parts (share same_id x.writes one.reads) (share same_id x.writes one.writes) touch.1 in
     both-none x.writes (group_writes other) q (not-listed x.writes one.reads q none.0 listed) (one-reads one other q parts.1 listed)
 
 either-listed : (ids others : List ResourceId) (q : ResourceId) {A : Type 0} → (is_listed ids q ≡ true → A) → (is_listed others q ≡ true → A) → is_listed (ids ++ others) q ≡ true → A
@@ -76,13 +68,13 @@ either-listed ids others q {A} f g e = by (is_listed ids q) refl (sym (list_any-
 group-ids : (group other : Group ResourceId) (q : ResourceId) → groups_conflict same_id group other ≡ false → is_listed (group_writes group) q ≡ true → (is_listed (group_reads other) q ≡ false) × (is_listed (group_writes other) q ≡ false)
 group-ids [] other q miss listed = absurd (false≢true listed)
 group-ids (one ∷ group) other q miss listed =
-    let parts = or-parts (hits same_id one other) (groups_conflict same_id group other) miss in
+    let parts = or_parts (hits same_id one other) (groups_conflict same_id group other) miss in
     either-listed one.writes (group_writes group) q (one-writes one other q parts.0) (group-ids group other q parts.1) listed
 
 group-unwritten : (group other : Group ResourceId) (q : ResourceId) → groups_conflict same_id group other ≡ false → is_listed (group_reads group) q ≡ true → is_listed (group_writes other) q ≡ false
 group-unwritten [] other q miss listed = absurd (false≢true listed)
 group-unwritten (one ∷ group) other q miss listed =
-    let parts = or-parts (hits same_id one other) (groups_conflict same_id group other) miss in
+    let parts = or_parts (hits same_id one other) (groups_conflict same_id group other) miss in
     either-listed one.reads (group_reads group) q (one-reads one other q parts.0) (group-unwritten group other q parts.1) listed
 
 -- numbers that differ

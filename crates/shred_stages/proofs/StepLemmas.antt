@@ -3,7 +3,7 @@ use Rattle.std.proofs.Common.{◌≡◌, ◌≢◌, ℕ, Bool, true, false, List
 use Rattle.std.specs.Prelude.{slice_get, slice_set, if◌then◌else◌}
 use Rattle.std.specs.Option.{MatchOption}
 use Rattle.std.proofs.Math.Path.{fun_ext}
-use Rattle.std.proofs.lemmas.Bool.{false≢true}
+use Rattle.std.proofs.lemmas.Bool.{false≢true, or_parts}
 use Rattle.std.proofs.lemmas.List.{set_comm}
 use Rattle.shred_world.specs.declared.resource_id.ResourceId.{ResourceId}
 use Rattle.shred_world.specs.ResourceIds.{same_id}
@@ -14,7 +14,7 @@ use Rattle.shred_stages.specs.Views.{shared_of, owned_of, cut, IsLeft, Leaves, m
 use Rattle.shred_stages.specs.Runs.{Step, State, Turn, GroupRuns}
 use Rattle.shred_stages.specs.Orders.{Taken, CanBeTaken, taken_from, systems_taken, StepsRun, ListRuns}
 use Rattle.shred_stages.proofs.ApartLemmas.{set-other, unseen}
-use Rattle.shred_stages.proofs.FreeLemmas.{or-parts, unshared}
+use Rattle.shred_stages.proofs.FreeLemmas.{unshared}
 
 -- what a system writes, another neither reads nor writes
 abbrev SparesAll : (one other : Placing ResourceId) → Type 0
@@ -22,7 +22,7 @@ SparesAll one other = (id : ResourceId) → is_listed one.writes id ≡ true →
 
 spares : (one other : Placing ResourceId) → touches same_id one other ≡ false → SparesAll one other
 spares one other none id written =
-    let parts = or-parts (share same_id one.writes other.reads) (share same_id one.writes other.writes) none in
+    let parts = or_parts (share same_id one.writes other.reads) (share same_id one.writes other.writes) none in
     (unshared one.writes other.reads id parts.0 written, unshared one.writes other.writes id parts.1 written)
 
 -- at an id that two systems don't both use, one of them writing, it is all one which of their values comes back first
@@ -104,7 +104,7 @@ module _ {V S : Type 0} (meets meets2 : S → Holding V → Option Stop → S �
   other = second.one
 
   both : (touches same_id one other ≡ false) × (touches same_id other one ≡ false)
-  both = or-parts (touches same_id one other) (touches same_id other one) apart
+  both = or_parts (touches same_id one other) (touches same_id other one) apart
 
   -- the second is lent the same before the first as after it
   lent : cut other.reads other.writes (taken_from meets first before).held ≡ cut other.reads other.writes before.held

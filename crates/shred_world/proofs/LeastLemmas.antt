@@ -20,9 +20,9 @@ use Rattle.shred_world.specs.Worlds.{Slots, IsLeastFrom}
 use Rattle.std.proofs.lemmas.Bool.{false≢true}
 use Rattle.std.proofs.lemmas.Map.{lookup-none}
 use Rattle.std.proofs.lemmas.Map.Entries.{none_past_head}
+use Rattle.std.proofs.lemmas.Option.{same_Some}
 use native.Mathlib.Decide.{dec_le}
 use Rattle.shred_world.proofs.IdLemmas.{same_id-is, same_id-itself, same_id_equiv}
-use Rattle.shred_world.proofs.WorldLemmas.{some_is}
 use Rattle.shred_world.proofs.PlaceLemmas.{HasLesserBefore, lesser_later, all_at}
 
 -- the lesser of two numbers, where they are there
@@ -84,7 +84,7 @@ module _ {V : Type 0} (kind from : ℕ) where
           → (lookup (same_id (id_of kind d)) es ≡ Some (Some v) → (m : ℕ) × (least_of kind from es ≡ Some m) × (m ≤ d))
           → (m : ℕ) × (lesser (number_of kind from e) (least_of kind from es) ≡ Some m) × (m ≤ d)
       by_head true same is rest =
-          let here = number_at e d v (same_id-is (id_of kind d) e.0 same) (some_is e.1 (Some v) is) above in
+          let here = number_at e d v (same_id-is (id_of kind d) e.0 same) (same_Some e.1 (Some v) is) above in
           let found = first_bounds d (least_of kind from es) in
           (found.0, ap (λ o. lesser o (least_of kind from es)) here ∙ found.1, found.2)
       by_head false same is rest = let found = rest is in rest_bounds (number_of kind from e) (least_of kind from es) found.0 d found.1 found.2
@@ -114,8 +114,8 @@ module _ {V : Type 0} (kind from : ℕ) where
   least_stands (e ∷ es) distinct m is = by_head (counts kind from e) refl (least_of kind from es) (least_stands es distinct.1) is
     where
       by_head : (b : Bool) → counts kind from e ≡ b → (o : Option ℕ) → ((m : ℕ) → o ≡ Some m → stands_at m es) → lesser (cond b (Some e.0.dynamic) None) o ≡ Some m → stands_at m (e ∷ es)
-      by_head true counting None later is = subst (λ d. stands_at d (e ∷ es)) (some_is _ _ is) (stands_here e es counting)
-      by_head true counting (Some y) later is = least_case e.0.dynamic y m (some_is _ _ is) (λ d. stands_at d (e ∷ es)) (stands_here e es counting) (stands_later e es y distinct (later y refl))
+      by_head true counting None later is = subst (λ d. stands_at d (e ∷ es)) (same_Some _ _ is) (stands_here e es counting)
+      by_head true counting (Some y) later is = least_case e.0.dynamic y m (same_Some _ _ is) (λ d. stands_at d (e ∷ es)) (stands_here e es counting) (stands_later e es y distinct (later y refl))
       by_head false skipped o later is = stands_later e es m distinct (later m is)
 
   -- the least among the entries of a world is the least that it holds
@@ -135,7 +135,7 @@ module _ {V : Type 0} (kind from : ℕ) where
             ap (λ o. is_some (option_flatten o)) (at (id_of kind m)) ∙ stands.1,
             λ d above below. ap option_flatten (at (id_of kind d)) ∙ none_below d _ refl (λ v found.
                 let f = least_found d above es v found in
-                let same : f.0 ≡ m = some_is _ _ (sym f.1 ∙ is) in
+                let same : f.0 ≡ m = same_Some _ _ (sym f.1 ∙ is) in
                 absurd (omega (arith, f.2, same, below))),
           )
 

@@ -7,6 +7,7 @@ use Rattle.shred_world.specs.Worlds.{Slots, value_at, resource_at, HasKind}
 use Rattle.std.specs.Ordering.{eq_by_cmp}
 use Rattle.std.specs.FinMap as map
 use Rattle.std.specs.FinMap.{FinMap, from_entries, get, insert, find, get-from_entries, get-insert, get-remove, same_map}
+use Rattle.std.proofs.lemmas.Option.{same_Some}
 use Rattle.shred_world.specs.declared.resource_id.ResourceId.{ResourceId}
 use Rattle.shred_world.specs.ResourceIds.{id_cmp, same_id}
 use Rattle.shred_world.specs.Bundles.{DefaultsTo}
@@ -116,10 +117,6 @@ module _ {V R : Type 0} (part : V → Option R) (wrapped : R → V) (seen : (r :
           ∙ seen r ∙ ap (λ o. Some (unwrap_or (option_and_then part o) r)) (sym was)
       at (Some v) was kind e = ap (λ m. resource_at part m id) e ∙ there (resource_at part w id) r (sym kind)
 
--- equal values under `Some`
-pub some_is : {A : Type 0} (x y : A) → Some x ≡ Some y → x ≡ y
-some_is x y e = ap (λ o. unwrap_or o x) e
-
 -- what a loan leaves of a resource that was made unless one stood
 pub made_put : {V R : Type 0} (wrapped : R → V) (w n : Slots V) (id : ResourceId) (Made : R → Type 0) (left : R) → DefaultsTo Made wrapped id w n
     → insert n id (Some (wrapped left)) ≡ insert w id (Some (wrapped left))
@@ -155,7 +152,7 @@ module _ {V R : Type 0} (part : V → Option R) (wrapped : R → V) (seen : (r :
       → MatchOption (resource_at part w id) (Made x) (λ there. x ≡ there)
   made_value w n id Made kind e x is =
       let made = made_at w n id Made kind e in
-      let same : made.0 ≡ x = some_is _ _ (sym made.1 ∙ sym is) in
+      let same : made.0 ≡ x = same_Some _ _ (sym made.1 ∙ sym is) in
       subst (λ r. MatchOption (resource_at part w id) (Made r) (λ there. r ≡ there)) same made.2
 
 -- the slot of an id is as it was, whatever is put at another

@@ -2,28 +2,12 @@
 use Rattle.std.proofs.Common.{◌≡◌, ◌≢◌, ℕ, ◌<◌, ◌⊎◌, Bool, true, false, cond, eqb, ◌&&◌, ◌||◌, List, [], ◌∷◌, Option, Some, None, is_some, inl, inr, refl, sym, ap, ◌∙◌}
 use Rattle.std.specs.FinSet as fin
 use Rattle.std.specs.List.{list_any}
-use Rattle.std.proofs.lemmas.Bool.{cases_eq, eq-eqb, eqb-true, true≢false, false≢true}
+use Rattle.std.proofs.lemmas.Bool.{cases_eq, eq-eqb, eqb-true, true≢false, false≢true, or_right, and_parts, or_left, or_cases}
 use Rattle.hibitset_sets.specs.Walk.{walk}
 use Rattle.hibitset_sets.proofs.CallerLemmas.{any-walk, contains-with}
 use Rattle.specs_entity.specs.Births.{Births, deleted, living}
 use Rattle.simulation.specs.declared.values.Position.{Position}
 use Rattle.simulation.specs.Steps.{Accepts, is_far, is_reaped}
-
-or-cases : (a b : Bool) → (a || b) ≡ true → (a ≡ true) ⊎ (b ≡ true)
-or-cases true b e = inl refl
-or-cases false b e = inr e
-
-or-left : (a b : Bool) → a ≡ true → (a || b) ≡ true
-or-left a b e = ap (λ x. x || b) e
-
-or-right : (a b : Bool) → b ≡ true → (a || b) ≡ true
-or-right true b e = refl
-or-right false b e = e
-
-and-both : (a b : Bool) → (a && b) ≡ true → (a ≡ true) × (b ≡ true)
-and-both true true e = (refl, refl)
-and-both true false e = cc
-and-both false b e = cc
 
 same-bools : (a b : Bool) → (a ≡ true → b ≡ true) → (b ≡ true → a ≡ true) → a ≡ b
 same-bools true true f g = refl
@@ -47,11 +31,11 @@ module _ (position : ℕ → Option Position) (before : Births) where
   accepting-start members agrees range = record {
     same = refl;
     kept = λ index was. was;
-    sound = λ index is. or-left (fin.contains before.deletions index) _ is;
-    complete = λ index is. elim (or-cases (fin.contains before.deletions index) _ is) [
+    sound = λ index is. or_left (fin.contains before.deletions index) _ is;
+    complete = λ index is. elim (or_cases (fin.contains before.deletions index) _ is) [
       | inl was ↦ inl was
       | inr reaped ↦
-          let far = (and-both (is_far (position index)) _ reaped).0 in
+          let far = (and_parts (is_far (position index)) _ reaped).0 in
           let member : members index ≡ true = agrees index ∙ far-some (position index) far in
           inr (any-walk members index (range index member) member)
     ];
@@ -69,15 +53,15 @@ module _ (position : ℕ → Option Position) (before : Births) where
           let has : (index : ℕ) → fin.contains next.deletions index ≡ (eqb index id || fin.contains now.deletions index) = λ index. ap (λ (b : Births). fin.contains b.deletions index) is_next ∙ contains-with now.deletions id index in
           record {
             same = is_next ∙ (ap (λ (b : Births). record b { deletions = fin.insert now.deletions id }) so.same ∙ ap (λ s. record before { deletions = s }) (sym (ap (λ (b : Births). b.deletions) is_next)));
-            kept = λ index was. has index ∙ or-right (eqb index id) _ (so.kept index was);
-            sound = λ index member. elim (or-cases (eqb index id) _ (sym (has index) ∙ member)) [
-              | inl here ↦ or-right (fin.contains before.deletions index) _ (ap (λ i. is_reaped (position i) (living before i)) (eqb-true index id here) ∙ ap (is_reaped (position id)) (sym (lives id)) ∙ reaped)
+            kept = λ index was. has index ∙ or_right (eqb index id) _ (so.kept index was);
+            sound = λ index member. elim (or_cases (eqb index id) _ (sym (has index) ∙ member)) [
+              | inl here ↦ or_right (fin.contains before.deletions index) _ (ap (λ i. is_reaped (position i) (living before i)) (eqb-true index id here) ∙ ap (is_reaped (position id)) (sym (lives id)) ∙ reaped)
               | inr was ↦ so.sound index was
             ];
             complete = λ index wanted. elim (so.complete index wanted) [
-              | inl was ↦ inl (has index ∙ or-right (eqb index id) _ was)
-              | inr left ↦ elim (or-cases (eqb index id) _ left) [
-                | inl here ↦ inl (has index ∙ or-left (eqb index id) _ here)
+              | inl was ↦ inl (has index ∙ or_right (eqb index id) _ was)
+              | inr left ↦ elim (or_cases (eqb index id) _ left) [
+                | inl here ↦ inl (has index ∙ or_left (eqb index id) _ here)
                 | inr later ↦ inr later
               ]
             ];
@@ -91,8 +75,8 @@ module _ (position : ℕ → Option Position) (before : Births) where
             sound = λ index member. so.sound index (sym (has index) ∙ member);
             complete = λ index wanted. elim (so.complete index wanted) [
               | inl was ↦ inl (has index ∙ was)
-              | inr left ↦ elim (or-cases (eqb index id) _ left) [
-                | inl here ↦ elim (or-cases (fin.contains before.deletions index) _ wanted) [
+              | inr left ↦ elim (or_cases (eqb index id) _ left) [
+                | inl here ↦ elim (or_cases (fin.contains before.deletions index) _ wanted) [
                   | inl accepted ↦ inl (has index ∙ so.kept index accepted)
                   | inr reaped ↦ absurd (true≢false (sym (ap (λ i. is_reaped (position i) (living before i)) (sym (eqb-true index id here)) ∙ reaped) ∙ ap (is_reaped (position id)) (sym (lives id)) ∙ stays))
                 ]

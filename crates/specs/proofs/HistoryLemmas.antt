@@ -1,10 +1,10 @@
 -- Histories of entities, call after call.
 use Rattle.std.proofs.Common.{◌≡◌, List, [], ◌∷◌, ap, sym, ◌∙◌}
+use Rattle.std.proofs.lemmas.Option.{same_Some}
 use Rattle.specs_entity.specs.Births.{Births, Continues, IsAlive, IsBorn, IsDead, living}
 use Rattle.specs_entity.specs.Life.{LifeAt}
 use Rattle.specs_entity.proofs.LawLemmas.{continues-through, dead-stays}
 use Rattle.specs_entity.proofs.NewLemmas.{born-stays, continues-same}
-use Rattle.specs_entity.proofs.BirthLemmas.{some-same}
 use Rattle.specs.specs.Histories.{ContinuesAlong, last_of}
 
 pub along : (first : Births) (later : List Births) → ContinuesAlong first later → Continues first (last_of first later)
@@ -22,6 +22,6 @@ pub stale-along : (stale newer : LifeAt) (first : Births) (later : List Births) 
 stale-along stale newer first later goes born same other alive = (
   born-along stale first later goes born,
   λ lives. other (
-      let life = some-same stale.generation newer.generation (sym lives ∙ (ap (living (last_of first later)) same ∙ alive)) in
+      let life = same_Some stale.generation newer.generation (sym lives ∙ (ap (living (last_of first later)) same ∙ alive)) in
       λ j. record { id = same j; generation = life j }),
 )

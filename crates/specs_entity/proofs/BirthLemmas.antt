@@ -8,11 +8,12 @@ use Rattle.std.specs.Cmp.{nat_eq_equiv}
 use Rattle.std.specs.List.{IsDistinct, list_any, AllByRecursion}
 use Rattle.std.proofs.Math.ListN.{length-set}
 use Rattle.std.proofs.Math.Seq.{take-length}
-use Rattle.std.proofs.lemmas.Bool.{true≢false, false≢true, cases_eq, eqb-true, eq-eqb, false_from_ne_true, cond-true, cond-false}
+use Rattle.std.proofs.lemmas.Bool.{true≢false, false≢true, cases_eq, eqb-true, eq-eqb, false_from_ne_true, cond-true, cond-false, or_from, or_left, or_cases, cases_Bool, or_right}
 use Rattle.std.proofs.lemmas.List.{get_or_past, take_more}
 use Rattle.std.proofs.lemmas.List.Folds.{list_any-append}
 use Rattle.std.proofs.lemmas.Map.Keys.{IsDistinct-push}
 use Rattle.std.proofs.lemmas.Map.Steps.{length-le_from_distinct_below}
+use Rattle.std.proofs.lemmas.Option.{same_Some, none-some}
 use Rattle.hibitset_sets.proofs.CallerLemmas.{contains-with, contains-without}
 use Rattle.specs_entity.specs.Life.{Life}
 use Rattle.specs_entity.specs.Births.{Births, none_born, persistent_at, living, count, alive_of, living_of, number_of, next_life, with_life, deleted, buried, settled, next_index, with_next_taken, IndicesAreSpent}
@@ -25,18 +26,8 @@ empty-has index h = true≢false (sym h ∙ fin.contains-empty nat_cmp index)
 pub some-none : {A : Type 0} (x : A) → Some x ≡ None → ⊥
 some-none x h = cc
 
-pub none-some : {A : Type 0} (x : A) → None ≡ Some x → ⊥
-none-some x h = cc
-
-pub some-same : {A : Type 0} (x y : A) → Some x ≡ Some y → x ≡ y
-some-same x y h = cc
-
-pub bool-cases : (b : Bool) → (b ≡ true) ⊎ (b ≡ false)
-bool-cases true = inl refl
-bool-cases false = inr refl
-
 pub not-equal : (a b : ℕ) → a ≢ b → eqb a b ≡ false
-not-equal a b other = elim (bool-cases (eqb a b)) [ inl holds ↦ absurd (other (eqb-true a b holds)) | inr lacks ↦ lacks ]
+not-equal a b other = elim (cases_Bool (eqb a b)) [ inl holds ↦ absurd (other (eqb-true a b holds)) | inr lacks ↦ lacks ]
 
 pub AreBirths-none : (indices generations : ℕ) → indices ≤ 16777216 → generations ≤ 2147483647 → AreBirths (none_born indices generations)
 unfolding IsDistinct
@@ -72,7 +63,7 @@ count-fresh births index is = ap (λ b. number_of (persistent_at births index) +
 -- where nobody lives no birth is fresh
 pub dead-lasting : (births : Births) (index : ℕ) → living births index ≡ None → fin.contains births.fresh index ≡ false
 dead-lasting births index dead =
-    elim (bool-cases (fin.contains births.fresh index)) [
+    elim (cases_Bool (fin.contains births.fresh index)) [
       | inl holds ↦ absurd (some-none (next_life (persistent_at births index)) (sym (living-fresh births index holds) ∙ dead))
       | inr lacks ↦ lacks
     ]
@@ -86,7 +77,7 @@ past-nobody last h = ap alive_of h
 -- somebody lives at used indices alone
 pub used-living : (births : Births) → AreBirths births → (index : ℕ) → living births index ≢ None → index < length births.persistent
 used-living births kept index lives =
-    elim (bool-cases (fin.contains births.fresh index)) [
+    elim (cases_Bool (fin.contains births.fresh index)) [
       | inl holds ↦ kept.fresh_used index holds
       | inr lacks ↦
           let within : (length births.persistent ≤ index) → ⊥ = λ past. lives (living-lasting births index lacks ∙ past-nobody (persistent_at births index) (get_or_past births.persistent index None past)) in
@@ -100,7 +91,7 @@ number-alive (Some life) lives numbered = numbered life refl
 -- an index where somebody lives had a birth
 pub counted-living : (births : Births) → AreBirths births → (index : ℕ) → living births index ≢ None → 0 < count births index
 counted-living births kept index lives =
-    elim (bool-cases (fin.contains births.fresh index)) [
+    elim (cases_Bool (fin.contains births.fresh index)) [
       | inl holds ↦ let e = count-fresh births index holds in omega arith
       | inr lacks ↦
           let e = count-lasting births index lacks in
@@ -128,7 +119,7 @@ AreBirths-alive births index kept free room =
       indices = kept.indices;
       generations = kept.generations;
       numbered = λ other one is. elim (cases_eq other index) [
-        | inl e ↦ let this : life ≡ one = some-same life one (sym same ∙ ap (persistent_at after) (sym e) ∙ is) in subst (λ (l : Life). 0 < l.number) this (omega arith)
+        | inl e ↦ let this : life ≡ one = same_Some life one (sym same ∙ ap (persistent_at after) (sym e) ∙ is) in subst (λ (l : Life). 0 < l.number) this (omega arith)
         | inr ne ↦ kept.numbered other one (sym (get_or-set_other births.persistent index other (Some life) None ne) ∙ is)
       ];
       counted = λ other. elim (cases_eq other index) [
@@ -260,10 +251,6 @@ count-buried births index within =
     let n : number_of (persistent_at (buried births index) index) ≡ count births index = ap number_of (get_or-set_same births.persistent index (Some (record { number = count births index; lives = false })) None within) in
     omega arith
 
-or-cases : (a b : Bool) → (a || b) ≡ true → (a ≡ true) ⊎ (b ≡ true)
-or-cases true b is = inl refl
-or-cases false b is = inr is
-
 or-false : (b : Bool) → (b || false) ≡ true → b ≡ true
 or-false true is = refl
 or-false false is = is
@@ -271,14 +258,14 @@ or-false false is = is
 -- what is in the cache after one more index was put into it
 pub cached-more : (index other : ℕ) (cache : List ℕ) → list_any (λ one. eqb other one) (cache ++ index ∷ []) ≡ true → (list_any (λ one. eqb other one) cache ≡ true) ⊎ (other ≡ index)
 cached-more index other cache is =
-    elim (or-cases (list_any (λ one. eqb other one) cache) (eqb other index || false) (sym (list_any-append (λ one. eqb other one) cache (index ∷ [])) ∙ is)) [
+    elim (or_cases (list_any (λ one. eqb other one) cache) (eqb other index || false) (sym (list_any-append (λ one. eqb other one) cache (index ∷ [])) ∙ is)) [
       | inl before ↦ inl before
       | inr here ↦ inr (eqb-true other index (or-false (eqb other index) here))
     ]
 
 pub uncached-living : (births : Births) → AreBirths births → (index : ℕ) → living births index ≢ None → list_any (λ other. eqb index other) births.cache ≡ false
 uncached-living births kept index lives =
-    elim (bool-cases (list_any (λ other. eqb index other) births.cache)) [
+    elim (cases_Bool (list_any (λ other. eqb index other) births.cache)) [
       | inl holds ↦ absurd (lives (kept.cached_dead index holds))
       | inr lacks ↦ lacks
     ]
@@ -296,7 +283,7 @@ AreBirths-buried births index kept lives =
       indices = kept.indices;
       generations = kept.generations;
       numbered = λ other one is. elim (cases_eq other index) [
-        | inl e ↦ let this : ended ≡ one = some-same ended one (sym same ∙ ap (persistent_at after) (sym e) ∙ is) in subst (λ (l : Life). 0 < l.number) this some
+        | inl e ↦ let this : ended ≡ one = same_Some ended one (sym same ∙ ap (persistent_at after) (sym e) ∙ is) in subst (λ (l : Life). 0 < l.number) this some
         | inr ne ↦ kept.numbered other one (sym (get_or-set_other births.persistent index other (Some ended) None ne) ∙ is)
       ];
       counted = λ other. elim (cases_eq other index) [
@@ -378,7 +365,7 @@ AreBirths-settled births index kept is_fresh =
       indices = kept.indices;
       generations = kept.generations;
       numbered = λ other one is. elim (cases_eq other index) [
-        | inl e ↦ let this : life ≡ one = some-same life one (sym same ∙ ap (persistent_at after) (sym e) ∙ is) in subst (λ (l : Life). 0 < l.number) this (omega arith)
+        | inl e ↦ let this : life ≡ one = same_Some life one (sym same ∙ ap (persistent_at after) (sym e) ∙ is) in subst (λ (l : Life). 0 < l.number) this (omega arith)
         | inr ne ↦ kept.numbered other one (sym (get_or-set_other births.persistent index other (Some life) None ne) ∙ is)
       ];
       counted = λ other. let c = count-settled births index kept is_fresh other in let h = kept.counted other in omega arith;
@@ -422,25 +409,25 @@ taken-opened births lasts rest empty same is =
 alive-number : (last : Option Life) (life : Life) → alive_of last ≡ Some life → number_of last ≡ life.number
 alive-number None life is = absurd (none-some life is)
 alive-number (Some one) life is =
-    elim (bool-cases one.lives) [
-      | inl holds ↦ let e : one ≡ life = some-same one life (sym (ap (λ b. cond b (Some one) None) holds) ∙ is) in ap (λ (l : Life). l.number) e
+    elim (cases_Bool one.lives) [
+      | inl holds ↦ let e : one ≡ life = same_Some one life (sym (ap (λ b. cond b (Some one) None) holds) ∙ is) in ap (λ (l : Life). l.number) e
       | inr lacks ↦ absurd (none-some life (sym (ap (λ b. cond b (Some one) None) lacks) ∙ is))
     ]
 
 alive-lives : (last : Option Life) (life : Life) → alive_of last ≡ Some life → life.lives ≡ true
 alive-lives None life is = absurd (none-some life is)
 alive-lives (Some one) life is =
-    elim (bool-cases one.lives) [
-      | inl holds ↦ let e : one ≡ life = some-same one life (sym (ap (λ b. cond b (Some one) None) holds) ∙ is) in sym (ap (λ (l : Life). l.lives) e) ∙ holds
+    elim (cases_Bool one.lives) [
+      | inl holds ↦ let e : one ≡ life = same_Some one life (sym (ap (λ b. cond b (Some one) None) holds) ∙ is) in sym (ap (λ (l : Life). l.lives) e) ∙ holds
       | inr lacks ↦ absurd (none-some life (sym (ap (λ b. cond b (Some one) None) lacks) ∙ is))
     ]
 
 -- the life of who lives at an index is that of a living one
 pub living-lives : (births : Births) (index : ℕ) (life : Life) → living births index ≡ Some life → life.lives ≡ true
 living-lives births index life is =
-    elim (bool-cases (fin.contains births.fresh index)) [
+    elim (cases_Bool (fin.contains births.fresh index)) [
       | inl holds ↦
-          let e : next_life (persistent_at births index) ≡ life = some-same (next_life (persistent_at births index)) life (sym (living-fresh births index holds) ∙ is) in
+          let e : next_life (persistent_at births index) ≡ life = same_Some (next_life (persistent_at births index)) life (sym (living-fresh births index holds) ∙ is) in
           sym (ap (λ (l : Life). l.lives) e)
       | inr lacks ↦ alive-lives (persistent_at births index) life (sym (living-lasting births index lacks) ∙ is)
     ]
@@ -448,9 +435,9 @@ living-lives births index life is =
 -- who lives at an index was born there last
 pub living-number : (births : Births) (index : ℕ) (life : Life) → living births index ≡ Some life → life.number ≡ count births index
 living-number births index life is =
-    elim (bool-cases (fin.contains births.fresh index)) [
+    elim (cases_Bool (fin.contains births.fresh index)) [
       | inl holds ↦
-          let e : next_life (persistent_at births index) ≡ life = some-same (next_life (persistent_at births index)) life (sym (living-fresh births index holds) ∙ is) in
+          let e : next_life (persistent_at births index) ≡ life = same_Some (next_life (persistent_at births index)) life (sym (living-fresh births index holds) ∙ is) in
           sym (ap (λ (l : Life). l.number) e) ∙ sym (count-fresh births index holds)
       | inr lacks ↦
           let n = alive-number (persistent_at births index) life (sym (living-lasting births index lacks) ∙ is) in
@@ -473,9 +460,6 @@ all-front y x (z ∷ zs) h = let rest = all-front y x zs h.1 in ((h.0, rest.0), 
 flip-false : (a b : ℕ) → eqb a b ≡ false → eqb b a ≡ false
 flip-false a b h = not-equal b a (λ e. true≢false (sym (eq-eqb a b (sym e)) ∙ h))
 
-or-none : (a b : Bool) → a ≡ false → b ≡ false → (a || b) ≡ false
-or-none a b first second = ap (λ c. c || b) first ∙ second
-
 -- the last of a list without repeats isn't among those before it
 pub distinct-front : (xs : List ℕ) (x : ℕ) → IsDistinct eqb (xs ++ x ∷ []) → IsDistinct eqb xs × (list_any (λ other. eqb x other) xs ≡ false)
 unfolding IsDistinct
@@ -483,14 +467,7 @@ distinct-front [] x h = (tt, refl)
 distinct-front (y ∷ ys) x h =
     let here = all-front y x ys h.0 in
     let rest = distinct-front ys x h.1 in
-    ((here.0, rest.0), or-none (eqb x y) (list_any (λ other. eqb x other) ys) (flip-false y x here.1) rest.1)
-
-any-left : (a b : Bool) → a ≡ true → (a || b) ≡ true
-any-left a b is = ap (λ c. c || b) is
-
-pub any-right : (a b : Bool) → b ≡ true → (a || b) ≡ true
-any-right true b is = refl
-any-right false b is = is
+    ((here.0, rest.0), or_from (eqb x y) (list_any (λ other. eqb x other) ys) (flip-false y x here.1) rest.1)
 
 abbrev popped : Births → List ℕ → Births
 popped births front = record births { cache = front }
@@ -498,8 +475,8 @@ popped births front = record births { cache = front }
 pop-taken : (births : Births) → AreBirths births → (front : List ℕ) (index : ℕ) → births.cache ≡ front ++ index ∷ [] → IsTaken births (popped births front) index
 pop-taken births kept front index is =
     let cached : (other : ℕ) → list_any (λ one. eqb other one) (front ++ index ∷ []) ≡ true → list_any (λ one. eqb other one) births.cache ≡ true = λ other h. ap (list_any (λ one. eqb other one)) is ∙ h in
-    let in_front : (other : ℕ) → list_any (λ one. eqb other one) front ≡ true → list_any (λ one. eqb other one) births.cache ≡ true = λ other h. cached other (list_any-append (λ one. eqb other one) front (index ∷ []) ∙ any-left _ _ h) in
-    let itself : list_any (λ one. eqb index one) births.cache ≡ true = cached index (list_any-append (λ one. eqb index one) front (index ∷ []) ∙ any-right (list_any (λ one. eqb index one) front) _ (any-left _ _ (eq-eqb index index refl))) in
+    let in_front : (other : ℕ) → list_any (λ one. eqb other one) front ≡ true → list_any (λ one. eqb other one) births.cache ≡ true = λ other h. cached other (list_any-append (λ one. eqb other one) front (index ∷ []) ∙ or_left _ _ h) in
+    let itself : list_any (λ one. eqb index one) births.cache ≡ true = cached index (list_any-append (λ one. eqb index one) front (index ∷ []) ∙ or_right (list_any (λ one. eqb index one) front) _ (or_left _ _ (eq-eqb index index refl))) in
     let apart = distinct-front front index (subst (IsDistinct eqb) is kept.distinct) in
     record {
       kept = record {

@@ -4,7 +4,7 @@ use Rattle.std.specs.Prelude.{Result, Ok, Err}
 use Rattle.std.specs.FinSet as fin
 use Rattle.std.specs.Ordering.{nat_cmp}
 use Rattle.std.specs.Cmp.{nat_cmp_total}
-use Rattle.std.proofs.lemmas.Bool.{cond-true, cond-false, eq-eqb, cases_eq, true≢false, false≢true}
+use Rattle.std.proofs.lemmas.Bool.{cond-true, cond-false, eq-eqb, cases_eq, true≢false, false≢true, or_right}
 use Rattle.std.proofs.lemmas.List.{get_or_past}
 use Rattle.std.proofs.lemmas.Map.Steps.{length-le_from_distinct_below}
 use Rattle.std.specs.Option.{is_some, option_to_list, IsSome}
@@ -13,7 +13,7 @@ use Rattle.hibitset_sets.proofs.CallerLemmas.{contains-with, contains-without}
 use Rattle.specs_entity.specs.Life.{Life, LifeAt}
 use Rattle.specs_entity.specs.Births.{Births, number_of, persistent_at, created, all_created, newborn, newborns, next_index, with_next_taken, CanCreate, IndicesAreSpent, GenerationsAreSpent}
 use Rattle.specs_entity.specs.Layout.{AreBirths, AreMade, IsCreated}
-use Rattle.specs_entity.proofs.BirthLemmas.{AreBirths-fresh, next-taken, not-equal, dead-lasting, front-last, any-right, more-none, births-same}
+use Rattle.specs_entity.proofs.BirthLemmas.{AreBirths-fresh, next-taken, not-equal, dead-lasting, front-last, more-none, births-same}
 
 pub ok-err : {A E : Type 0} (r : Result A E) (x : A) (e : E) → r ≡ Ok x → r ≡ Err e → ⊥
 ok-err r x e one other = cc
@@ -122,7 +122,7 @@ cached-index births some = record {
 
 last-cached : (xs : List ℕ) (x : ℕ) → list_any (λ other. eqb x other) (xs ++ x ∷ []) ≡ true
 last-cached [] x = ap (λ b. b || false) (eq-eqb x x refl)
-last-cached (y ∷ ys) x = any-right (eqb x y) _ (last-cached ys x)
+last-cached (y ∷ ys) x = or_right (eqb x y) _ (last-cached ys x)
 
 length-cases : {A : Type 0} (xs : List A) → (xs ≡ []) ⊎ (0 < length xs)
 length-cases [] = inl refl

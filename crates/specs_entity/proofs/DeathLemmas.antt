@@ -6,7 +6,7 @@ use Rattle.std.specs.Ordering.{nat_cmp}
 use Rattle.std.specs.List.{All, AllByRecursion, IsDistinct, list_any, range_with_len}
 use Rattle.std.proofs.lemmas.List.Elements.{All-map, All-weaker}
 use Rattle.std.proofs.lemmas.List.Folds.{list_any_none}
-use Rattle.std.proofs.lemmas.Bool.{true≢false}
+use Rattle.std.proofs.lemmas.Bool.{true≢false, cases_Bool}
 use Rattle.hibitset_sets.specs.Walk.{walk, is_pending}
 use Rattle.hibitset_sets.proofs.CallerLemmas.{any-walk, contains-without, members-walked, walk-without}
 use Rattle.specs_entity.specs.Life.{Life, LifeAt, first_life}
@@ -14,7 +14,7 @@ use Rattle.specs_entity.specs.Births.{Births, CanKill, all_deleted, all_living, 
 use Rattle.specs_entity.specs.Layout.{AreBirths}
 use Rattle.specs_entity.specs.Emptied.{GaveFirst, still_in}
 use Rattle.specs_entity.specs.declared.emptying.Emptying.{Emptying}
-use Rattle.specs_entity.proofs.BirthLemmas.{bool-cases, not-equal, used-living}
+use Rattle.specs_entity.proofs.BirthLemmas.{not-equal, used-living}
 use Rattle.specs_entity.proofs.ListLemmas.{walk-rest}
 
 -- ---- walks
@@ -37,7 +37,7 @@ filtered-above zero a low p below = tt
 filtered-above (suc n) a low p below =
     let rest : List ℕ = filter p (range_with_len (a + 1) n) in
     let above = filtered-above n (a + 1) low p (omega arith) in
-    elim (bool-cases (p a)) [
+    elim (cases_Bool (p a)) [
       | inl holds ↦ subst (AllByRecursion (λ y. eqb low y ≡ false)) (sym (ap (λ b. cond b (a ∷ rest) rest) holds)) (not-equal low a (λ e. absurd (omega arith)), above)
       | inr lacks ↦ subst (AllByRecursion (λ y. eqb low y ≡ false)) (sym (ap (λ b. cond b (a ∷ rest) rest) lacks)) above
     ]
@@ -48,7 +48,7 @@ filtered-distinct zero a p = tt
 filtered-distinct (suc n) a p =
     let rest : List ℕ = filter p (range_with_len (a + 1) n) in
     let apart = filtered-distinct n (a + 1) p in
-    elim (bool-cases (p a)) [
+    elim (cases_Bool (p a)) [
       | inl holds ↦ subst (IsDistinct eqb) (sym (ap (λ b. cond b (a ∷ rest) rest) holds)) (filtered-above n (a + 1) a p (omega arith), apart)
       | inr lacks ↦ subst (IsDistinct eqb) (sym (ap (λ b. cond b (a ∷ rest) rest) lacks)) apart
     ]
@@ -111,7 +111,7 @@ CanKill-same lives lives' entities same can =
 
 -- a walk over the accepted deletions comes to just these
 pub walked-deletions : (births : Births) → AreBirths births → (index : ℕ) → list_any (λ other. eqb index other) (walk (fin.contains births.deletions)) ≡ fin.contains births.deletions index
-walked-deletions births kept index = elim (bool-cases (fin.contains births.deletions index)) [
+walked-deletions births kept index = elim (cases_Bool (fin.contains births.deletions index)) [
   | inl is ↦ any-walk (fin.contains births.deletions) index (let used = used-living births kept index (kept.deletions index is) in let few = kept.used in let limit = kept.indices in omega arith) is ∙ sym is
   | inr out ↦
       list_any_none (λ other. eqb index other) (walk (fin.contains births.deletions))

@@ -2,10 +2,11 @@
 use Rattle.std.proofs.Common.{◌≡◌, ◌≢◌, ℕ, ◌≤◌, true, None, inl, inr, refl, sym, ap, ◌∙◌, subst, arith}
 use Rattle.std.specs.FinSet as fin
 use Rattle.std.proofs.lemmas.Bool.{cases_eq}
+use Rattle.std.proofs.lemmas.Option.{none-some}
 use Rattle.specs_entity.specs.Life.{LifeAt}
 use Rattle.specs_entity.specs.Births.{Births, IsDead, Continues, living, count, deleted, buried, settled}
 use Rattle.specs_entity.specs.Layout.{AreBirths}
-use Rattle.specs_entity.proofs.BirthLemmas.{none-some, living-buried, living-buried_other, count-buried, count-buried_other, used-living, living-settled, count-settled}
+use Rattle.specs_entity.proofs.BirthLemmas.{living-buried, living-buried_other, count-buried, count-buried_other, used-living, living-settled, count-settled}
 
 pub dead-stays : (entity : LifeAt) (before after : Births) → Continues before after → IsDead before entity → IsDead after entity
 dead-stays entity before after goes dead =

@@ -5,7 +5,7 @@ use Rattle.std.specs.FinSet as fin
 use Rattle.std.specs.Ordering.{nat_cmp}
 use Rattle.std.specs.Cmp.{nat_eq_equiv, nat_cmp_total}
 use Rattle.std.specs.List.{IsDistinct, list_any, AllByRecursion, range_with_len}
-use Rattle.std.proofs.lemmas.Bool.{true≢false, false≢true, cases_eq, eq-eqb, eqb-true, false_from_ne_true}
+use Rattle.std.proofs.lemmas.Bool.{true≢false, false≢true, cases_eq, eq-eqb, eqb-true, false_from_ne_true, cases_Bool, or_from, and_parts, or_left, or_cases, not-true, or_right}
 use Rattle.std.proofs.lemmas.List.{map_more}
 use Rattle.std.proofs.lemmas.List.Elements.{All-more, All-nil, All-get_or}
 use Rattle.std.proofs.lemmas.List.Folds.{list_any-append}
@@ -14,7 +14,7 @@ use Rattle.hibitset_sets.specs.Walk.{walk}
 use Rattle.hibitset_sets.proofs.CallerLemmas.{contains-with, contains-without}
 use Rattle.specs_entity.specs.Life.{Life, LifeAt, first_life}
 use Rattle.specs_entity.specs.Births.{Births, living, buried, settled, all_buried, all_settled, indices_of, CanKill, IsFirstFault, AreFresh, LivesBut}
-use Rattle.specs_entity.proofs.BirthLemmas.{bool-cases, not-equal, living-buried, living-buried_other, distinct-front, any-right}
+use Rattle.specs_entity.proofs.BirthLemmas.{not-equal, living-buried, living-buried_other, distinct-front}
 
 -- ---- walks
 
@@ -41,7 +41,7 @@ and-false false = refl
 filter-rest : (n a : ℕ) (p q : ℕ → Bool) (first : ℕ) (rest : List ℕ) → ((i : ℕ) → q i ≡ (not (eqb i first) && p i)) → filter p (range_with_len a n) ≡ first ∷ rest → (p first ≡ true) × (a ≤ first) × (filter q (range_with_len a n) ≡ rest)
 filter-rest zero a p q first rest without is = absurd (nil-cons first rest is)
 filter-rest (suc n) a p q first rest without is =
-    elim (bool-cases (p a)) [
+    elim (cases_Bool (p a)) [
       | inl holds ↦
           let whole : a ∷ filter p (range_with_len (a + 1) n) ≡ first ∷ rest = sym (ap (λ b. cond b (a ∷ filter p (range_with_len (a + 1) n)) (filter p (range_with_len (a + 1) n))) holds) ∙ is in
           let here : a ≡ first = head-same a first _ rest whole in
@@ -84,10 +84,6 @@ first-member s (Some x) gave = (walk-rest s x _ gave).0
 
 -- ---- marks
 
-or-cases : (a b : Bool) → (a || b) ≡ true → (a ≡ true) ⊎ (b ≡ true)
-or-cases true b is = inl refl
-or-cases false b is = inr is
-
 or-swap : (a b : Bool) → (a || b) ≡ (b || a)
 or-swap true true = refl
 or-swap true false = refl
@@ -120,7 +116,7 @@ marks-less s indices index marks q is =
       | inr ne ↦
           let other = not-equal q index ne in
           let member : fin.contains s q ≡ true = sym (both ∙ ap (λ b. not b && fin.contains s q) other) ∙ is in
-          elim (or-cases (eqb q index) (list_any (λ one. eqb q one) indices) (marks q member)) [
+          elim (or_cases (eqb q index) (list_any (λ one. eqb q one) indices) (marks q member)) [
             | inl here ↦ absurd (true≢false (sym here ∙ other))
             | inr later ↦ later
           ]
@@ -148,9 +144,6 @@ pub all_buried-more : (births : Births) (indices : List ℕ) (index : ℕ) → a
 all_buried-more births [] index = refl
 all_buried-more births (one ∷ indices) index = all_buried-more (buried births one) indices index
 
-any-head : (a b : Bool) → a ≡ true → (a || b) ≡ true
-any-head a b is = ap (λ c. c || b) is
-
 any-tail : (a b : Bool) → (a || b) ≡ false → b ≡ false
 any-tail true b is = absurd (true≢false is)
 any-tail false b is = is
@@ -159,7 +152,7 @@ any-tail false b is = is
 pub living-all_buried : (births : Births) (indices : List ℕ) (index : ℕ) → list_any (λ other. eqb index other) indices ≡ false → living (all_buried births indices) index ≡ living births index
 living-all_buried births [] index out = refl
 living-all_buried births (one ∷ indices) index out =
-    let ne : index ≢ one = λ e. true≢false (sym (any-head (eqb index one) (list_any (λ other. eqb index other) indices) (eq-eqb index one e)) ∙ out) in
+    let ne : index ≢ one = λ e. true≢false (sym (or_left (eqb index one) (list_any (λ other. eqb index other) indices) (eq-eqb index one e)) ∙ out) in
     living-all_buried (buried births one) indices index (any-tail (eqb index one) (list_any (λ other. eqb index other) indices) out)
     ∙ living-buried_other births one index ne
 
@@ -184,9 +177,9 @@ pub any-take : (q n : ℕ) (entities : List LifeAt) → list_any (λ other. eqb 
 any-take q zero entities is = absurd (false≢true is)
 any-take q (suc n) [] is = is
 any-take q (suc n) (entity ∷ entities) is =
-    elim (or-cases (eqb q entity.id) (list_any (λ other. eqb q other) (indices_of (take n entities))) is) [
-      | inl here ↦ any-head (eqb q entity.id) _ here
-      | inr later ↦ any-right (eqb q entity.id) _ (any-take q n entities later)
+    elim (or_cases (eqb q entity.id) (list_any (λ other. eqb q other) (indices_of (take n entities))) is) [
+      | inl here ↦ or_left (eqb q entity.id) _ here
+      | inr later ↦ or_right (eqb q entity.id) _ (any-take q n entities later)
     ]
 
 indices-take : (n : ℕ) (entities : List LifeAt) → indices_of (take n entities) ≡ take n (indices_of entities)
@@ -235,7 +228,7 @@ all_settled-more births (one ∷ indices) index = all_settled-more (settled birt
 fresh-all_settled : (births : Births) (indices : List ℕ) (index : ℕ) → list_any (λ other. eqb index other) indices ≡ false → fin.contains (all_settled births indices).fresh index ≡ fin.contains births.fresh index
 fresh-all_settled births [] index out = refl
 fresh-all_settled births (one ∷ indices) index out =
-    let ne : index ≢ one = λ e. true≢false (sym (any-head (eqb index one) (list_any (λ other. eqb index other) indices) (eq-eqb index one e)) ∙ out) in
+    let ne : index ≢ one = λ e. true≢false (sym (or_left (eqb index one) (list_any (λ other. eqb index other) indices) (eq-eqb index one e)) ∙ out) in
     fresh-all_settled (settled births one) indices index (any-tail (eqb index one) (list_any (λ other. eqb index other) indices) out)
     ∙ (contains-without births.fresh one index ∙ ap (λ b. not b && fin.contains births.fresh index) (not-equal index one ne))
 
@@ -255,9 +248,9 @@ settled-next births entities place d within =
 -- who is among the dead lives no more
 living-all_buried_in : (births : Births) (indices : List ℕ) (index : ℕ) → list_any (λ other. eqb index other) indices ≡ true → living (all_buried births indices) index ≡ None
 living-all_buried_in births [] index is = absurd (false≢true is)
-living-all_buried_in births (one ∷ indices) index is = elim (bool-cases (list_any (λ other. eqb index other) indices)) [
+living-all_buried_in births (one ∷ indices) index is = elim (cases_Bool (list_any (λ other. eqb index other) indices)) [
   | inl later ↦ living-all_buried_in (buried births one) indices index later
-  | inr last ↦ elim (or-cases (eqb index one) (list_any (λ other. eqb index other) indices) is) [
+  | inr last ↦ elim (or_cases (eqb index one) (list_any (λ other. eqb index other) indices) is) [
     | inl here ↦
         living-all_buried (buried births one) indices index last
         ∙ (ap (living (buried births one)) (eqb-true index one here) ∙ living-buried births one)
@@ -266,7 +259,7 @@ living-all_buried_in births (one ∷ indices) index is = elim (bool-cases (list_
 ]
 
 pub all_buried-lives : (births : Births) (indices : List ℕ) → LivesBut (λ index. list_any (λ other. eqb index other) indices) births (all_buried births indices)
-all_buried-lives births indices index = elim (bool-cases (list_any (λ other. eqb index other) indices)) [
+all_buried-lives births indices index = elim (cases_Bool (list_any (λ other. eqb index other) indices)) [
   | inl is ↦ living-all_buried_in births indices index is ∙ sym (ap (λ b. cond b None (living births index)) is)
   | inr out ↦ living-all_buried births indices index out ∙ sym (ap (λ b. cond b None (living births index)) out)
 ]
@@ -276,21 +269,8 @@ deletions-all_buried : (births : Births) (indices : List ℕ) (index : ℕ) → 
 deletions-all_buried births [] index is = (is, refl)
 deletions-all_buried births (one ∷ indices) index is =
     let rest = deletions-all_buried (buried births one) indices index is in
-    let parts = both-true (not (eqb index one)) (fin.contains births.deletions index) (sym (contains-without births.deletions one index) ∙ rest.0) in
-    (parts.1, any-none (eqb index one) _ (not-true (eqb index one) parts.0) rest.1)
-  where
-    both-true : (a b : Bool) → (a && b) ≡ true → (a ≡ true) × (b ≡ true)
-    both-true true true e = (refl, refl)
-    both-true true false e = cc
-    both-true false b e = cc
-
-    not-true : (a : Bool) → not a ≡ true → a ≡ false
-    not-true true e = cc
-    not-true false e = refl
-
-    any-none : (a b : Bool) → a ≡ false → b ≡ false → (a || b) ≡ false
-    any-none a b e f = ap (λ x. x || b) e ∙ f
-
+    let parts = and_parts (not (eqb index one)) (fin.contains births.deletions index) (sym (contains-without births.deletions one index) ∙ rest.0) in
+    (parts.1, or_from (eqb index one) _ (not-true (eqb index one) parts.0) rest.1)
 -- where all accepted are buried no deletion is left
 pub deletions-done : (births : Births) (indices : List ℕ) → ((index : ℕ) → fin.contains births.deletions index ≡ true → list_any (λ other. eqb index other) indices ≡ true) → (all_buried births indices).deletions ≡ fin.empty
 deletions-done births indices all =

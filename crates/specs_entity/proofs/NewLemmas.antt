@@ -4,11 +4,12 @@ use Rattle.std.specs.Prelude.{◌==◌}
 use Rattle.std.specs.FinSet as fin
 use Rattle.std.specs.Cmp.{nat_eq_equiv}
 use Rattle.std.specs.List.{IsDistinct, list_any}
-use Rattle.std.proofs.lemmas.Bool.{cases_eq, eq-eqb}
+use Rattle.std.proofs.lemmas.Bool.{cases_eq, eq-eqb, or_right}
 use Rattle.std.proofs.lemmas.List.{map-append}
 use Rattle.std.proofs.lemmas.List.Elements.{All-nil, All-push, All-weaker, All-map}
 use Rattle.std.proofs.lemmas.List.Folds.{list_any_none}
 use Rattle.std.proofs.lemmas.Map.Keys.{IsDistinct-push}
+use Rattle.std.proofs.lemmas.Option.{same_Some, none-some}
 use Rattle.specs_entity.specs.Life.{Life, LifeAt}
 use Rattle.specs_entity.specs.Births.{Births, persistent_at, living, living_of, alive_of, count, number_of, next_life, with_next_taken, next_index, newborn, allocated, created, IndicesAreSpent, IsBorn, IsAlive, Continues, AreNew, CanCreate, all_created, newborns, indices_of, LivesOn, BringsToLife, AreFresh}
 use Rattle.specs_entity.specs.Layout.{AreBirths}
@@ -17,7 +18,7 @@ use Rattle.specs_entity.proofs.LawLemmas.{continues-through}
 use Rattle.hibitset_sets.proofs.CallerLemmas.{contains-with}
 use Rattle.specs_entity.proofs.ListLemmas.{CanKill-nil}
 use Rattle.specs_entity.proofs.DeathLemmas.{CanKill-same}
-use Rattle.specs_entity.proofs.BirthLemmas.{none-some, not-equal, some-same, more-none, next-taken, dead-lasting, living-lasting, living-fresh, count-lasting, count-fresh, living-with_life, count-with_life, living-freshened, fresh-same, fresh-other, any-right}
+use Rattle.specs_entity.proofs.BirthLemmas.{not-equal, more-none, next-taken, dead-lasting, living-lasting, living-fresh, count-lasting, count-fresh, living-with_life, count-with_life, living-freshened, fresh-same, fresh-other}
 
 pub born-stays : (before after : Births) (entity : LifeAt) → Continues before after → IsBorn before entity → IsBorn after entity
 born-stays before after entity goes born = (born.0, born.1, (let more = goes.births entity.id in let low = born.2 in omega arith))
@@ -58,7 +59,7 @@ module _ (births : Births) (kept : AreBirths births) (left : ¬ (IndicesAreSpent
         ];
         lives = λ other life is. elim (cases_eq other index) [
           | inl e ↦
-              let this : life.number ≡ number_of (persistent_at births index) + 1 = ap (λ (l : Life). l.number) (some-same life (newborn births).generation (sym is ∙ ap (living after) e ∙ lives)) in
+              let this : life.number ≡ number_of (persistent_at births index) + 1 = ap (λ (l : Life). l.number) (same_Some life (newborn births).generation (sym is ∙ ap (living after) e ∙ lives)) in
               let here : count births other ≡ number_of (persistent_at births index) + 0 = ap (count births) e ∙ n in
               inr (omega arith)
           | inr ne ↦ inl (sym (lives_else other ne) ∙ is)
@@ -168,7 +169,7 @@ all_created-live_on (suc more) births kept can entity alive =
 
 -- a fresh birth stays so by the next
 fresh-stays : (births : Births) (index : ℕ) → fin.contains births.fresh index ≡ true → fin.contains (created births).fresh index ≡ true
-fresh-stays births index is = contains-with births.fresh (next_index births) index ∙ any-right (eqb index (next_index births)) _ is
+fresh-stays births index is = contains-with births.fresh (next_index births) index ∙ or_right (eqb index (next_index births)) _ is
 
 newborns-fresh-all : (number : ℕ) (births : Births) → All (λ (e : LifeAt). fin.contains (all_created number births).fresh e.id ≡ true) (newborns number births)
 newborns-fresh-all zero births = All-nil (λ (e : LifeAt). fin.contains births.fresh e.id ≡ true)

@@ -1,7 +1,7 @@
 -- What the events show of a change, for no change, one change and one after another.
 use Rattle.std.proofs.Common.{◌≡◌, ℕ, Bool, true, false, cond, eqb, ◌||◌, List, [], ◌∷◌, ◌++◌, Option, None, Some, IsSome, is_some, length, drop, refl, sym, ap, ◌∙◌, inl, inr, ◌⊎◌, arith}
 use Rattle.std.specs.List.{list_any}
-use Rattle.std.proofs.lemmas.Bool.{cases_eq, false≢true}
+use Rattle.std.proofs.lemmas.Bool.{cases_eq, false≢true, or_left, or_right}
 use Rattle.std.proofs.lemmas.List.{append-nil, append_assoc, get_or_default}
 use Rattle.std.proofs.lemmas.List.Folds.{list_any-append}
 use Rattle.std.proofs.Math.Seq.{drop-append_seam}
@@ -26,22 +26,15 @@ told-more false log event = more-none log
 
 -- ---- indices that are named
 
-or-left : (a b : Bool) → a ≡ true → (a || b) ≡ true
-or-left a b is = ap (λ c. c || b) is
-
-or-right : (a b : Bool) → b ≡ true → (a || b) ≡ true
-or-right true b is = refl
-or-right false b is = is
-
 names-first : (one two : List ComponentEvent) (index : ℕ) → Names one index → Names (one ++ two) index
 names-first one two index named =
     let has : ComponentEvent → Bool = λ event. eqb (index_of event) index in
-    list_any-append has one two ∙ or-left (list_any has one) (list_any has two) named
+    list_any-append has one two ∙ or_left (list_any has one) (list_any has two) named
 
 names-later : (one two : List ComponentEvent) (index : ℕ) → Names two index → Names (one ++ two) index
 names-later one two index named =
     let has : ComponentEvent → Bool = λ event. eqb (index_of event) index in
-    list_any-append has one two ∙ or-right (list_any has one) (list_any has two) named
+    list_any-append has one two ∙ or_right (list_any has one) (list_any has two) named
 
 names-one : (event : ComponentEvent) (index : ℕ) → index ≡ index_of event → Names (event ∷ []) index
 names-one event index is = grind (arith, is)

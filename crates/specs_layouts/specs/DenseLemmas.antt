@@ -2,7 +2,7 @@
 use Rattle.std.proofs.Common.{◌≡◌, ◌≢◌, ℕ, zero, suc, ◌<◌, Bool, true, false, ◌&&◌, cond, List, [], ◌∷◌, length, set, Option, Some, None, IsSome, is_some, slice_index, refl, sym, ap, ◌∙◌, arith, inl, inr, ◌⊎◌}
 use Rattle.std.specs.List.{slice_get}
 use Rattle.std.specs.Cmp.Derive.{both_true}
-use Rattle.std.proofs.lemmas.Bool.{ltb-true, lt-ltb, eqb-true, eq-eqb, false≢true}
+use Rattle.std.proofs.lemmas.Bool.{ltb-true, lt-ltb, eqb-true, eq-eqb, false≢true, and_parts, false_from_ne_true}
 use Rattle.specs_layouts.specs.Parts.{Puts, HasNone}
 use Rattle.specs_layouts.specs.Dense.{Dense, owns, dense_part, with_dense_part}
 
@@ -12,22 +12,14 @@ pub record Owns (places owners : List ℕ) (index : ℕ) : Type 0 where
   pub place : slice_index places index < length owners
   pub owner : slice_index owners (slice_index places index) ≡ index
 
-and-parts : (a b : Bool) → (a && b) ≡ true → (a ≡ true) × (b ≡ true)
-and-parts true b e = (refl, e)
-and-parts false b e = absurd (false≢true e)
-
-not-true : (b : Bool) → (b ≡ true → ⊥) → b ≡ false
-not-true true never = absurd (never refl)
-not-true false never = refl
-
 told-or-not : {T : Type 0} (b : Bool) (part : Option T) → IsSome (cond b part None) → b ≡ true
 told-or-not true part there = refl
 told-or-not false part there = absurd (false≢true there)
 
 pub owns-known : (places owners : List ℕ) (index : ℕ) → owns places owners index ≡ true → Owns places owners index
 owns-known places owners index e =
-    let first = and-parts _ _ e in
-    let second = and-parts _ _ first.1 in
+    let first = and_parts _ _ e in
+    let second = and_parts _ _ first.1 in
     record {
       inside = ltb-true _ _ first.0;
       place = ltb-true _ _ second.0;
@@ -49,7 +41,7 @@ dense_part-there s index h = ap (λ b. cond b (slice_get s.parts (slice_index s.
 
 pub dense_part-none : {T : Type 0} (s : Dense T) (index : ℕ) → (Owns s.places s.owners index → ⊥) → dense_part s index ≡ None
 dense_part-none s index never =
-    ap (λ b. cond b (slice_get s.parts (slice_index s.places index)) None) (not-true (owns s.places s.owners index) (λ e. never (owns-known s.places s.owners index e)))
+    ap (λ b. cond b (slice_get s.parts (slice_index s.places index)) None) (false_from_ne_true (owns s.places s.owners index) (λ e. never (owns-known s.places s.owners index e)))
 
 pub dense_part-owner : {T : Type 0} (s : Dense T) (index : ℕ) → IsSome (dense_part s index) → Owns s.places s.owners index
 dense_part-owner s index there = owns-known s.places s.owners index (told-or-not (owns s.places s.owners index) _ there)

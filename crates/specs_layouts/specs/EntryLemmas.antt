@@ -1,6 +1,6 @@
 -- What the entries are after a change.
 use Rattle.std.proofs.Common.{◌≡◌, ℕ, Bool, true, false, List, [], Option, Some, cond, IsSome, nat_eq, sym, ap, refl}
-use Rattle.std.proofs.lemmas.Bool.{eqb-true, false≢true}
+use Rattle.std.proofs.lemmas.Bool.{eqb-true, false≢true, false_from_ne_true}
 use Rattle.std.proofs.lemmas.Cmp.{eq_by_cmp_equiv, nat_cmp_total, nat_eq_equiv}
 use Rattle.std.proofs.lemmas.Map.{lookup-set_value}
 use Rattle.std.specs.Cmp.{IsEquivalence}
@@ -13,15 +13,11 @@ use Rattle.specs_layouts.specs.Parts.{Puts, HasNone}
 use Rattle.specs_layouts.specs.PartLemmas.{Puts-by_test}
 use Rattle.specs_layouts.specs.Entries.{tree_part, with_tree_part, table_part, with_table_part}
 
-not_equal : (b : Bool) → (b ≡ true → ⊥) → b ≡ false
-not_equal true differs = absurd (differs refl)
-not_equal false differs = refl
-
 module _ {T : Type 0} (eq : ℕ → ℕ → Bool) (laws : IsEquivalence eq) (exact : (x y : ℕ) → eq x y ≡ true → x ≡ y) where
   -- what an update of one index's entry leaves
   pub updates-put : (before after : List (ℕ × T)) (index : ℕ) (part : Option T) → ((q : ℕ) → lookup (eq q) after ≡ cond (eq index q) part (lookup (eq q) before)) → Puts (λ i. lookup (eq i) before) index part (λ i. lookup (eq i) after)
   updates-put before after index part reads =
-      Puts-by_test (λ i. lookup (eq i) before) (λ i. lookup (eq i) after) (eq index) index part (laws.refl index) (λ other apart. not_equal (eq index other) (λ e. apart (sym (exact index other e)))) reads
+      Puts-by_test (λ i. lookup (eq i) before) (λ i. lookup (eq i) after) (eq index) index part (laws.refl index) (λ other apart. false_from_ne_true (eq index other) (λ e. apart (sym (exact index other e)))) reads
 
   -- what a write of an entry leaves
   pub writes-put : (entries : List (ℕ × T)) (index : ℕ) (part : T) → IsSome (lookup (eq index) entries) → Puts (λ i. lookup (eq i) entries) index (Some part) (λ i. lookup (eq i) (set_value (eq index) entries part))

@@ -1,6 +1,6 @@
 -- Tables of notes as finite maps, and what a note more makes of them.
 use Rattle.std.proofs.Common.{◌≡◌, ℕ, ◌+◌, max, nat_eq, unwrap_or, Bool, true, false, cond, List, [], ◌∷◌, Some, Option, refl, sym, ap, subst, ◌∙◌}
-use Rattle.std.proofs.lemmas.Bool.{false≢true, eqb-true}
+use Rattle.std.proofs.lemmas.Bool.{false≢true, eqb-true, false_from_ne_true}
 use Rattle.std.proofs.lemmas.Cmp.{eq_by_cmp_equiv, nat_cmp_total, nat_eq_equiv}
 use Rattle.std.specs.Cmp.{IsEquivalence, IsTotalOrder}
 use Rattle.std.specs.Cmp.Lexicographic.{slice_cmp}
@@ -22,10 +22,6 @@ ranked_equal : (r : Ordering) → is_eq r ≡ true → r ≡ Equal
 ranked_equal Less e = absurd (false≢true e)
 ranked_equal Equal e = refl
 ranked_equal Greater e = absurd (false≢true e)
-
-not_true : (b : Bool) → (b ≡ true → ⊥) → b ≡ false
-not_true true differs = absurd (differs refl)
-not_true false differs = refl
 
 module _ {K : Type 0} (eq : K → K → Bool) (cmp : K → K → Ordering) (laws : IsEquivalence eq) (exact : (x y : K) → eq x y ≡ true → x ≡ y) (total : IsTotalOrder cmp) (same : map.IsAntisymmetric cmp) where
   tests-agree : (x y : K) (a b : Bool) → eq x y ≡ a → eq_by_cmp cmp x y ≡ b → a ≡ b
@@ -65,7 +61,7 @@ module _ {K : Type 0} (eq : K → K → Bool) (cmp : K → K → Ordering) (laws
       record {
         here = map.get-insert total noted key entity key ∙ ap (λ b. cond b (Some entity) (map.get noted key)) ((eq_by_cmp_equiv total).refl key);
         others = λ other apart. map.get-insert total noted key entity other
-            ∙ ap (λ b. cond b (Some entity) (map.get noted other)) (not_true (eq_by_cmp cmp other key) (λ e. apart (same other key (ranked_equal (cmp other key) e))));
+            ∙ ap (λ b. cond b (Some entity) (map.get noted other)) (false_from_ne_true (eq_by_cmp cmp other key) (λ e. apart (same other key (ranked_equal (cmp other key) e))));
       }
 
 -- ---- numbers as ids

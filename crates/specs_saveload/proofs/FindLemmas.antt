@@ -1,7 +1,7 @@
 -- Entries whose entities are found or made one after the other, and a load in two passes.
 use Rattle.std.proofs.Common.{◌≡◌, ◌⊎◌, ◌+◌, ◌-◌, ◌==◌, ◌<◌, ◌≤◌, ℕ, suc, zero, cond, List, [], ◌∷◌, ◌++◌, length, take, drop, slice_get, slice_index_or, get_or, Option, Some, None, Result, Ok, Err, IfErr, inl, inr, refl, sym, subst, ap, ◌∙◌, length-append, arith}
 use Rattle.std.proofs.lemmas.List.{length-take-le, take-append-drop, take-append-le, take_more}
-use Rattle.std.proofs.lemmas.Option.{slice_get-get_or, slice_get_within}
+use Rattle.std.proofs.lemmas.Option.{slice_get-get_or, slice_get_within, same_Some}
 use Rattle.specs_entity.specs.Births.{Births, IsAlive, created, newborn, next_index}
 use Rattle.specs_entity.specs.Life.{LifeAt}
 use Rattle.specs_saveload.specs.declared.entity_data.EntityData.{EntityData}
@@ -9,7 +9,6 @@ use Rattle.specs_saveload.specs.Bearing.{Asks, GoesOn, IsAmong}
 use Rattle.specs_saveload.specs.Finding.{AreFound, Finds, FindsBefore, LoadsFound, LoadsFoundBefore}
 use Rattle.specs_saveload.specs.Known.{AddsBirth, IsSound, Known, LivesIn, bearer_at}
 use Rattle.specs_saveload.specs.Loading.{AreApart, AreInOrder, IsMadeBefore, Loads, LoadsBefore, RefusesEntry, RefusesLoad}
-use Rattle.specs_saveload.specs.LoadingLemmas.{the-same}
 use Rattle.specs_saveload.specs.NamingLemmas.{among-either, among-left, among-right}
 use Rattle.specs_saveload.proofs.KnownLemmas.{bearer-alive, bearers-apart}
 use Rattle.specs_saveload.proofs.LoadLemmas.{apart-front, apart-next, goes-both, goes-none}
@@ -36,7 +35,7 @@ module _ {M D : Type 0} (one two : M → Option LifeAt) (lived : LifeAt → Type
 
   -- whoever bears the marker of a found one then, bore it before
   bore : (entry : EntityData M D) → HasBearer entry → (entity : LifeAt) → two entry.marker ≡ Some entity → one entry.marker ≡ Some entity
-  bore entry found entity bears = found.1 ∙ ap Some (the-same found.0 entity (sym (more entry.marker found.0 found.1) ∙ bears))
+  bore entry found entity bears = found.1 ∙ ap Some (same_Some found.0 entity (sym (more entry.marker found.0 found.1) ∙ bears))
 
   before-still : (first other : EntityData M D) → HasBearer first → HasBearer other → IsMadeBefore one lived first other → IsMadeBefore two lived first other
   before-still first other found found' before entity entity' bears bears' new new' =
@@ -94,7 +93,7 @@ module _ {A S M I D : Type 0} (noted : A → I → Option LifeAt) (part_at : S �
   module _ (done : List (EntityData M D)) (next : EntityData M D) (before mid after : Known A S) (entity : LifeAt) (finds : Finds noted part_at id_of done before mid) (keeps : GoesOn (bearer_at noted part_at id_of) LivesIn mid after)
       (adds : Asks (bearer_at noted part_at id_of) LivesIn (IsSound noted part_at id_of) (next.marker ∷ []) mid after) (bears : bearer_at noted part_at id_of after next.marker ≡ Some entity) (birth : AddsBirth mid.births after.births entity) where
     is-bearer : (one : LifeAt) → bearer_at noted part_at id_of after next.marker ≡ Some one → entity ≡ one
-    is-bearer one takes = the-same entity one (sym bears ∙ takes)
+    is-bearer one takes = same_Some entity one (sym bears ∙ takes)
 
     module _ (sound : IsSound noted part_at id_of before) (apart : AreApart (done ++ next ∷ [])) where
       -- where none was born, the bearer of the next one's marker lived before: it is no other entry's

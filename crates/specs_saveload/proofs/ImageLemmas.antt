@@ -2,6 +2,7 @@
 use Rattle.std.proofs.Common.{◌≡◌, ◌⊎◌, ◌↔◌, ◌+◌, ◌<◌, ◌≤◌, ℕ, zero, suc, Bool, true, false, cond, List, [], ◌∷◌, filter, map, Option, Some, None, is_some, IsSome, IfSome, option_and_then, option_map, unwrap_or, inl, inr, refl, sym, ap, subst, ◌∙◌, arith}
 use Rattle.std.proofs.lemmas.Bool.{false≢true}
 use Rattle.std.specs.List.{range_with_len, cons_option}
+use Rattle.std.proofs.lemmas.Option.{same_Some}
 use Rattle.hibitset_sets.specs.Walk.{walk}
 use Rattle.specs_entity.specs.Births.{Births, IsAlive, living}
 use Rattle.specs_entity.specs.Life.{Life, LifeAt}
@@ -13,7 +14,6 @@ use Rattle.specs_saveload.specs.Bearing.{IsAmong}
 use Rattle.specs_saveload.specs.Images.{IsImage, IsImageOf, MarkersDiffer, NamesOwn, NamesUnmarked}
 use Rattle.specs_saveload.specs.Known.{IsSound, Known, bearer_at}
 use Rattle.specs_saveload.specs.Loading.{AreApart, AreInOrder, Loads}
-use Rattle.specs_saveload.specs.LoadingLemmas.{the-same}
 use Rattle.specs_saveload.specs.Saved.{IsEntryOf, all_some, entry_of, marked_at, name_of, same_birth, saved}
 use Rattle.specs_saveload.proofs.KnownLemmas.{bearer-alive, bearer-known, life-itself, same-life}
 
@@ -29,7 +29,7 @@ module _ {A S M I : Type 0} (noted : A → I → Option LifeAt) (part_at : S →
 
   its-marker : (o : Option M) (marker : M) → option_map id_of o ≡ Some (id_of marker) → o ≡ Some marker
   its-marker None marker is = cc
-  its-marker (Some other) marker is = ap Some (by_id other marker (the-same (id_of other) (id_of marker) is))
+  its-marker (Some other) marker is = ap Some (by_id other marker (same_Some (id_of other) (id_of marker) is))
 
   module _ {D P : Type 0} (markers_of : D → List M) (load : (M → Option LifeAt) → D → Option P) (list : List (EntityData M D)) (before after : Known A S) (had has : ℕ → P) (loads : Loads noted part_at id_of markers_of load list before after had has)
       (nobody : (entity : LifeAt) → ¬ (IsAlive before.births entity)) (unknown : (id : I) → noted before.allocator id ≡ None) (apart : AreApart list) (own : NamesOwn markers_of list) where
@@ -42,7 +42,7 @@ module _ {A S M I : Type 0} (noted : A → I → Option LifeAt) (part_at : S →
     image-of : (entry : EntityData M D) → IsAmong entry list → (entity : LifeAt) → bearer_at noted part_at id_of after entry.marker ≡ Some entity → IsImageOf load list after.births (part_at after.markers.inner) (bearer_at noted part_at id_of after) had has entry entity
     image-of entry among entity is =
         let there = loads.loaded (nothing-known before unknown) apart entry among in
-        let same = the-same there.entity entity (sym there.bears ∙ is) in
+        let same = same_Some there.entity entity (sym there.bears ∙ is) in
         let both = marks entry.marker entity is in
         record {
           alive = both.0;
@@ -101,7 +101,7 @@ module _ {M : Type 0} (births : Births) (markers : ℕ → Option M) where
   both-of None mark index entity marker lives is = cc
   both-of (Some life) None index entity marker lives is = cc
   both-of (Some life) (Some mark) index entity marker lives is =
-      let pair = the-same (record { id = index; generation = life }, mark) (entity, marker) is in
+      let pair = same_Some (record { id = index; generation = life }, mark) (entity, marker) is in
       let one = ap (λ (p : LifeAt × M). p.0) pair in
       (sym (ap (λ (e : LifeAt). e.id) one), subst (IsAlive births) one lives, ap (λ (p : LifeAt × M). Some p.1) pair)
 
@@ -154,7 +154,7 @@ gather f (first ∷ rest) each =
         | inr later ↦ let found = more.from y later in (found.0, inr found.1, found.2)
       ];
       into = λ x y among is. elim among [
-        | inl same ↦ inl (the-same here.0 y (sym here.1 ∙ (ap f same ∙ is)))
+        | inl same ↦ inl (same_Some here.0 y (sym here.1 ∙ (ap f same ∙ is)))
         | inr later ↦ inr (more.into x y later is)
       ];
     }
@@ -176,7 +176,7 @@ module _ {M D P : Type 0} (load : (M → Option LifeAt) → D → Option P) (pla
   entry-back : (entry : EntityData M D) (entity : LifeAt) (marker : M) → IsImageOf load list births markers bearers had has entry entity → markers entity.id ≡ Some marker → entry_of (plain (name_of births markers)) has (entity, marker) ≡ Some entry
   entry-back entry entity marker is marked =
       ap (option_map (λ components. record { marker = marker; components = components })) (back bearers (name_of births markers) entry.components (has entity.id) names-back is.parts)
-      ∙ ap (λ m. Some (record { marker = m; components = entry.components })) (the-same marker entry.marker (sym marked ∙ is.marked))
+      ∙ ap (λ m. Some (record { marker = m; components = entry.components })) (same_Some marker entry.marker (sym marked ∙ is.marked))
 
   saved-back : SavesEntries plain list has births markers
   saved-back =
@@ -195,7 +195,7 @@ module _ {M D P : Type 0} (load : (M → Option LifeAt) → D → Option P) (pla
             let from = items.from entry among in
             let is = listed-is births markers from.0 from.1 in
             let found = image.no_other from.0.0 is.0 in
-            subst (λ (e : EntityData M D). IsAmong e list) (the-same found.0 entry (sym (entry-back found.0 from.0.0 from.0.1 found.2 is.1) ∙ from.2)) found.1;
+            subst (λ (e : EntityData M D). IsAmong e list) (same_Some found.0 entry (sym (entry-back found.0 from.0.0 from.0.1 found.2 is.1) ∙ from.2)) found.1;
       }
 
 -- ---- what is saved of a world whose markers differ
@@ -210,10 +210,10 @@ AreOf f (x ∷ xs) (y ∷ ys) = (f x ≡ Some y) × AreOf f xs ys
 of-first : {X Y : Type 0} (f : X → Option Y) (x : X) (xs : List X) (ys : List Y) → ((rest : List Y) → all_some (map f xs) ≡ Some rest → AreOf f xs rest) → (here : Option Y) (more : Option (List Y)) → f x ≡ here → all_some (map f xs) ≡ more → option_and_then (λ value. option_map (λ values. value ∷ values) more) here ≡ Some ys → AreOf f (x ∷ xs) ys
 of-first f x xs ys later None more is are whole = cc
 of-first f x xs ys later (Some y) None is are whole = cc
-of-first f x xs ys later (Some y) (Some rest) is are whole = subst (AreOf f (x ∷ xs)) (the-same (y ∷ rest) ys whole) (is, later rest are)
+of-first f x xs ys later (Some y) (Some rest) is are whole = subst (AreOf f (x ∷ xs)) (same_Some (y ∷ rest) ys whole) (is, later rest are)
 
 are-of : {X Y : Type 0} (f : X → Option Y) (xs : List X) (ys : List Y) → all_some (map f xs) ≡ Some ys → AreOf f xs ys
-are-of f [] ys is = subst (AreOf f []) (the-same [] ys is) tt
+are-of f [] ys is = subst (AreOf f []) (same_Some [] ys is) tt
 are-of f (x ∷ xs) ys is = of-first f x xs ys (are-of f xs) (f x) (all_some (map f xs)) refl refl is
 
 from-of : {X Y : Type 0} (f : X → Option Y) (xs : List X) (ys : List Y) → AreOf f xs ys → (y : Y) → IsAmong y ys → (x : X) × IsAmong x xs × (f x ≡ Some y)
@@ -392,7 +392,7 @@ module _ {A S M I : Type 0} (noted : A → I → Option LifeAt) (part_at : S →
       let owner = borne noted part_at id_of by_id markers_of load list before after had has loads nobody unknown apart own item.0 there.0 in
       let its = image-of noted part_at id_of by_id markers_of load list before after had has loads nobody unknown apart own owner.0 owner.1 item.0 owner.2 in
       let entry = entry-back load plain back list after.births (part_at after.markers.inner) (bearer_at noted part_at id_of after) had has image low owner.0 item.0 item.1 its there.1 in
-      let same = the-same owner.0 one (sym entry ∙ is) in
+      let same = same_Some owner.0 one (sym entry ∙ is) in
       index-is (bearer_at noted part_at id_of after) one item.0 (ap (λ (e : EntityData M D). bearer_at noted part_at id_of after e.marker) (sym same) ∙ owner.2)
 
   -- where no index waited to be used again, what is saved is the list
@@ -413,7 +413,7 @@ entry-is {M} {D} save parts_at item entry is = of-data (save (parts_at item.0.id
     of-data : (o : Option D) → option_map (λ components. record { marker = item.1; components = components }) o ≡ Some entry → (entry.marker ≡ item.1) × (o ≡ Some entry.components)
     of-data None is = cc
     of-data (Some components) is =
-        let same = the-same (record { marker = item.1; components = components }) entry is in
+        let same = same_Some (record { marker = item.1; components = components }) entry is in
         (sym (ap (λ (e : EntityData M D). e.marker) same), ap (λ (e : EntityData M D). Some e.components) same)
 
 module _ {M D P : Type 0} (plain : (LifeAt → Option M) → P → Option D) (markers_of : D → List M) (stands : (names : LifeAt → Option M) (parts : P) (given : D) (marker : M) → plain names parts ≡ Some given → IsAmong marker (markers_of given) → (entity : LifeAt) × (names entity ≡ Some marker))
@@ -466,7 +466,7 @@ module _ {M D P : Type 0} (plain : (LifeAt → Option M) → P → Option D) (ma
     saved-has entity marker components alive has given =
         let own = into-of Entry (join_list (marked_at births markers)) list are (entity, marker) (is-listed births markers low entity marker alive has) in
         let entry = entry-is (plain (name_of births markers)) parts_at (entity, marker) own.0 own.2 in
-        let same = the-same own.0.components components (sym entry.1 ∙ given) in
+        let same = same_Some own.0.components components (sym entry.1 ∙ given) in
         subst (λ (e : EntityData M D). IsAmong e list) (λ i. record { marker = entry.0 i; components = same i }) own.1
 
   -- what is saved of an entity is its entry

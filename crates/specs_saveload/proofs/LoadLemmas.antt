@@ -1,6 +1,7 @@
 -- What is known of bearers after one was asked for and then others, and entries that are loaded one after the other.
 use Rattle.std.proofs.Common.{◌≡◌, ◌≢◌, ◌+◌, ◌<◌, ℕ, suc, List, [], ◌∷◌, ◌++◌, length, take, slice_get, Option, Some, inl, inr, refl, sym, subst, ap, ◌∙◌, append-nil, append_assoc, length-append, arith}
 use Rattle.std.proofs.Math.Seq.{take-append_seam}
+use Rattle.std.proofs.lemmas.Option.{same_Some}
 use Rattle.specs_saveload.specs.declared.entity_data.EntityData.{EntityData}
 use Rattle.specs_entity.specs.Births.{Births}
 use Rattle.specs_entity.specs.declared.errors.Error.{Error}
@@ -9,7 +10,6 @@ use Rattle.specs_saveload.specs.Known.{IsSound, Known, LivesIn, RefusesBearers, 
 use Rattle.specs_saveload.specs.Loading.{AreApart, IsLoaded, RefusesEntry}
 use Rattle.specs_entity.specs.Life.{LifeAt}
 use Rattle.specs_saveload.specs.Bearing.{Asks, GoesOn, IsAmong}
-use Rattle.specs_saveload.specs.LoadingLemmas.{the-same}
 use Rattle.specs_saveload.specs.NamingLemmas.{among-either, among-left, among-right}
 
 module _ {S M : Type 0} (bearer_of : S → M → Option LifeAt) (lives : S → LifeAt → Type 0) where
@@ -146,8 +146,8 @@ module _ {A S M I D P : Type 0} (noted : A → I → Option LifeAt) (part_at : S
       other-index entity one bears takes same =
           let mine = found.found entry among in
           let its = found.found next there in
-          let first = the-same mine.0 entity (sym (loads.keeps.keeps entry.marker mine.0 mine.1) ∙ bears) in
-          let second = the-same its.0 one (sym (goes.keeps next.marker its.0 its.1) ∙ takes) in
+          let first = same_Some mine.0 entity (sym (loads.keeps.keeps entry.marker mine.0 mine.1) ∙ bears) in
+          let second = same_Some its.0 one (sym (goes.keeps next.marker its.0 its.1) ∙ takes) in
           found.spread entry next mine.0 its.0 among there apart mine.1 its.1 (ap (λ (e : LifeAt). e.id) first ∙ (same ∙ sym (ap (λ (e : LifeAt). e.id) second)))
 
       -- what was loaded is loaded still

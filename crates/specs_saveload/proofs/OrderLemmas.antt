@@ -1,16 +1,16 @@
 -- Who is in an order: each once, alive and marked, and no more than there are indices.
 use Rattle.std.proofs.Common.{◌≡◌, ◌≢◌, ◌+◌, ◌<◌, ◌≤◌, ◌++◌, ◌||◌, ℕ, zero, suc, nat_eq, Bool, true, false, cond, IsSome, is_some, slice_get, List, [], ◌∷◌, length, length-append, map, Option, Some, inl, inr, refl, sym, ap, subst, ◌∙◌, arith}
-use Rattle.std.proofs.lemmas.Bool.{cases_lt, false≢true}
+use Rattle.std.proofs.lemmas.Bool.{cases_lt, false≢true, or_left}
 use Rattle.std.proofs.lemmas.Bool.Decides.{eqb_tells}
 use Rattle.std.proofs.lemmas.Cmp.{nat_eq_equiv}
 use Rattle.std.proofs.lemmas.List.{append-nil, length-map, map-append}
 use Rattle.std.proofs.lemmas.Map.Keys.{IsDistinct-cons, IsDistinct-push}
 use Rattle.std.proofs.lemmas.Map.Steps.{length-le_from_distinct_below}
 use Rattle.std.specs.List.{AllByRecursion, IsDistinct, list_any}
+use Rattle.std.proofs.lemmas.Option.{same_Some}
 use Rattle.specs_entity.specs.Births.{Births, IsAlive, living}
 use Rattle.specs_entity.specs.Life.{LifeAt}
 use Rattle.specs_saveload.specs.Bearing.{IsAmong}
-use Rattle.specs_saveload.specs.LoadingLemmas.{the-same}
 use Rattle.specs_saveload.specs.NamingLemmas.{among-either}
 use Rattle.specs_saveload.specs.Orders.{AreAsked, IsReady, IsSafe}
 use Rattle.specs_saveload.specs.Reached.{Order, marked_first, with_all_asked, with_asked}
@@ -55,9 +55,6 @@ or-true : (b : Bool) → (b || true) ≡ true
 or-true true = refl
 or-true false = refl
 
-or-left : (b c : Bool) → b ≡ true → (b || c) ≡ true
-or-left b c is = ap (λ x. x || c) is
-
 itself : (index : ℕ) → nat_eq index index ≡ true
 itself index = elim (eqb_tells index index) [ inl same ↦ same.0 | inr other ↦ absurd (other.1 refl) ]
 
@@ -73,7 +70,7 @@ module _ (births : Births) (order : Order) (entity : LifeAt) (alive : IsAlive bi
   safe-behind unmarked = record {
     apart = subst (IsDistinct nat_eq) (sym (map-append (λ (e : LifeAt). e.id) order.entities (entity ∷ []))) (IsDistinct-push nat_eq_equiv (indices order.entities) entity.id safe.apart (unlisted entity.id order.entities (fresh unmarked)));
     ready = λ other among. elim (among-either other order.entities (entity ∷ []) among) [
-      | inl old ↦ ((safe.ready other old).0, or-left (order.marked other.id) (nat_eq other.id entity.id) (safe.ready other old).1)
+      | inl old ↦ ((safe.ready other old).0, or_left (order.marked other.id) (nat_eq other.id entity.id) (safe.ready other old).1)
       | inr new ↦ elim new [
         | inl is ↦ (subst (IsAlive births) is alive, subst (λ (e : LifeAt). (order.marked e.id || nat_eq e.id entity.id) ≡ true) is (ap (λ b. order.marked entity.id || b) (itself entity.id) ∙ or-true (order.marked entity.id)))
         | inr none ↦ absurd none
@@ -94,7 +91,7 @@ still-marked order entity index marked = by (order.marked entity.id)
   where
     by : (b : Bool) → (let o : Order = cond b order (behind order entity) in o).marked index ≡ true
     by true = marked
-    by false = or-left (order.marked index) (nat_eq index entity.id) marked
+    by false = or_left (order.marked index) (nat_eq index entity.id) marked
 
 asked-marked : (order : Order) (entity : LifeAt) → (with_asked order entity).marked entity.id ≡ true
 asked-marked order entity = by (order.marked entity.id) refl
@@ -149,7 +146,7 @@ module _ (names : LifeAt → List LifeAt) (births : Births) where
         | inl before ↦ let ready = asked k other named before was among in (ready.0, marked-still (names entity) order named.id ready.1)
         | inr from ↦
             let same : k ≡ place = omega (arith, below, from) in
-            let one = the-same entity other (sym here ∙ (ap (slice_get order.entities) (sym same) ∙ was)) in
+            let one = same_Some entity other (sym here ∙ (ap (slice_get order.entities) (sym same) ∙ was)) in
             let own = subst (λ e. IsAmong named (names e)) (sym one) among in
             (alive named own, all-marked (names entity) order named own)
       ]

@@ -1,7 +1,7 @@
 -- Who is asked for, one after the other, and what is saved of them.
 use Rattle.std.proofs.Common.{Result, Ok, Err, IfErr, IsErrOf, ◌≡◌, ◌≢◌, ◌⊎◌, ◌↔◌, ◌+◌, ◌<◌, ◌≤◌, ◌++◌, ◌||◌, ℕ, inl, inr, is_some, zero, suc, nat_eq, Bool, true, false, cond, IsSome, slice_get, length-append, List, [], ◌∷◌, length, map, Option, Some, None, option_and_then, option_map, refl, sym, ap, subst, ◌∙◌, arith}
 use Rattle.std.proofs.lemmas.Bool.{false≢true}
-use Rattle.specs_saveload.specs.LoadingLemmas.{the-same}
+use Rattle.std.proofs.lemmas.Option.{same_Some}
 use Rattle.specs_entity.specs.Births.{Births, IsAlive, living}
 use Rattle.specs_saveload.specs.Bearing.{IsAmong}
 use Rattle.specs_saveload.specs.Orders.{AreAsked, IsReady, IsSafe}
@@ -115,7 +115,7 @@ all-are f [] = refl
 all-are f (x ∷ xs) = ap (option_map (λ ys. f x ∷ ys)) (all-are f xs)
 
 pub first-are : {X Y : Type 0} (f : X → Y) (xs : List X) (done : List Y) → all_some (map (λ x. Some (f x)) xs) ≡ Some done → done ≡ map f xs
-first-are f xs done is = the-same done (map f xs) (sym is ∙ all-are f xs)
+first-are f xs done is = same_Some done (map f xs) (sym is ∙ all-are f xs)
 
 pub some-value : {X : Type 0} (o : Option X) → IsSome o → (x : X) × (o ≡ Some x)
 some-value None some = absurd (false≢true some)

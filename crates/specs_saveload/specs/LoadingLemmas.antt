@@ -1,17 +1,15 @@
 -- Parts that are loaded, one and several.
 use Rattle.std.proofs.Common.{◌≡◌, ◌++◌, List, Option, Some, None, option_map, inl, inr, refl, sym, ap, ◌∙◌}
+use Rattle.std.proofs.lemmas.Option.{same_Some}
 use Rattle.specs_entity.specs.Life.{LifeAt}
 use Rattle.specs_join.specs.Joins.{all_three, both}
 use Rattle.specs_saveload.specs.Bearing.{IsAmong}
 use Rattle.specs_saveload.specs.NamingLemmas.{among-either}
 use Rattle.specs_saveload.specs.Saved.{named_in, plain_in}
 
-pub the-same : {X : Type 0} (one other : X) → Some one ≡ Some other → one ≡ other
-the-same one other is = cc
-
 some-of : {X : Type 0} (o : Option X) (value : Option X) → option_map Some o ≡ Some value → (x : X) × (o ≡ Some x) × (value ≡ Some x)
 some-of None value is = cc
-some-of (Some x) value is = (x, refl, sym (the-same (Some x) value is))
+some-of (Some x) value is = (x, refl, sym (same_Some (Some x) value is))
 
 module _ {D C : Type 0} where
   -- a part under a map that knows more
@@ -23,7 +21,7 @@ module _ {D C : Type 0} where
 
   -- a part that was loaded is saved as it was
   pub option-back : (load : D → Option C) (save : C → Option D) → ((saved : D) (part : C) → load saved ≡ Some part → save part ≡ Some saved) → (saved : Option D) (part : Option C) → plain_in load saved ≡ Some part → plain_in save part ≡ Some saved
-  option-back load save back None part is = ap (plain_in save) (sym (the-same None part is))
+  option-back load save back None part is = ap (plain_in save) (sym (same_Some None part is))
   option-back load save back (Some saved) part is =
       let found = some-of (load saved) part is in
       ap (plain_in save) found.2 ∙ ap (option_map Some) (back saved found.0 found.1)
@@ -37,12 +35,12 @@ option-stands names markers_of plain stands (Some part) (Some saved) marker is a
   where
     inner : {X : Type 0} (o : Option X) (x : X) → option_map Some o ≡ Some (Some x) → o ≡ Some x
     inner None x is = cc
-    inner (Some y) x is = the-same (Some y) (Some x) is
+    inner (Some y) x is = same_Some (Some y) (Some x) is
 
 firsts : {P Q : Type 0} (one : Option P) (other : Option Q) (parts : P × Q) → both one other ≡ Some parts → (one ≡ Some parts.0) × (other ≡ Some parts.1)
 firsts None other parts is = cc
 firsts (Some p) None parts is = cc
-firsts (Some p) (Some q) parts is = let same = the-same (p, q) parts is in (ap (λ (pair : _ × _). Some pair.0) same, ap (λ (pair : _ × _). Some pair.1) same)
+firsts (Some p) (Some q) parts is = let same = same_Some (p, q) parts is in (ap (λ (pair : _ × _). Some pair.0) same, ap (λ (pair : _ × _). Some pair.1) same)
 
 pub both-are : {P Q : Type 0} (one : Option P) (other : Option Q) (p : P) (q : Q) → one ≡ Some p → other ≡ Some q → both one other ≡ Some (p, q)
 both-are one other p q is is' = ap (λ o. both o other) is ∙ ap (both (Some p)) is'
@@ -73,7 +71,7 @@ thirds None second third parts is = cc
 thirds (Some p) None third parts is = cc
 thirds (Some p) (Some q) None parts is = cc
 thirds (Some p) (Some q) (Some r) parts is =
-    let same = the-same (p, q, r) parts is in
+    let same = same_Some (p, q, r) parts is in
     (ap (λ (all : _ × _ × _). Some all.0) same, ap (λ (all : _ × _ × _). Some all.1) same, ap (λ (all : _ × _ × _). Some all.2) same)
 
 pub three-are : {P Q R : Type 0} (first : Option P) (second : Option Q) (third : Option R) (p : P) (q : Q) (r : R) → first ≡ Some p → second ≡ Some q → third ≡ Some r → all_three first second third ≡ Some (p, q, r)

@@ -4,6 +4,7 @@ use Rattle.std.proofs.lemmas.Bool.{false≢true}
 use Rattle.std.specs.Option.{option_flatten, option_and_then}
 use Rattle.std.specs.FinMap.{get, insert}
 use Rattle.std.specs.FinSet as fin
+use Rattle.std.proofs.lemmas.Option.{none-some}
 use Rattle.shred_world.specs.declared.resource_id.ResourceId.{ResourceId}
 use Rattle.shred_world.specs.ResourceIds.{id_of, same_id}
 use Rattle.shred_world.specs.Worlds.{Slots, value_at, resource_at, is_of_kinds}
@@ -27,9 +28,6 @@ by-id {P} id here others other = at (same_id other id) refl
     at : (b : Bool) → same_id other id ≡ b → P other
     at true same = subst P (sym (same_id-is other id same)) here
     at false apart = others other apart
-
-none-some : {A : Type 0} (a : A) → None ≡ Some a → ⊥
-none-some a e = cc
 
 same_id-sym : (a b : ResourceId) → same_id a b ≡ same_id b a
 same_id-sym a b = at (same_id a b) (same_id b a) refl refl

@@ -7,11 +7,12 @@ use Rattle.std.specs.Option.{option_flatten, option_copied_mut}
 use Rattle.std.specs.List.{list_any}
 use Rattle.std.specs.FinMap as map
 use Rattle.std.specs.FinMap.{get, insert, get-insert}
+use Rattle.std.proofs.lemmas.Option.{same_Some}
 use Rattle.shred_world.specs.declared.resource_id.ResourceId.{ResourceId}
 use Rattle.shred_world.specs.ResourceIds.{id_cmp, id_of, same_id}
 use Rattle.shred_world.specs.Worlds.{Slots, value_at, AreDistinct, is_of_kinds}
 use Rattle.shred_world.proofs.IdLemmas.{ids_total, same_id-is, same_id-fields}
-use Rattle.shred_world.proofs.WorldLemmas.{get-insert_here, some_is}
+use Rattle.shred_world.proofs.WorldLemmas.{get-insert_here}
 use Rattle.specs_world.specs.Dropping.{SlotDrops, HasRoomAt, HaveRoom, Rests, DropsIn}
 
 -- a slot in which a value stands
@@ -179,7 +180,7 @@ module _ {V : Type 0} (w w' : Slots V) (id : ResourceId) (was left : V) (stood :
 
   pub lent-room : (has_room : V → ℕ → Type 0) (count : ℕ) → has_room left count → HasRoomAt has_room w' id count
   lent-room has_room count room value stands =
-      subst (λ v. has_room v count) (some_is left value (sym (ap option_flatten (ap (λ m. get m id) leaves ∙ get-insert_here w id (Some left))) ∙ stands)) room
+      subst (λ v. has_room v count) (same_Some left value (sym (ap option_flatten (ap (λ m. get m id) leaves ∙ get-insert_here w id (Some left))) ∙ stands)) room
 
 -- the storage that comes next hasn't dropped yet, and has the room that it had
 pub room-left : {V : Type 0} (drops : V → List ℕ → V → Type 0) (start w : Slots V) (kinds : List ℕ) (place : ℕ) → place < length kinds → AreDistinct kinds → (indices : List ℕ)

@@ -1,6 +1,7 @@
 use Rattle.std.proofs.Common.{is_some, refl, ap, ◌∙◌}
+use Rattle.std.proofs.lemmas.Option.{same_Some}
 use Rattle.shred_world.specs.ResourceIds.{id_of}
-use Rattle.shred_world.proofs.WorldLemmas.{ensured_seen, ensured_put, some_is}
+use Rattle.shred_world.proofs.WorldLemmas.{ensured_seen, ensured_put}
 use Rattle.shred_world.proofs.world.World.or_insert.Goals as goal
 
 pub fetch_mut-requires : goal.fetch_mut-requires
@@ -20,7 +21,7 @@ returns g c =
       ),
       record {
         writes_back = tt;
-        value = some_is _ _ (c.fetch_mut.ensures.value ∙ ensured_seen g.R.Resource.part g.R.Resource.wrapped g.met.R.Resource.seen c.args.self.now c.ensure_there.new.self id c.args.resource c.requires.kind c.in_ok-ensure_there.ensures.ok);
+        value = same_Some _ _ (c.fetch_mut.ensures.value ∙ ensured_seen g.R.Resource.part g.R.Resource.wrapped g.met.R.Resource.seen c.args.self.now c.ensure_there.new.self id c.args.resource c.requires.kind c.in_ok-ensure_there.ensures.ok);
         handed_back = tt;
       },
     )
