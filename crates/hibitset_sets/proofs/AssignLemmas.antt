@@ -1,14 +1,14 @@
 -- Assignments word by word: the words before a place are done, those from it on are left.
-use Rattle.std.proofs.Common.{◌≡◌, ℕ, zero, suc, ◌+◌, ◌*◌, ◌/◌, ◌%◌, ◌<◌, ◌≤◌, Bool, true, false, ◌&&◌, cond, eqb, ◌⊎◌, inl, inr, refl, sym, ap, ◌∙◌, arith, List, [], ◌∷◌}
+use Rattle.std.proofs.Common.{◌≡◌, ℕ, zero, suc, ◌+◌, ◌/◌, ◌%◌, ◌<◌, ◌≤◌, Bool, true, false, cond, eqb, ◌⊎◌, inl, inr, sym, ap, ◌∙◌, arith, List, ◌∷◌}
 use Rattle.std.specs.List.{All, list_any, range_with_len}
 use Rattle.std.proofs.lemmas.List.Elements.{filter_passes}
 use Rattle.std.proofs.Common.{filter}
-use Rattle.std.proofs.lemmas.Bool.{cases_eq, cases_lt, true≢false, eq-eqb, ne_eqb, lt-ltb, le-ltb, or_left, or_right, or_cases, eqb-true, false_from_ne_true}
+use Rattle.std.proofs.lemmas.Bool.{cases_eq, eq-eqb, ne_eqb, or_left, or_right}
 use Rattle.hibitset_sets.specs.Bits.{has_bit}
 use Rattle.hibitset_sets.specs.Walk.{walk}
 use Rattle.hibitset_sets.specs.Words.{word_of, is_marked}
 use Rattle.hibitset_sets.specs.WordLemmas.{words_agree-word_of}
-use Rattle.hibitset_sets.specs.Assign.{PutsWord, Assigns}
+use Rattle.hibitset_sets.specs.Assign.{PutsWord}
 
 -- below the place the members are done, from it on they are as they were
 pub record IsAssigned (op : Bool → Bool → Bool) (old other : ℕ → Bool) (place : ℕ) (new : ℕ → Bool) : Type 0 where

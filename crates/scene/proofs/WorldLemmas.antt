@@ -13,11 +13,10 @@ use Rattle.shred_world.specs.Worlds.{Slots, value_at}
 use Rattle.shred_world.specs.Bundles.{readable, slot_of}
 use Rattle.shred_world.proofs.CallerLemmas.{ids_total, get-insert_here}
 use Rattle.scene_model.specs.Parts.{Name, is_among}
-use Rattle.scene_model.specs.Rulebook.{Book}
-use Rattle.scene_model.specs.Scenes.{lives, IsProper}
+use Rattle.scene_model.specs.Scenes.{lives}
 use Rattle.scene_model.proofs.CallerLemmas.{same_scene, all_front, all_back}
 use Rattle.scene_world.specs.Rolls.{Roll, IsRoll, ids_in, part_in}
-use Rattle.scene_world.specs.Standing.{Kinds, roll_of, column_in, column_of, plain_of, commands_of, IsWithin, IsSceneWorld}
+use Rattle.scene_world.specs.Standing.{Kinds, roll_of, column_in, column_of, plain_of, commands_of, IsWithin}
 use Rattle.scene_world.specs.Lent.{Place, entities, markers, allocator, parts, value, queue, id_of_place, is_known, same_place, StandApart}
 use Rattle.scene_world.proofs.CallerLemmas.{same-roll}
 use Rattle.scene_commands.specs.Acts.{seen_of, WasBorn, MayAct, StaysElsewhere}

@@ -11,8 +11,8 @@ use Rattle.std.proofs.lemmas.Bool.Decides.{Decides-ltb, Decides-eqb}
 use Rattle.std.proofs.lemmas.Slice.Eq.{bytes_eq-Decides}
 use Rattle.std.proofs.lemmas.List.Elements.{All-nil, All-cons}
 use Rattle.std.proofs.lemmas.List.Kept.{AllPairs-cons}
-use Rattle.serde_json.specs.Data.{unsigned, negative, float, null, boolean, number, string, array, object}
-use Rattle.serde_json.specs.Find.{as_number, as_i64, as_null}
+use Rattle.serde_json.specs.Data.{unsigned, null, boolean, number, string, array, object}
+use Rattle.serde_json.specs.Find.{as_null}
 use Rattle.serde_json.specs.Written.{has_float}
 use Rattle.scene_model.specs.Parts.{Json, Name, Part, is_among}
 use Rattle.scene_model.specs.Rulebook.{Facts, known, misshapen}

@@ -8,7 +8,6 @@ use Rattle.std.proofs.lemmas.List.{length-map, length-take-le, get_or-take, get_
 use Rattle.std.proofs.lemmas.Slice.Eq.{bytes_eq-Decides}
 use Rattle.scene_model.specs.Parts.{Name, Part, is_among, under}
 use Rattle.scene_model.specs.Queues.{plain_entry}
-use Rattle.scene_world.specs.Rolls.{Roll}
 use Rattle.scene_world.specs.Standing.{Sight, Kinds, roll_of, column_of, column_in}
 use Rattle.scene_world.specs.Lent.{parts, entities, markers, allocator, StandApart}
 use Rattle.scene_world.proofs.CallerLemmas.{same-roll}

@@ -2,8 +2,7 @@
 use Rattle.std.proofs.Common.{◌≡◌, ◌<◌, ◌+◌, ℕ, Bool, true, false, not, cond, eqb, ltb, ◌||◌, ◌&&◌, max, List, [], ◌∷◌, map, Option, Some, None, refl, ap, sym, ◌∙◌, arith}
 use Rattle.std.specs.List.{list_any}
 use Rattle.std.specs.Str.{bytes_eq}
-use Rattle.std.proofs.lemmas.Bool.{true≢false, eqb-true, eq-eqb, not-false, or_parts, ltb-true}
-use Rattle.std.proofs.lemmas.Bool.Decides.{nat_tests}
+use Rattle.std.proofs.lemmas.Bool.{eqb-true, eq-eqb, not-false, or_parts, ltb-true}
 use Rattle.scene_model.specs.Ids.{ascending}
 use Rattle.scene_model.specs.Parts.{Json, Name, Part}
 use Rattle.scene_model.specs.Rulebook.{put}

@@ -22,7 +22,7 @@ use Rattle.scene_document.specs.DraftViews.{seen, config_seen, facts_of, plain_d
 use Rattle.scene_document.specs.DraftViews.{plain_system as plain_of_draft, IsOfBook as IsSaidBy}
 use Rattle.scene_document.specs.Openings.{frames_of}
 use Rattle.scene_world.specs.Standing.{Kinds}
-use Rattle.scene_world.specs.Lent.{AreKnown, StandApart, id_of_place, read_places, written_places}
+use Rattle.scene_world.specs.Lent.{StandApart, id_of_place, read_places, written_places}
 use Rattle.scene_world.specs.Turns.{Meaning, Sense, meaning_of, placed_as, IsOfBook}
 use Rattle.scene_world.specs.Chains.{plan_order}
 use Rattle.scene_dispatch.specs.Entries.{plain_system, meant_at, staged_list, AreNamed}

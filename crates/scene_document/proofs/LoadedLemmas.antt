@@ -3,11 +3,9 @@ use Rattle.scene_model.specs.declared.refusals.DocRefusal.TheVariants.{NotWhole}
 use Rattle.scene_model.specs.declared.refusals.DocRefusal.{DocRefusal}
 use Rattle.serde_json.specs.Written.{has_float}
 use Rattle.std.proofs.Common.{◌≡◌, ℕ, zero, suc, ◌<◌, ◌≤◌, Bool, true, false, not, cond, eqb, ltb, List, [], ◌∷◌, map, length, Option, Some, None, AllPairs, option_map, slice_get, vec_len, refl, ap, sym, subst, ◌∙◌, arith, Result, Ok, Err}
-use Rattle.std.specs.List.{All, AllByRecursion, list_any, filter_map, cons_option}
-use Rattle.std.specs.List.Sorted.{IsStrictlySortedBy}
+use Rattle.std.specs.List.{All, list_any, filter_map, cons_option}
 use Rattle.std.specs.Global.{Vec}
 use Rattle.std.specs.Ordering.{nat_cmp}
-use Rattle.std.specs.declared.cmp.Ordering.TheVariants.{Less}
 use Rattle.std.specs.Str.{bytes_eq}
 use Rattle.std.proofs.lemmas.Bool.{not-false, or_parts, ltb-true}
 use Rattle.std.proofs.lemmas.Bool.Decides.{nat_tests}

@@ -5,7 +5,7 @@ use Rattle.std.specs.Str.{bytes_eq}
 use Rattle.std.proofs.lemmas.Slice.Eq.{bytes_eq-Decides}
 use Rattle.shred_world.specs.Bundles.{Holding, readable}
 use Rattle.scene_model.specs.Parts.{Name, Part, is_among}
-use Rattle.scene_model.specs.Rulebook.{Access, declares, declares_global, Fragment, Command}
+use Rattle.scene_model.specs.Rulebook.{Access, declares, declares_global, Command}
 use Rattle.scene_model.specs.Scenes.{RefLives, lives, IsLawfullyLeft}
 use Rattle.scene_model.specs.Lawful.{IsLawful}
 use Rattle.scene_world.specs.Stored.{Stored, part_under}

@@ -19,7 +19,7 @@ use Rattle.scene_model.specs.Rulebook.{Command}
 use Rattle.scene_model.specs.Lawful.{IsLawful}
 use Rattle.scene_world.specs.Stored.{Stored, part_under}
 use Rattle.scene_world.specs.Rolls.{ref_to, index_of, ids_in}
-use Rattle.scene_world.specs.Standing.{Kinds, seen_in, roll_of, column_in, column_of, events_in, emits_in, fragment_of, IsWithin}
+use Rattle.scene_world.specs.Standing.{seen_in, roll_of, column_in, column_of, events_in, emits_in, fragment_of, IsWithin}
 use Rattle.scene_world.specs.Lent.{StandApart}
 use Rattle.scene_world.specs.Places.{Places, kinds_of}
 use Rattle.scene_world.specs.Turns.{sense_of, rules_by, Runs, meaning_of, ShowsChanges}

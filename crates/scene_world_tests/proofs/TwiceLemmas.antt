@@ -1,21 +1,18 @@
 -- Two turns of drift over a scene.
-use Rattle.std.proofs.Common.{◌≡◌, ℕ, zero, suc, true, List, [], ◌∷◌, All, inl, inr, refl, ap, ◌∙◌, subst, arith}
+use Rattle.std.proofs.Common.{◌≡◌, ℕ, List, ap, ◌∙◌, subst}
 use Rattle.std.specs.Prelude.{Result, Ok, Err, OnOk}
 use Rattle.shred_world.specs.Bundles.{Holding}
 use Rattle.shred.specs.Dispatching.{Dispatching}
 use Rattle.scene_model.specs.declared.refusals.FrameRefusal.{FrameRefusal}
-use Rattle.scene_model.specs.declared.refusals.FrameRefusal.TheVariants.{System, GoneReference, IdsSpent, IndicesSpent, GenerationsSpent, TooManyCommands, Memory, Threads}
-use Rattle.scene_model.specs.Parts.{Name, is_among}
 use Rattle.scene_model.specs.Rulebook.{Command}
 use Rattle.scene_model.specs.Scenes.{PlainScene, Steps}
 use Rattle.scene_model.specs.Frames.{Queues, SystemsRun}
-use Rattle.scene_world.specs.Lent.{AreKnown}
 use Rattle.scene_world.specs.Standing.{seen_in, plain_of}
-use Rattle.scene_world_tests.specs.Drifting.{drift_access, drifting_book, moved_part, pos_name, vel_name}
+use Rattle.scene_world_tests.specs.Drifting.{drifting_book, moved_part, pos_name, vel_name}
 use Rattle.scene_world_tests.specs.declared.turns.values.Value.{Value}
 use Rattle.scene_dispatch.specs.Orders.{turn_order}
-use Rattle.scene_dispatch.specs.Frames.{AreRefused, Come}
-use Rattle.scene_world_tests.specs.Twice.{drifting_kinds, drift_at, drift_meaning, two_drifts, DriftsTwice, IsWant}
+use Rattle.scene_dispatch.specs.Frames.{Come}
+use Rattle.scene_world_tests.specs.Twice.{drifting_kinds, drift_at, drift_meaning, two_drifts, DriftsTwice}
 
 -- what one turn leaves
 pub record DriftsOnce (scene after : PlainScene) : Type 0 where

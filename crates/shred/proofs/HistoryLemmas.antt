@@ -1,5 +1,5 @@
 -- Builders by what was asked of them.
-use Rattle.std.proofs.Common.{◌≡◌, ℕ, Bool, true, false, ◌||◌, List, [], ◌∷◌, ◌++◌, length, map, Option, Some, None, refl, ap, sym, ◌∙◌, subst}
+use Rattle.std.proofs.Common.{◌≡◌, ℕ, Bool, true, false, ◌||◌, List, [], ◌∷◌, ◌++◌, length, map, Option, Some, None, refl, ap, sym, subst}
 use Rattle.std.specs.Prelude.{◌==◌, if◌then◌else◌, is_some, is_none, nat_lt}
 use Rattle.std.specs.List.{fold, cons_option}
 use Rattle.std.specs.Str.{bytes_eq}

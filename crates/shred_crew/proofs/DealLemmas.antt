@@ -1,8 +1,7 @@
 -- Facts on loads that are taken out of their slots and put back.
-use Rattle.std.proofs.Common.{◌≡◌, ℕ, ◌<◌, ◌≤◌, zero, suc, List, [], ◌∷◌, ◌++◌, length, map, get_or, set, refl, ap, sym, ◌∙◌, subst, arith, Option, Some, None, append_assoc, append-nil, vec_capacity}
+use Rattle.std.proofs.Common.{◌≡◌, ℕ, ◌<◌, ◌≤◌, zero, suc, List, [], ◌∷◌, ◌++◌, length, map, get_or, set, refl, ap, sym, ◌∙◌, subst, arith, Option, Some, None, append_assoc, vec_capacity}
 use Rattle.std.specs.Global.{Vec}
 use Rattle.std.specs.List.{AllZip, Contains}
-use Rattle.std.proofs.lemmas.Grind.{flat_map-append}
 use Rattle.std.proofs.lemmas.List.{length-map}
 use Rattle.shred_crew.specs.declared.numbered.Numbered.{Numbered}
 use Rattle.shred_crew.specs.Deals.{lists, put_at, slot_at, numbered, vacated, standing, with_load, returned, loads_in, all_of, AreRoomy, AreEmpty, KeepTheirRoom, IsWorkedOn}

@@ -4,7 +4,7 @@ use Rattle.std.specs.List.{AllZip}
 use Rattle.std.specs.Arc.{arc_value}
 use mathlib.Core.Option.{some, some-injective, some-ne-none}
 use lib.ListN.{get_elem?}
-use Rattle.crossbeam_queue.specs.Fifo.{Pushes, Pops, Forks, Learns}
+use Rattle.crossbeam_queue.specs.Fifo.{Pushes, Pops, Learns}
 use Rattle.shred_crew.specs.declared.line.Errand.{Errand}
 use Rattle.shred_crew.specs.declared.line.Hand.{Hand}
 use Rattle.shred_crew.specs.declared.line.Hand.TheVariants.{Alone, Caller, Worker}

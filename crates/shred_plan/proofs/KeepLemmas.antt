@@ -1,23 +1,20 @@
 -- An index keeps to a plan that takes a system in.
-use Rattle.std.proofs.Common.{◌≡◌, ◌≢◌, ℕ, ◌<◌, ◌≤◌, zero, suc, max, Bool, true, false, not, ne_eqb, ◌||◌, ◌&&◌, List, [], ◌∷◌, ◌++◌, length, refl, ap, sym, ◌∙◌, subst, arith, Option, Some, None, ◌⊎◌, inl, inr}
+use Rattle.std.proofs.Common.{◌≡◌, ◌≢◌, ℕ, ◌<◌, ◌≤◌, Bool, true, false, not, ne_eqb, ◌||◌, ◌&&◌, List, [], ◌∷◌, ◌++◌, length, refl, ap, sym, ◌∙◌, subst, arith, Option, Some, None, ◌⊎◌, inl, inr}
 use Rattle.std.specs.Prelude.{◌==◌, nat_lt}
 use Rattle.std.specs.List.{list_any}
 use Rattle.std.specs.declared.cmp.Ordering.{Ordering}
 use Rattle.std.proofs.Math.ListN.{set}
-use Rattle.std.proofs.lemmas.Bool.{cases_eq, cases_lt, or_from, le-ltb, and_right}
-use Rattle.std.proofs.lemmas.List.{get_or_past, get_or_append_left, get_or_push, get_or-set_same, get_or-set_other, length_push}
-use Rattle.std.proofs.lemmas.List.Folds.{list_any-append}
-use Rattle.shred_plan.specs.declared.stage.Way.TheVariants.{Alone}
+use Rattle.std.proofs.lemmas.Bool.{cases_eq, cases_lt}
+use Rattle.std.proofs.lemmas.List.{get_or_past, get_or_append_left, get_or-set_other, length_push}
 use Rattle.shred_plan.specs.declared.stage_set.StageSet.{StageSet}
 use Rattle.shred_plan.specs.declared.planner.Place.{Place}
 use Rattle.shred_plan.specs.declared.index.Index.{Index}
-use Rattle.shred_plan.specs.Plan.{Placing, Group, Stage, taken, longest, time_of, systems_of}
+use Rattle.shred_plan.specs.Plan.{Placing, Stage, taken, systems_of}
 use Rattle.shred_plan.specs.Places.{IsPlace, placed_at}
 use Rattle.shred_plan.specs.Index.{has_stage, has_for, stood_before, stage_at, stands_before, is_loose, writes, uses, finds}
 use Rattle.shred_plan.specs.Kept.{Marks, Keeps, Blocks, stage_of}
 use Rattle.shred_plan.specs.Seats.{KeepsSeats}
 use Rattle.shred_plan.proofs.IndexLemmas.{any-placed, any-before, conflicts-by}
-use Rattle.shred_plan.proofs.LongestLemmas.{longest-new}
 
 -- what an index tells of the stages with which a system conflicts
 pub keeps-blocks : {Id : Type 0} (cmp : Id → Id → Ordering) (same : Id → Id → Bool) (turns : (x y : Id) → same x y ≡ same y x) (index : Index Id) (one : Placing Id) (stages : List (Stage Id)) (set : StageSet) → Keeps cmp same index stages

@@ -2,7 +2,7 @@
 use Rattle.std.proofs.Common.{◌≡◌, ℕ, ◌+◌, ◌<◌, zero, suc, max, [], ◌∷◌, ◌++◌, length, get_or, ap, ◌∙◌, arith}
 use Rattle.std.specs.List.{fold}
 use Rattle.std.proofs.Math.ListN.{set}
-use Rattle.std.proofs.lemmas.List.Sums.{fold-append, sum_by-append}
+use Rattle.std.proofs.lemmas.List.Sums.{sum_by-append}
 use Rattle.shred_plan.specs.Plan.{Placing, Group, Stage, longest, time_of}
 
 module _ {Id : Type 0} where

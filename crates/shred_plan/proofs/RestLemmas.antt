@@ -1,7 +1,7 @@
 -- Facts on lists of numbers from which one is taken out.
 use Rattle.std.proofs.Common.{◌+◌, ◌≤◌, false, Bool, true, ◌≢◌, eq-eqb, ne_eqb, ◌≡◌, ℕ, ◌<◌, zero, suc, List, [], ◌∷◌, length, get_or, refl, ap, sym, ◌∙◌, arith}
 use Rattle.std.specs.List.{remove, list_any}
-use Rattle.std.proofs.lemmas.Bool.{or_parts, eqb-false, and_right, le-ltb}
+use Rattle.std.proofs.lemmas.Bool.{or_parts, eqb-false}
 use Rattle.std.specs.Prelude.{if◌then◌else◌, ◌==◌, ◌&&◌, nat_lt}
 use Rattle.shred_plan.specs.Plan.{Placing, without, rest_after, completes}
 

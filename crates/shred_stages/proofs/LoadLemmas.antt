@@ -1,5 +1,5 @@
 -- Facts on groups of a stage that are lent their values, run or not, and give them back.
-use Rattle.std.proofs.Common.{◌≡◌, ℕ, zero, suc, Bool, true, false, List, [], ◌∷◌, ◌++◌, length, map, refl, ap, ap₂, sym, ◌∙◌, subst, Option, Some, None, IsSome, take}
+use Rattle.std.proofs.Common.{◌≡◌, suc, Bool, true, false, List, [], ◌∷◌, ◌++◌, length, map, refl, ap, ap₂, sym, ◌∙◌, subst, Option, Some, None, IsSome}
 use Rattle.std.specs.Prelude.{if◌then◌else◌, is_some}
 use Rattle.std.specs.Option.{option_flatten}
 use Rattle.std.specs.List.{AllZip}
@@ -12,18 +12,17 @@ use Rattle.shred_world.specs.Bundles.{Slot, absent, out, shared, owned, Holding,
 use Rattle.shred_plan.specs.Plan.{Group, Stage}
 use Rattle.shred_stages.specs.declared.stop.Stop.{Stop}
 use Rattle.shred_stages.specs.declared.turn.Staged.{Staged}
-use Rattle.shred_stages.specs.Views.{reading, owned_of, cut, FitsSeat, IsLeft, Leaves, merged}
+use Rattle.shred_stages.specs.Views.{reading, owned_of, cut, IsLeft, Leaves, merged}
 use Rattle.shred_stages.specs.Moves.{emptied, filled, left_of, HasSlots}
 use Rattle.shred_stages.specs.Runs.{State, StageRuns}
 use Rattle.shred_stages.specs.Seats.{state_of, StageIsSeated, SeatsKept}
 use Rattle.shred_stages.specs.Apart.{group_reads, group_writes, Ran, put_back, RanApart}
 use Rattle.shred_stages.specs.Packs.{Packed, PackRuns}
-use Rattle.shred_stages.specs.Lending.{IsPack, IsLent, AreLent, SeeWhatTheyDeclare, IsBack, AreBack, Holds, put_all, first_told}
-use Rattle.shred_stages.specs.Free.{IsFreeOfAll, AreFree}
+use Rattle.shred_stages.specs.Lending.{IsPack, IsLent, AreLent, IsBack, AreBack, Holds, put_all, first_told}
+use Rattle.shred_stages.specs.Free.{AreFree}
 use Rattle.shred_stages.specs.Away.{systems_in, AreIn, IsHome, AreHome, ComeHome, ArePutBack}
 use Rattle.shred_stages.specs.Loading.{AreLoaded}
-use Rattle.shred_stages.proofs.LeaveLemmas.{leaves-itself}
-use Rattle.shred_stages.proofs.ApartLemmas.{IsWhole, cut-back, put-same, places-leave, all-still}
+use Rattle.shred_stages.proofs.ApartLemmas.{IsWhole, places-leave, all-still}
 use Rattle.shred_stages.proofs.LendLemmas.{lent-see}
 use Rattle.shred_stages.proofs.BackLemmas.{none-written, out_of, out-none, lent-out, one-back, rans-of, lent-stage-runs}
 use Rattle.shred_stages.proofs.AwayLemmas.{back-stage, back-in}

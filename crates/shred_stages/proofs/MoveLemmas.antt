@@ -1,5 +1,5 @@
 -- Facts on moving values between the slots of two holders.
-use Rattle.std.proofs.Common.{◌≡◌, ℕ, ◌<◌, Bool, true, false, ◌||◌, zero, suc, List, [], ◌∷◌, ◌++◌, length, get_or, take, ◌+◌, refl, ap, sym, ◌∙◌, subst, arith, Option, Some, None, IsSome}
+use Rattle.std.proofs.Common.{◌≡◌, ℕ, ◌<◌, Bool, true, false, ◌||◌, List, [], ◌∷◌, ◌++◌, length, get_or, take, ◌+◌, refl, ap, sym, ◌∙◌, subst, Option, Some, None}
 use Rattle.std.specs.Prelude.{if◌then◌else◌}
 use Rattle.std.specs.Option.{MatchOption}
 use Rattle.std.proofs.lemmas.Bool.{false≢true}
@@ -9,7 +9,7 @@ use Rattle.shred_world.specs.declared.resource_id.ResourceId.{ResourceId}
 use Rattle.shred_world.specs.ResourceIds.{same_id}
 use Rattle.shred_world.specs.Bundles.{Slot, absent, out, shared, owned, Holding, takable, with_slot, is_listed}
 use Rattle.shred_world.proofs.CallerLemmas.{same_id-is, same_id-itself}
-use Rattle.shred_stages.specs.Moves.{emptied, filled, left_of, moved_to, HasSlots}
+use Rattle.shred_stages.specs.Moves.{emptied, filled, left_of, moved_to}
 
 -- one more id of the list
 pub listed-more : (done : List ResourceId) (id q : ResourceId) → is_listed (done ++ id ∷ []) q ≡ (is_listed done q || (same_id q id || false))

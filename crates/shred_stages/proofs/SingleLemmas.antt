@@ -1,16 +1,16 @@
 -- A group of one system, run over the view of the group itself: what the system declares is what the group does.
-use Rattle.std.proofs.Common.{◌≡◌, ℕ, Bool, true, false, List, [], ◌∷◌, refl, ap, sym, ◌∙◌, subst, Option, Some, None, append-nil, length, get_or, arith}
+use Rattle.std.proofs.Common.{◌≡◌, ℕ, Bool, true, false, List, [], ◌∷◌, refl, ap, sym, ◌∙◌, subst, Option, Some, None}
 use Rattle.std.specs.Prelude.{if◌then◌else◌}
 use Rattle.std.specs.Option.{MatchOption, option_map}
 use Rattle.std.proofs.Math.Path.{fun_ext}
 use Rattle.shred_world.specs.declared.resource_id.ResourceId.{ResourceId}
 use Rattle.shred_world.specs.Worlds.{Slots, value_at}
 use Rattle.shred_world.specs.Bundles.{Slot, absent, out, shared, owned, Holding, readable, takable, is_listed}
-use Rattle.shred_plan.specs.Plan.{Placing, Group}
+use Rattle.shred_plan.specs.Plan.{Placing}
 use Rattle.shred_stages.specs.declared.stop.Stop.{Stop}
 use Rattle.shred_stages.specs.Views.{shared_of, reading, owned_of, cut, view_slots, IsLeft, Leaves, merged}
 use Rattle.shred_stages.specs.Runs.{RunsInView, Step}
-use Rattle.shred_stages.specs.Apart.{group_reads, group_writes, PlacesRun}
+use Rattle.shred_stages.specs.Apart.{PlacesRun}
 use Rattle.shred_stages.specs.Packs.{PlacesInView}
 
 module _ {V : Type 0} where

@@ -1,5 +1,5 @@
 -- Facts on each id's slot: what an edit of a world does to it, and what edits of one slot leave.
-use Rattle.std.proofs.Common.{◌≡◌, Bool, true, false, cond, Option, Some, inr, refl, sym, ap, ◌∙◌}
+use Rattle.std.proofs.Common.{◌≡◌, Bool, true, false, cond, Option, Some, inr, refl, ap, ◌∙◌}
 use mathlib.Core.Path.{fun_ext}
 use Rattle.std.specs.Ordering.{eq_by_cmp}
 use Rattle.std.specs.FinMap.{insert, get, get-insert}
@@ -7,7 +7,7 @@ use Rattle.shred_world.specs.declared.resource_id.ResourceId.{ResourceId}
 use Rattle.shred_world.specs.ResourceIds.{id_cmp, same_id}
 use Rattle.shred_world.specs.Worlds.{Slots}
 use Rattle.shred_world.specs.Bundles.{Slot, Holding, SetsUpInTurn, slot_of, holding_of, with_slot}
-use Rattle.shred_world.proofs.IdLemmas.{ids_total, same_id-is}
+use Rattle.shred_world.proofs.IdLemmas.{ids_total}
 
 module _ {V : Type 0} where
   slot_of-cond : (b : Bool) (o p : Option (Option V)) → slot_of (cond b o p) ≡ cond b (slot_of o) (slot_of p)

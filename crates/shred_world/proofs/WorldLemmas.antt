@@ -1,8 +1,8 @@
 -- Facts on the slots of a world: what a list of them makes.
-use Rattle.std.proofs.Common.{◌≡◌, ◌≢◌, Bool, true, false, cond, Option, None, Some, List, [], ◌∷◌, OnSome, IfSome, IfNone, IsSome, MutBor, MatchOption, is_some, unwrap_or, refl, sym, ap, subst, ◌∙◌}
+use Rattle.std.proofs.Common.{◌≡◌, ◌≢◌, Bool, true, false, cond, Option, None, Some, List, [], ◌∷◌, OnSome, IfSome, IfNone, IsSome, MatchOption, is_some, unwrap_or, refl, sym, ap, subst, ◌∙◌}
 use Rattle.std.proofs.lemmas.Bool.{false≢true}
 use Rattle.std.specs.Map.{lookup}
-use Rattle.std.specs.Option.{option_copied_mut, option_flatten, option_and_then}
+use Rattle.std.specs.Option.{option_flatten, option_and_then}
 use Rattle.shred_world.specs.Worlds.{Slots, value_at, resource_at, HasKind}
 use Rattle.std.specs.Ordering.{eq_by_cmp}
 use Rattle.std.specs.FinMap as map

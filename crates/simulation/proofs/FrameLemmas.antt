@@ -26,7 +26,7 @@ use Rattle.shred.specs.declared.nothing.NoLocal.{NoLocal}
 use Rattle.shred.specs.Batches.{Batched}
 use Rattle.shred.specs.Locals.{LocalsRun}
 use Rattle.shred.specs.Works.{WorkMeets}
-use Rattle.shred.specs.Dispatching.{Dispatching, DispatchesAll, DispatchesInAnyOrder, ThenLocals}
+use Rattle.shred.specs.Dispatching.{Dispatching, DispatchesInAnyOrder}
 use Rattle.simulation.specs.declared.steps.Step.{Step}
 use Rattle.simulation.specs.declared.steps.Step.TheVariants.{Movement, Reaping}
 use Rattle.simulation.specs.declared.values.Value.{Value}

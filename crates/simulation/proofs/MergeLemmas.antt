@@ -15,7 +15,7 @@ use Rattle.specs_entity.specs.declared.ids.Entity.{Entity}
 use Rattle.specs_layouts.specs.Drops.{ids_of, without, without_all}
 use Rattle.specs_layouts.specs.Parts.{SameParts}
 use Rattle.specs_join.specs.ChangeEach.{after}
-use Rattle.specs_world.specs.Resources.{Place, place, held}
+use Rattle.specs_world.specs.Resources.{place, held}
 use Rattle.specs_world.specs.Dropping.{SlotDrops, Deletes, MergesIn}
 use Rattle.simulation.specs.declared.values.Position.{Position}
 use Rattle.simulation.specs.declared.values.Velocity.{Velocity}

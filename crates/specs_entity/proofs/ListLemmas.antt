@@ -1,5 +1,5 @@
 -- Walks of finite sets, marks of lists of entities, and runs of deaths.
-use Rattle.std.proofs.Common.{◌≡◌, ◌≢◌, ℕ, zero, suc, ◌+◌, ◌<◌, ◌≤◌, ◌⊎◌, List, [], ◌∷◌, ◌++◌, Bool, true, false, cond, filter, length, get_or, take, refl, sym, ap, ◌∙◌, arith, Option, Some, None, MatchOption, not, eqb, inl, inr, subst, ◌||◌, ◌&&◌}
+use Rattle.std.proofs.Common.{◌≡◌, ◌≢◌, ℕ, zero, suc, ◌+◌, ◌<◌, ◌≤◌, List, [], ◌∷◌, ◌++◌, Bool, true, false, cond, filter, length, get_or, take, refl, sym, ap, ◌∙◌, arith, Option, Some, None, MatchOption, not, eqb, inl, inr, subst, ◌||◌, ◌&&◌}
 use Rattle.std.specs.Prelude.{IfSome}
 use Rattle.std.specs.FinSet as fin
 use Rattle.std.specs.Ordering.{nat_cmp}

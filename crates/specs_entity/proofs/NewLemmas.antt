@@ -17,7 +17,6 @@ use Rattle.specs_entity.proofs.CreateLemmas.{AreBirths-all_created}
 use Rattle.specs_entity.proofs.LawLemmas.{continues-through}
 use Rattle.hibitset_sets.proofs.CallerLemmas.{contains-with}
 use Rattle.specs_entity.proofs.ListLemmas.{CanKill-nil}
-use Rattle.specs_entity.proofs.DeathLemmas.{CanKill-same}
 use Rattle.specs_entity.proofs.BirthLemmas.{not-equal, more-none, next-taken, dead-lasting, living-lasting, living-fresh, count-lasting, count-fresh, living-with_life, count-with_life, living-freshened, fresh-same, fresh-other}
 
 pub born-stays : (before after : Births) (entity : LifeAt) → Continues before after → IsBorn before entity → IsBorn after entity

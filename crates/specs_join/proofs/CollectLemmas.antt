@@ -1,5 +1,5 @@
 -- Lists of answers that grow index by index, and one after the other.
-use Rattle.std.proofs.Common.{◌≡◌, ℕ, ◌<◌, List, [], ◌∷◌, ◌++◌, Bool, true, ◌&&◌, cond, Option, Some, None, is_some, IsSome, MatchOption, Result, Ok, Err, Vec, IfOk, refl, sym, ap, subst, ◌∙◌}
+use Rattle.std.proofs.Common.{◌≡◌, ℕ, ◌<◌, List, [], ◌∷◌, ◌++◌, Bool, ◌&&◌, cond, Option, Some, None, is_some, IsSome, MatchOption, Result, Ok, Err, Vec, IfOk, refl, sym, ap, subst, ◌∙◌}
 use Rattle.std.specs.Global.{Global}
 use Rattle.std.specs.List.{AllZip, cons_option}
 use Rattle.std.proofs.lemmas.Bool.{lt-ltb}

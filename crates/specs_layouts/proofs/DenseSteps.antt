@@ -4,7 +4,7 @@ use Rattle.std.proofs.lemmas.List.{get_or_append_left, get_or_push}
 use Rattle.std.specs.List.{slice_get}
 use Rattle.std.proofs.lemmas.Bool.{false≢true, cases_eq, cases_lt}
 use Rattle.std.proofs.lemmas.Option.{slice_get-get_or}
-use Rattle.specs_layouts.specs.Parts.{Puts, SameParts}
+use Rattle.specs_layouts.specs.Parts.{Puts}
 use Rattle.specs_layouts.specs.Dense.{Dense, dense_part, IsDense}
 use Rattle.specs_layouts.specs.DenseLemmas.{Owns, owns-cases, dense_part-there, dense_part-none}
 

@@ -6,7 +6,7 @@ use Rattle.specs_layouts.specs.Channels.{Log}
 use Rattle.std.proofs.lemmas.Bool.{cases_eq, eq-eqb, ne_eqb}
 use Rattle.specs_layouts.specs.declared.track.ComponentEvent.{ComponentEvent}
 use Rattle.specs_layouts.specs.declared.track.ComponentEvent.TheVariants as event
-use Rattle.specs_layouts.specs.Parts.{Puts, SameParts, told}
+use Rattle.specs_layouts.specs.Parts.{Puts, told}
 use Rattle.specs_layouts.specs.Drops.{without, without_all, told_all, DropsAll, ids_of}
 
 without-last : {T : Type 0} (parts : ℕ → Option T) (indices : List ℕ) (last index : ℕ) → without_all parts (indices ++ last ∷ []) index ≡ without (without_all parts indices) last index

@@ -1,14 +1,13 @@
 -- What insertion and removal do to slots that always have a value.
-use Rattle.std.proofs.Common.{◌≡◌, ◌≢◌, ℕ, ◌<◌, ◌≤◌, Bool, true, false, cond, List, [], length, set, Option, Some, None, IfSome, refl, sym, ap, subst, ◌∙◌, arith, inl, inr, length-set, length-append, ◌++◌, ◌∷◌}
+use Rattle.std.proofs.Common.{◌≡◌, ◌≢◌, ℕ, ◌<◌, ◌≤◌, Bool, true, false, cond, List, length, set, Option, Some, None, IfSome, refl, sym, ap, subst, ◌∙◌, arith, inl, inr, length-set}
 use Rattle.std.specs.FinSet as fin
 use Rattle.std.specs.Ordering.{nat_cmp}
 use Rattle.std.specs.List.{slice_get}
-use Rattle.std.proofs.lemmas.Bool.{false≢true, cases_eq, cases_lt}
-use Rattle.std.proofs.lemmas.Option.{slice_get_past}
+use Rattle.std.proofs.lemmas.Bool.{false≢true, cases_eq}
 use Rattle.specs_layouts.specs.Parts.{Puts, SameParts}
 use Rattle.specs_layouts.specs.Defaults.{filled_part, HasSlots}
 use Rattle.specs_layouts.specs.DenseLemmas.{slice_get-set_same, slice_get-set_other}
-use Rattle.specs_layouts.proofs.DenseSteps.{slice_get-within, slice_get-push, slice_get-kept}
+use Rattle.specs_layouts.proofs.DenseSteps.{slice_get-within}
 use Rattle.specs_layouts.proofs.Present.{with-here, with-other, without-here, without-other}
 
 -- without slots and parts

@@ -1,13 +1,12 @@
 -- What the events show of a change, for no change, one change and one after another.
-use Rattle.std.proofs.Common.{◌≡◌, ℕ, Bool, true, false, cond, eqb, ◌||◌, List, [], ◌∷◌, ◌++◌, Option, None, Some, IsSome, is_some, length, drop, refl, sym, ap, ◌∙◌, inl, inr, ◌⊎◌, arith}
+use Rattle.std.proofs.Common.{◌≡◌, ℕ, Bool, true, false, cond, eqb, List, [], ◌∷◌, ◌++◌, Option, None, Some, IsSome, is_some, refl, sym, ap, ◌∙◌, inl, inr, ◌⊎◌, arith}
 use Rattle.std.specs.List.{list_any}
 use Rattle.std.proofs.lemmas.Bool.{cases_eq, false≢true, or_left, or_right}
-use Rattle.std.proofs.lemmas.List.{append-nil, append_assoc, get_or_default}
+use Rattle.std.proofs.lemmas.List.{append-nil, append_assoc}
 use Rattle.std.proofs.lemmas.List.Folds.{list_any-append}
-use Rattle.std.proofs.Math.Seq.{drop-append_seam}
-use Rattle.specs_layouts.specs.Channels.{Log, with_more, unread, CaughtUp}
+use Rattle.specs_layouts.specs.Channels.{Log, with_more}
 use Rattle.specs_layouts.specs.declared.track.ComponentEvent.{ComponentEvent}
-use Rattle.specs_layouts.specs.declared.track.ComponentEvent.TheVariants.{Inserted, Modified, Removed}
+use Rattle.specs_layouts.specs.declared.track.ComponentEvent.TheVariants.{Modified, Removed}
 use Rattle.specs_layouts.specs.Parts.{Puts, SameParts, told}
 use Rattle.specs_layouts.specs.Shows.{index_of, Names, Shows}
 

@@ -1,9 +1,8 @@
 -- Parts that are taken out along a walk: those left are to come.
-use Rattle.std.proofs.Common.{◌≡◌, ◌≢◌, ℕ, zero, suc, ◌+◌, ◌<◌, ◌≤◌, List, [], ◌∷◌, Bool, true, false, cond, filter, Option, Some, None, is_some, IsSome, inl, inr, refl, sym, ap, subst, ◌∙◌, arith}
+use Rattle.std.proofs.Common.{◌≡◌, ℕ, zero, suc, ◌+◌, ◌<◌, ◌≤◌, List, ◌∷◌, Bool, true, false, cond, filter, Option, is_some, IsSome, inl, inr, sym, ap, subst, ◌∙◌, arith}
 use Rattle.std.specs.List.{range_with_len}
-use Rattle.std.proofs.lemmas.Bool.{cases_eq, false≢true}
+use Rattle.std.proofs.lemmas.Bool.{cases_eq}
 use Rattle.hibitset_sets.specs.Walk.{walk}
-use Rattle.specs_layouts.specs.Parts.{Puts, HasNone}
 use Rattle.specs_layouts.specs.ToCome.{IsToCome}
 
 kept : (index first : ℕ) (rest : List ℕ) (b : Bool) → IsToCome index rest → IsToCome index (cond b (first ∷ rest) rest)

@@ -1,5 +1,5 @@
 -- What the entries are after a change.
-use Rattle.std.proofs.Common.{◌≡◌, ℕ, Bool, true, false, List, [], Option, Some, cond, IsSome, nat_eq, sym, ap, refl}
+use Rattle.std.proofs.Common.{◌≡◌, ℕ, Bool, true, List, [], Option, Some, cond, IsSome, nat_eq, sym, ap, refl}
 use Rattle.std.proofs.lemmas.Bool.{eqb-true, false≢true, false_from_ne_true}
 use Rattle.std.proofs.lemmas.Cmp.{eq_by_cmp_equiv, nat_cmp_total, nat_eq_equiv}
 use Rattle.std.proofs.lemmas.Map.{lookup-set_value}

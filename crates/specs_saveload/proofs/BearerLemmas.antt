@@ -1,6 +1,6 @@
 -- Which entities are known by their markers, before and after one was looked for.
 use Rattle.std.proofs.Common.{◌≡◌, ◌≢◌, ◌⊎◌, ◌+◌, ◌<◌, ◌≤◌, ℕ, Bool, true, false, cond, [], ◌∷◌, Option, Some, None, is_some, IsSome, option_map, inl, inr, refl, sym, ap, subst, ◌∙◌, arith}
-use Rattle.std.proofs.lemmas.Bool.{eq-eqb, false≢true}
+use Rattle.std.proofs.lemmas.Bool.{false≢true}
 use Rattle.std.proofs.lemmas.Bool.Decides.{eqb_tells}
 use Rattle.std.specs.FinSet as set
 use Rattle.specs_entity.specs.Births.{Births, Continues, IsAlive, IsBorn, LivesOn, RefusesBirth, living, living_of, newborn, number_of, persistent_at}

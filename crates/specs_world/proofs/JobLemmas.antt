@@ -1,5 +1,5 @@
 -- What jobs over lists of tries come to, and resources that were lent.
-use Rattle.std.proofs.Common.{◌≡◌, ◌≢◌, Bool, false, not, Option, Some, None, List, [], ◌∷◌, inl, inr, Bor, IsSome, refl, sym, ap, subst, ◌∙◌}
+use Rattle.std.proofs.Common.{◌≡◌, ◌≢◌, Bool, false, not, Option, Some, None, List, ◌∷◌, inr, Bor, IsSome, refl, sym, ap, subst, ◌∙◌}
 use Rattle.std.proofs.lemmas.Bool.{false≢true}
 use Rattle.std.specs.Option.{option_copied, is_some}
 use Rattle.shred_world.specs.Worlds.{Slots}

@@ -1,11 +1,11 @@
 -- Jobs that are still to run, at most so many.
-use Rattle.std.proofs.Common.{◌≡◌, ◌≢◌, ◌≤◌, ◌+◌, ℕ, suc, zero, arith, Option, Some, None, List, inl, inr, Result, Ok, Err, refl, sym, subst}
+use Rattle.std.proofs.Common.{◌≡◌, ◌≢◌, ◌≤◌, ◌+◌, ℕ, suc, arith, Option, Some, None, List, inl, inr, Result, Ok, Err, refl, sym, subst}
 use Rattle.shred_world.specs.Worlds.{Slots}
 use Rattle.specs_entity.specs.declared.errors.Error.{Error}
 use Rattle.specs_entity.specs.declared.errors.Error.TheVariants as variant
 use Rattle.specs_world.specs.Resources.{Place}
 use Rattle.specs_world.specs.declared.maintained.Maintained.{Maintained}
-use Rattle.specs_world.specs.Queues.{NoneWaits, RunsNext, JobsRun, MayBeLeft, counted, none_ran}
+use Rattle.specs_world.specs.Queues.{NoneWaits, RunsNext, JobsRun, counted, none_ran}
 
 module _ {V J S : Type 0} (runs : J → Option Error → Slots V → Slots V → Type 0) (at : Place V (List J)) (shared : Place V S) (limit : ℕ) (start : Slots V) where
   -- what so many jobs come to from here is what all come to from the start
