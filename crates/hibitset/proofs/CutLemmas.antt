@@ -5,7 +5,7 @@ use Rattle.std.proofs.lemmas.Bool.{cases_eq, cases_lt, true≢false, eq-eqb, eqb
 use Rattle.hibitset_sets.specs.Bits.{has_bit}
 use Rattle.hibitset_sets.specs.Words.{is_marked, StandsOver}
 use Rattle.hibitset_sets.specs.Walk.{walk, is_left, is_pending, IsPlacedAt, IsPlaced}
-use Rattle.hibitset_sets.proofs.CallerLemmas.{left-empty, ones-set, ones-clear, walk-same}
+use Rattle.hibitset_sets.proofs.CallerLemmas.{left-empty, ones-set, ones-clear, walk-same, filter-same, filter-none}
 use Rattle.hibitset_sets.specs.Average.{IsAverage, ones_below}
 use Rattle.hibitset_sets.specs.BitLemmas.{has_bit-and, has_bit-not, nonzero_of_has_bit}
 use Rattle.hibitset.specs.Standing.{IsFirstBit, IsBelow, IsFrom, IsFound, IsCutOf}
@@ -15,21 +15,9 @@ use Rattle.hibitset.specs.Producer.{IsAlone, IsCut}
 use Rattle.std.specs.Int.{bit_not, w64}
 use Rattle.std.proofs.lemmas.Nat.Bits.{bit_at_ones, bit_at_ones_above, bit_at_above}
 use Rattle.hibitset.specs.Cut.{number_in, first_under, IsOnlyBit, IsCutAt, is_under}
+use Rattle.hibitset_sets.specs.BitSetEq.{both_ways}
 
 -- ---- a walk cut at an index
-
-filter-none : (n a : ℕ) (p : ℕ → Bool) → ((i : ℕ) → a ≤ i → i < a + n → p i ≡ false) → filter p (range_with_len a n) ≡ []
-filter-none zero a p none = refl
-filter-none (suc n) a p none =
-    ap (λ b. cond b (a ∷ filter p (range_with_len (a + 1) n)) (filter p (range_with_len (a + 1) n))) (none a (omega arith) (omega arith))
-    ∙ filter-none n (a + 1) p (λ i low high. none i (omega arith) (omega arith))
-
-filter-same : (n a : ℕ) (p q : ℕ → Bool) → ((i : ℕ) → a ≤ i → i < a + n → p i ≡ q i) → filter p (range_with_len a n) ≡ filter q (range_with_len a n)
-filter-same zero a p q same = refl
-filter-same (suc n) a p q same =
-    let rest = filter-same n (a + 1) p q (λ i low high. same i (omega arith) (omega arith)) in
-    ap (λ b. cond b (a ∷ filter p (range_with_len (a + 1) n)) (filter p (range_with_len (a + 1) n))) (same a (omega arith) (omega arith))
-    ∙ ap (λ xs. cond (q a) (a ∷ xs) xs) rest
 
 cond-append : (b : Bool) (a : ℕ) (xs ys : List ℕ) → cond b (a ∷ xs) xs ++ ys ≡ cond b (a ∷ (xs ++ ys)) (xs ++ ys)
 cond-append true a xs ys = refl
@@ -72,11 +60,6 @@ pub from-first : (layer number index : ℕ) → number ≤ number_in layer index
 from-first zero number index from = from
 from-first (suc layer) number index from = from-first layer (64 * number) index (let b : number ≤ number_in layer index / 64 = from in omega arith)
 
-bool_same : (a b : Bool) → (a ≡ true → b ≡ true) → (b ≡ true → a ≡ true) → a ≡ b
-bool_same true b there back = sym (there refl)
-bool_same false true there back = back refl
-bool_same false false there back = refl
-
 module _ (members : ℕ → Bool) (words : ℕ → ℕ → ℕ) (over : StandsOver words) (agree : (i : ℕ) → i < 16777216 → is_marked words 0 i ≡ members i) where
   -- a member is marked in each layer
   pub marked : (layer i : ℕ) → i < 16777216 → members i ≡ true → is_marked words layer (number_in layer i) ≡ true
@@ -88,7 +71,7 @@ module _ (members : ℕ → Bool) (words : ℕ → ℕ → ℕ) (over : StandsOv
       → (members i && is_under (suc layer) first word i) ≡ (members i && is_under layer (64 * (first + place)) (words layer (first + place)) i)
   only-bit layer first word place i aligned only within =
       let w = only.within in
-      bool_same _ _
+      both_ways _ _
       (λ yes.
       let both = and_parts _ _ yes in
       let under = and_parts _ _ both.1 in

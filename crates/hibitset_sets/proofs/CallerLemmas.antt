@@ -5,4 +5,4 @@ pub use Rattle.hibitset_sets.proofs.ExtendLemmas.{All_yielded, refs-yielded}
 pub use Rattle.hibitset_sets.proofs.LayoutLemmas.{contains-with, contains-without}
 pub use Rattle.hibitset_sets.proofs.StepLemmas.{left-empty}
 pub use Rattle.hibitset_sets.proofs.TakeLemmas.{placed-start, walk-without}
-pub use Rattle.hibitset_sets.proofs.WalkLemmas.{walk-same}
+pub use Rattle.hibitset_sets.proofs.WalkLemmas.{walk-same, filter-same, filter-none}

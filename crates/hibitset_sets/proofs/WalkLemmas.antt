@@ -5,7 +5,7 @@ use Rattle.std.proofs.Common.{Option, Some, None, MatchOption, is_some, IsTrue, 
 use Rattle.std.proofs.lemmas.Bool.{cases_eq, true≢false, not-false}
 use Rattle.hibitset_sets.specs.Walk.{walk}
 
-filter-same : (n a : ℕ) (p q : ℕ → Bool) → ((i : ℕ) → a ≤ i → i < a + n → p i ≡ q i) → filter p (range_with_len a n) ≡ filter q (range_with_len a n)
+pub filter-same : (n a : ℕ) (p q : ℕ → Bool) → ((i : ℕ) → a ≤ i → i < a + n → p i ≡ q i) → filter p (range_with_len a n) ≡ filter q (range_with_len a n)
 filter-same zero a p q same = refl
 filter-same (suc n) a p q same =
     let rest = filter-same n (a + 1) p q (λ i low high. same i (omega arith) (omega arith)) in
@@ -31,7 +31,7 @@ filter-first (suc n) a p q first low high is before gone same =
           ∙ ap (λ b. first ∷ cond b (a ∷ filter q (range_with_len (a + 1) n)) (filter q (range_with_len (a + 1) n))) (sym at_q)
     ]
 
-filter-none : (n a : ℕ) (p : ℕ → Bool) → ((i : ℕ) → a ≤ i → i < a + n → p i ≡ false) → filter p (range_with_len a n) ≡ []
+pub filter-none : (n a : ℕ) (p : ℕ → Bool) → ((i : ℕ) → a ≤ i → i < a + n → p i ≡ false) → filter p (range_with_len a n) ≡ []
 filter-none zero a p none = refl
 filter-none (suc n) a p none =
     ap (λ b. cond b (a ∷ filter p (range_with_len (a + 1) n)) (filter p (range_with_len (a + 1) n))) (none a (omega arith) (omega arith))

@@ -36,7 +36,7 @@ same_swap one two = and_swap (set.is_subset two.members one.members) (set.is_sub
 pub same_members-laws : IsPartialEquivalence same_members
 same_members-laws = record { symm = same_swap; trans = same_trans }
 
-both_ways : (a b : Bool) → (a ≡ true → b ≡ true) → (b ≡ true → a ≡ true) → a ≡ b
+pub both_ways : (a b : Bool) → (a ≡ true → b ≡ true) → (b ≡ true → a ≡ true) → a ≡ b
 both_ways true b to from = sym (to refl)
 both_ways false true to from = from refl
 both_ways false false to from = refl

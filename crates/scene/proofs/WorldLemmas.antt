@@ -1,7 +1,7 @@
 -- What stays of the scene that stands in a world while queues are taken out and put in.
 use Rattle.std.proofs.Common.{◌≡◌, ◌<◌, ◌+◌, ℕ, zero, suc, Bool, true, false, cond, eqb, List, [], ◌∷◌, ◌++◌, length, take, get_or, Option, Some, None, refl, ap, sym, ◌∙◌, subst, arith, All}
 use Rattle.std.specs.Prelude.{IsSome, option_and_then}
-use Rattle.std.specs.Option.{option_flatten, option_map_or}
+use Rattle.std.specs.Option.{option_map_or}
 use Rattle.std.specs.FinMap as slots
 use Rattle.std.proofs.lemmas.Bool.{true≢false, eqb-true, eq-eqb, or_parts}
 use Rattle.std.proofs.lemmas.Bool.Decides.{nat_tests}
@@ -9,9 +9,9 @@ use Rattle.std.proofs.lemmas.List.{take_more}
 use Rattle.std.proofs.lemmas.List.Elements.{All-nil, All-cons, All-head, All-tail, All-append}
 use Rattle.shred_world.specs.declared.resource_id.ResourceId.{ResourceId}
 use Rattle.shred_world.specs.ResourceIds.{same_id}
-use Rattle.shred_world.specs.Worlds.{Slots, value_at}
+use Rattle.shred_world.specs.Worlds.{Slots}
 use Rattle.shred_world.specs.Bundles.{readable, slot_of}
-use Rattle.shred_world.proofs.CallerLemmas.{ids_total, get-insert_here}
+use Rattle.shred_world.proofs.CallerLemmas.{ids_total}
 use Rattle.scene_model.specs.Parts.{Name, is_among}
 use Rattle.scene_model.specs.Scenes.{lives}
 use Rattle.scene_model.proofs.CallerLemmas.{same_scene, all_front, all_back}
@@ -20,16 +20,13 @@ use Rattle.scene_world.specs.Standing.{Kinds, roll_of, column_in, column_of, pla
 use Rattle.scene_world.specs.Lent.{Place, entities, markers, allocator, parts, value, queue, id_of_place, is_known, same_place, StandApart}
 use Rattle.scene_world.proofs.CallerLemmas.{same-roll}
 use Rattle.scene_commands.specs.Acts.{seen_of, WasBorn, MayAct, StaysElsewhere}
-use Rattle.scene_commands.proofs.CallerLemmas.{seen-value}
+use Rattle.scene_commands.proofs.CallerLemmas.{sees-now}
 use Rattle.scene.specs.Waiting.{PlacesAscend, IsNoQueue, StaysBeside, StaysApart, NoneWaitsAt}
 use Rattle.scene.proofs.QueueLemmas.{ArePlacesAbove, PlacesRise, places-rise}
 
 -- a slot that was put in is there, and each other is what it was
 pub put-else : {V : Type 0} (w later : Slots V) (asked id : ResourceId) (slot : Option V) → later ≡ slots.insert w asked slot → same_id id asked ≡ false → seen_of later id ≡ seen_of w id
 put-else w later asked id slot is apart = ap (λ one. readable (slot_of one)) (ap (λ m. slots.get m id) is ∙ slots.get-insert ids_total w asked slot id ∙ ap (λ b. cond b (Some slot) (slots.get w id)) apart)
-
-pub put-here : {V : Type 0} (w later : Slots V) (asked : ResourceId) (v : V) → later ≡ slots.insert w asked (Some v) → seen_of later asked ≡ Some v
-put-here w later asked v is = seen-value later asked ∙ ap (λ m. value_at m asked) is ∙ ap option_flatten (get-insert_here w asked (Some v))
 
 module _ {V : Type 0} (kinds : Kinds V) (apart : StandApart kinds) where
   -- no queue stands where something else does

@@ -3,35 +3,18 @@ use Rattle.std.proofs.Common.{◌≡◌, ◌<◌, ℕ, Bool, true, false, cond, 
 use Rattle.std.specs.Prelude.{IsSome, option_and_then}
 use Rattle.std.specs.List.{list_any, filter, filter_map, cons_option}
 use Rattle.std.proofs.lemmas.List.Kept.{AllPairs-filter}
-use Rattle.std.specs.Option.{unwrap_or, option_copied}
-use Rattle.std.specs.FinMap as slots
-use Rattle.std.specs.FinSet as set
-use Rattle.std.specs.Ordering.{nat_cmp}
+use Rattle.std.specs.Option.{option_copied}
 use Rattle.std.proofs.lemmas.Bool.{false≢true, eqb-true, eq-eqb, or_right}
 use denote.Ref.{Bor}
 use Rattle.shred_world.specs.declared.resource_id.ResourceId.{ResourceId}
 use Rattle.shred_world.specs.Bundles.{Holding, readable}
-use Rattle.specs_entity.specs.Births.{Births, living, living_of, none_born}
-use Rattle.specs_entity.specs.Life.{Life, LifeAt}
-use Rattle.specs_markers.specs.Simple.{Noting, noted_under, none_noted}
 use Rattle.scene_model.specs.Ids.{ascending}
 use Rattle.scene_model.specs.Scenes.{lives, IdsAscend}
 use Rattle.scene_model.proofs.CallerLemmas.{lives-ascending, in_order-ascends, same-ids, lives-kept}
-use Rattle.scene_world.specs.Rolls.{Roll, is_life, is_id, index_of, ids_in}
+use Rattle.scene_world.specs.Rolls.{Roll, is_id, index_of, ids_in}
 use Rattle.scene_world.proofs.CallerLemmas.{is-id, id-marks, id-at-index, lives-index, ids-ascend}
 use Rattle.scene_basics.specs.Known.{known_at}
-
--- nothing is noted where there is no allocator
-pub none-noted : {V : Type 0} (noting : V → Option Noting) (held : Option V) (id : ℕ) → option_and_then noting held ≡ None → noted_under (unwrap_or (option_and_then noting held) none_noted) id ≡ None
-none-noted noting held id none = ap (λ o. noted_under (unwrap_or o none_noted) id) none ∙ slots.get-empty nat_cmp id
-
--- nobody lives where there are no entities
-pub none-lives : {V : Type 0} (births : V → Option Births) (held : Option V) (entity : LifeAt) → option_and_then births held ≡ None
-    → is_life entity.generation (living (unwrap_or (option_and_then births held) (none_born 0 0)) entity.id) ≡ false
-none-lives births held entity none = ap (λ o. is_life entity.generation (living (unwrap_or o (none_born 0 0)) entity.id)) none ∙ nobody entity.generation entity.id
-  where
-    nobody : (life : Life) (index : ℕ) → is_life life (living (none_born 0 0) index) ≡ false
-    nobody life index = ap (λ b. is_life life (living_of b None)) (set.contains-empty nat_cmp index)
+use Rattle.hibitset_sets.specs.BitSetEq.{both_ways}
 
 -- what was lent of what is held is what can be read there
 module _ {V : Type 0} (w : Holding V) (id asked : ResourceId) (at_id : asked ≡ id) (lent : Option (Bor V)) (copied : option_copied lent ≡ readable (w asked)) where
@@ -40,13 +23,6 @@ module _ {V : Type 0} (w : Holding V) (id asked : ResourceId) (at_id : asked ≡
 
   pub lent-some : (value : Bor V) → lent ≡ Some value → readable (w id) ≡ Some value.now
   lent-some value is = ap (λ at. readable (w at)) (sym at_id) ∙ sym copied ∙ ap option_copied is
-
--- two tests that follow from one another are one
-both-ways : (a b : Bool) → (a ≡ true → b ≡ true) → (b ≡ true → a ≡ true) → a ≡ b
-both-ways true true to from = refl
-both-ways true false to from = sym (to refl)
-both-ways false true to from = from refl
-both-ways false false to from = refl
 
 -- of ids that ascend, those among which all are that give something give what all give
 given-among : {X : Type 0} (f : ℕ → Option X) (xs ys : List ℕ) → IdsAscend xs → IdsAscend ys → ((id : ℕ) → lives id xs ≡ true → lives id ys ≡ true) → ((id : ℕ) → lives id ys ≡ true → IsSome (f id) → lives id xs ≡ true)
@@ -57,7 +33,7 @@ given-among f xs ys up other within gives = ap (filter_map f) same ∙ kept ys (
     test id = lives id xs
 
     same : xs ≡ filter test ys
-    same = same-ids xs (filter test ys) up (AllPairs-filter (λ one other. one < other) test ys other) (λ id. both-ways (lives id xs) (lives id (filter test ys)) (λ e. lives-kept test id ys ∙ ap (λ b. b && test id) (within id e) ∙ e) (λ e. and-right (lives id ys) (test id) (sym (lives-kept test id ys) ∙ e)))
+    same = same-ids xs (filter test ys) up (AllPairs-filter (λ one other. one < other) test ys other) (λ id. both_ways (lives id xs) (lives id (filter test ys)) (λ e. lives-kept test id ys ∙ ap (λ b. b && test id) (within id e) ∙ e) (λ e. and-right (lives id ys) (test id) (sym (lives-kept test id ys) ∙ e)))
       where
         and-right : (a b : Bool) → (a && b) ≡ true → b ≡ true
         and-right true b e = e

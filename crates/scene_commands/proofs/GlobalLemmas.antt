@@ -23,7 +23,7 @@ use Rattle.scene_commands.specs.Becoming.{Becomes}
 use Rattle.scene_commands.specs.Entries.{with_value}
 
 -- a value that was put in stands there
-sees-now : {V : Type 0} (w later : Slots V) (id : ResourceId) (left : V) → later ≡ slots.insert w id (Some left) → seen_of later id ≡ Some left
+pub sees-now : {V : Type 0} (w later : Slots V) (id : ResourceId) (left : V) → later ≡ slots.insert w id (Some left) → seen_of later id ≡ Some left
 sees-now w later id left leaves = seen-value later id ∙ ap (λ m. value_at m id) leaves ∙ ap option_flatten (get-insert_here w id (Some left))
 
 -- and at each other id is what was there

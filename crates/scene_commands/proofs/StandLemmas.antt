@@ -2,10 +2,8 @@
 use Rattle.std.proofs.Common.{◌≡◌, ℕ, Bool, true, false, cond, eqb, ◌||◌, List, [], ◌∷◌, map, Option, Some, None, is_some, refl, ap, sym, ◌∙◌, subst, All}
 use Rattle.std.specs.Prelude.{IsSome, option_and_then, option_map}
 use Rattle.std.specs.List.{list_any, find}
-use Rattle.std.specs.Str.{bytes_eq}
 use Rattle.std.proofs.lemmas.Bool.{true≢false, false≢true, eqb-true, or_parts}
 use Rattle.std.proofs.lemmas.List.Elements.{All-nil, All-cons, All-head, All-tail}
-use Rattle.std.proofs.lemmas.Slice.Eq.{bytes_eq-Decides}
 use Rattle.shred_world.specs.Worlds.{Slots}
 use Rattle.specs_entity.specs.Births.{living}
 use Rattle.specs_entity.specs.Life.{Life, LifeAt}
@@ -20,6 +18,7 @@ use Rattle.scene_world.proofs.CallerLemmas.{index-of-id, lives-index, ids-ascend
 use Rattle.scene_world.proofs.CallerLemmas.{owned-plain}
 use Rattle.scene_commands.specs.Acts.{seen_of, WasBorn, MayAct}
 use Rattle.scene_commands.proofs.ActLemmas.{alive-born}
+use Rattle.scene_model.proofs.CallerLemmas.{none-of-names}
 
 -- a stored entity whose reference lives is alive
 ref-alive : (roll : Roll) (entity : LifeAt) → RefLives (ids_in roll) (ref_to roll entity) → is_life entity.generation (living roll.births entity.id) ≡ true
@@ -45,14 +44,6 @@ find-passed test (first ∷ ids) id none lived = by (test first) refl none (eqb 
     by true is f c at on later = cc
     by false is f true at on later = ap test (sym (eqb-true first id at)) ∙ is
     by false is f false at on later = later f on
-
-any-passed : (test : Name → Bool) (names : List Name) (kind : Name) → list_any test names ≡ false → is_among kind names ≡ true → test kind ≡ false
-any-passed test [] kind none among = absurd (false≢true among)
-any-passed test (first ∷ names) kind none among = by (bytes_eq kind first) refl among (or_parts (test first) (list_any test names) none) (λ on. any-passed test names kind (or_parts (test first) (list_any test names) none).1 on)
-  where
-    by : (b : Bool) → bytes_eq kind first ≡ b → (b || is_among kind names) ≡ true → (test first ≡ false) × (list_any test names ≡ false) → (is_among kind names ≡ true → test kind ≡ false) → test kind ≡ false
-    by true is on both later = ap test ((bytes_eq-Decides kind first).0 is) ∙ both.0
-    by false is on both later = later on
 
 module _ {V : Type 0} (kinds : Kinds V) (book : Book) (w : Slots V) where
   abbrev roll : Roll
@@ -142,6 +133,6 @@ module _ {V : Type 0} (kinds : Kinds V) (book : Book) (w : Slots V) where
       living-all : RefsLive (ids_in roll) (plain_of kinds (seen_of w)).part
       living-all id kind held lived e =
           let found = part-is id kind held e in
-          let kept = sym (ap holds_gone e) ∙ any-passed (λ name. holds_gone ((plain_of kinds (seen_of w)).part id name)) book.part_names kind
+          let kept = sym (ap holds_gone e) ∙ none-of-names (λ name. holds_gone ((plain_of kinds (seen_of w)).part id name)) book.part_names kind
           (find-passed (λ one. list_any (λ name. holds_gone ((plain_of kinds (seen_of w)).part one name)) book.part_names) (ids_in roll) id none lived) (sym (ap (is_among kind) names) ∙ found.0) in
           subst (λ part. All (RefLives (ids_in roll)) part.refs) (sym found.2) (refs-live may.roll found.1.named (ap (λ part. list_any is_gone part.refs) (sym found.2) ∙ kept))

@@ -1,5 +1,5 @@
 -- Lemmas on the refusals of a document, none of which stands for the JSON of a sound scene.
-use Rattle.std.proofs.Common.{◌≡◌, ◌<◌, ◌≤◌, ℕ, suc, Bool, true, false, not, ◌||◌, cond, eqb, List, [], ◌∷◌, map, length, Option, Some, None, option_map, Ordering, Less, Equal, Greater, refl, sym, ◌∙◌, ap, arith}
+use Rattle.std.proofs.Common.{◌≡◌, ◌<◌, ◌≤◌, ℕ, suc, Bool, true, false, not, ◌||◌, cond, List, [], ◌∷◌, map, length, Option, Some, None, option_map, Ordering, Less, Equal, Greater, refl, sym, ◌∙◌, ap, arith}
 use Rattle.std.specs.Prelude.{nat_lt, Ok, Err, is_none}
 use Rattle.std.specs.List.{All, AllPairs, list_any, cons_option, fold}
 use Rattle.std.specs.Ordering.{nat_cmp, match_ordering}
@@ -21,6 +21,7 @@ use Rattle.scene_document.specs.Texts.{members_with, entity_json, scene_json}
 use Rattle.scene_laws.specs.Printed.{CanBeRead, CanBeLoaded}
 use Rattle.scene_document.proofs.CallerLemmas.{pairs_of}
 use Rattle.scene_laws.proofs.PrintLemmas.{read_of, entity_read, draft_read, draft-back}
+use Rattle.scene_model.proofs.CallerLemmas.{not-above}
 
 -- where members have no float, they have none with one more that has none
 floats-put : (key : Name) (value : Json) (members : Members) → has_float value ≡ false → members_have_float members ≡ false → members_have_float (put key value members) ≡ false
@@ -62,16 +63,9 @@ below-test x y less = grind (arith, nat_tests, less)
 within-test : (x y : ℕ) → x ≤ y → nat_lt y x ≡ false
 within-test x y within = grind (arith, nat_tests, within)
 
-above-apart : (x y : ℕ) → x < y → eqb y x ≡ false
-above-apart x y less = grind (arith, nat_tests, less)
-
-not-among : (id : ℕ) (ids : List ℕ) → All (λ other. id < other) ids → lives id ids ≡ false
-not-among id [] all = refl
-not-among id (other ∷ ids) all = or_from (eqb other id) (lives id ids) (above-apart id other (all 0 other (omega arith))) (not-among id ids (λ k d within. all (suc k) d (omega arith)))
-
 once : (ids : List ℕ) → AllPairs (λ one other. one < other) ids → has_double ids ≡ false
 once [] ascend = refl
-once (id ∷ ids) ascend = or_from (lives id ids) (has_double ids) (not-among id ids (λ k d within. ascend 0 (suc k) d (omega arith) (omega arith))) (once ids (λ i j d less within. ascend (suc i) (suc j) d (omega arith) (omega arith)))
+once (id ∷ ids) ascend = or_from (lives id ids) (has_double ids) (not-above id ids (λ k d within. ascend 0 (suc k) d (omega arith) (omega arith))) (once ids (λ i j d less within. ascend (suc i) (suc j) d (omega arith) (omega arith)))
 
 -- references that live are tested to
 refs-test : (ids : List ℕ) (refs : List Ref) → All (RefLives ids) refs → list_any (λ ref. not (ref_lives ids ref)) refs ≡ false

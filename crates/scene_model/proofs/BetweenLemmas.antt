@@ -62,7 +62,7 @@ under-known book (entry ∷ parts) kind held all found = here (under-known book 
     here later false same e = later e
 
 -- a reference to an id that goes is gone, one that is gone stays so, and others stay as they are
-now-gone : (id : ℕ) (refs : List Ref) → list_any (is_to id) refs ≡ true → list_any is_gone (map (without_ref id) refs) ≡ true
+pub now-gone : (id : ℕ) (refs : List Ref) → list_any (is_to id) refs ≡ true → list_any is_gone (map (without_ref id) refs) ≡ true
 now-gone id [] e = absurd (false≢true e)
 now-gone id (gone ∷ refs) e = refl
 now-gone id (living other ∷ refs) e = here (eqb other id) e (now-gone id refs)
@@ -80,7 +80,7 @@ stays-gone id (living other ∷ refs) e = here (eqb other id) (stays-gone id ref
     here true later = refl
     here false later = later
 
-not-there : (id : ℕ) (refs : List Ref) → list_any (is_to id) refs ≡ false → map (without_ref id) refs ≡ refs
+pub not-there : (id : ℕ) (refs : List Ref) → list_any (is_to id) refs ≡ false → map (without_ref id) refs ≡ refs
 not-there id [] e = refl
 not-there id (gone ∷ refs) e = ap (λ rest. gone ∷ rest) (not-there id refs e)
 not-there id (living other ∷ refs) e = let parts = or_parts (eqb other id) (list_any (is_to id) refs) e in ap (λ b. cond b gone (living other) ∷ map (without_ref id) refs) parts.0 ∙ ap (λ rest. living other ∷ rest) (not-there id refs parts.1)

@@ -72,7 +72,7 @@ in_order-ascends [] = λ i j d before inside. absurd (omega (arith, inside))
 in_order-ascends (id ∷ ids) = insert-ascends id (ascending ids) (in_order-ascends ids)
 
 -- an id that is not above those in order is none of them
-not-above : (id : ℕ) (xs : List ℕ) → All (λ other. id < other) xs → lives id xs ≡ false
+pub not-above : (id : ℕ) (xs : List ℕ) → All (λ other. id < other) xs → lives id xs ≡ false
 not-above id [] above = refl
 not-above id (x ∷ xs) above = by (eqb x id) refl (not-above id xs (All-tail (λ other. id < other) x xs above))
   where

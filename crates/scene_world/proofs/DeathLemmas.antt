@@ -1,5 +1,5 @@
 -- What the death of an entity makes of a scene.
-use Rattle.std.proofs.Common.{◌≡◌, ◌<◌, ℕ, Bool, true, false, not, cond, eqb, ◌||◌, ◌&&◌, List, [], ◌∷◌, map, Option, Some, None, filter, refl, ap, sym, ◌∙◌, subst}
+use Rattle.std.proofs.Common.{◌≡◌, ◌<◌, ℕ, Bool, true, false, not, cond, eqb, ◌&&◌, List, [], ◌∷◌, map, Option, Some, None, filter, refl, ap, sym, ◌∙◌, subst}
 use Rattle.std.specs.Prelude.{is_some, option_and_then, option_map, IsSome}
 use Rattle.std.specs.List.{list_any}
 use Rattle.std.proofs.lemmas.Bool.{true≢false, eqb-true, eq-eqb, or_parts}
@@ -11,8 +11,8 @@ use Rattle.specs_markers.specs.Simple.{noted_under}
 use Rattle.scene_model.specs.Parts.{Json, Name, Ref, living as reaching, gone, Part, is_among}
 use Rattle.scene_model.specs.Rulebook.{kill}
 use Rattle.scene_model.specs.Scenes.{PlainScene}
-use Rattle.scene_model.specs.Commands.{is_gone, is_to, without_ref, part_without, apply, changed, skipped}
-use Rattle.scene_model.proofs.CallerLemmas.{same_scene, same-ids, lives-kept}
+use Rattle.scene_model.specs.Commands.{is_to, without_ref, part_without, apply, changed, skipped}
+use Rattle.scene_model.proofs.CallerLemmas.{same_scene, same-ids, lives-kept, now-gone, not-there}
 use Rattle.scene_world.specs.Stored.{Stored, ids_reached, part_with, part_under}
 use Rattle.scene_world.specs.Rolls.{Roll, is_life, reference, id_at, ids_in, index_of, ref_to, part_in, IsMarked, IsRoll}
 use Rattle.scene_world.specs.Standing.{Sight, Kinds, roll_of, column_of, value_of, plain_of, IsWithin}
@@ -21,25 +21,6 @@ use Rattle.scene_world.proofs.RollLemmas.{id-at-index, index-of-id, lives-index,
 use Rattle.scene_world.proofs.PartLemmas.{at-one, at-other, one-id}
 
 -- ---- references
-
--- where one is to the id, one is gone without it
-now-gone : (id : ℕ) (refs : List Ref) → list_any (is_to id) refs ≡ true → list_any is_gone (map (without_ref id) refs) ≡ true
-now-gone id [] e = absurd (true≢false (sym e))
-now-gone id (gone ∷ refs) e = refl
-now-gone id (reaching other ∷ refs) e = by (eqb other id) e (now-gone id refs)
-  where
-    by : (b : Bool) → (b || list_any (is_to id) refs) ≡ true → (list_any (is_to id) refs ≡ true → list_any is_gone (map (without_ref id) refs) ≡ true)
-        → (is_gone (cond b gone (reaching other)) || list_any is_gone (map (without_ref id) refs)) ≡ true
-    by true e rest = refl
-    by false e rest = rest e
-
--- where none is, they stay
-none-to : (id : ℕ) (refs : List Ref) → list_any (is_to id) refs ≡ false → map (without_ref id) refs ≡ refs
-none-to id [] e = refl
-none-to id (gone ∷ refs) e = ap (λ l. gone ∷ l) (none-to id refs e)
-none-to id (reaching other ∷ refs) e =
-    let both = or_parts (eqb other id) (list_any (is_to id) refs) e in
-    ap (λ b. cond b gone (reaching other) ∷ map (without_ref id) refs) both.0 ∙ ap (λ l. reaching other ∷ l) (none-to id refs both.1)
 
 -- a part whose references to an id are gone is one that lost it
 pub lost-part : (written : List ℕ → Json) (id : ℕ) (refs : List Ref) → part_with written (map (without_ref id) refs) ≡ part_without id (part_with written refs)
@@ -50,8 +31,8 @@ lost-part written id refs = by (list_any (is_to id) refs) refl
         ap (λ b. let x : Part = record { json = cond b null (written (ids_reached (map (without_ref id) refs))); refs = map (without_ref id) refs } in x) (now-gone id refs e)
         ∙ ap (λ b. let x : Part = record { json = cond b null (part_with written refs).json; refs = map (without_ref id) refs } in x) (sym e)
     by false e =
-        ap (part_with written) (none-to id refs e)
-        ∙ ap (λ l. let x : Part = record { json = (part_with written refs).json; refs = l } in x) (sym (none-to id refs e))
+        ap (part_with written) (not-there id refs e)
+        ∙ ap (λ l. let x : Part = record { json = (part_with written refs).json; refs = l } in x) (sym (not-there id refs e))
         ∙ ap (λ b. let x : Part = record { json = cond b null (part_with written refs).json; refs = map (without_ref id) refs } in x) (sym e)
 
 map-map : {A B C : Type 0} (f : B → C) (g : A → B) (h : A → C) → ((a : A) → h a ≡ f (g a)) → (xs : List A) → map h xs ≡ map f (map g xs)

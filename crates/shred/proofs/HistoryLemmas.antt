@@ -33,10 +33,6 @@ number-more {P} (first ∷ names) name other number n e f g = by (bytes_eq other
     by true is found later = found is
     by false is found later = later is found
 
-or-right : (a : Bool) → (a || true) ≡ true
-or-right true = refl
-or-right false = refl
-
 known-more : (known : List ℕ) (number n : ℕ) → has known n ≡ true → has (number ∷ known) n ≡ true
 known-more known number n e = or_right (number == n) (has known n) e
 

@@ -2,27 +2,20 @@
 use Rattle.std.proofs.Common.{◌≡◌, Bool, cond, ◌&&◌, Some, None, List, [], ◌∷◌, refl, sym, ◌∙◌}
 use Rattle.std.specs.Prelude.{◌==◌}
 use Rattle.std.specs.Map.{lookup}
-use Rattle.std.specs.declared.cmp.Ordering.{Ordering}
-use Rattle.std.specs.declared.cmp.Ordering.TheVariants.{Less, Equal, Greater}
-use Rattle.std.specs.Ordering.{nat_cmp, ordering_then, is_eq}
+use Rattle.std.specs.Ordering.{nat_cmp}
 use Rattle.std.specs.Cmp.{eq_by_cmp_equiv, unsigned_tied}
 use Rattle.std.specs.FinMap as map
 use Rattle.std.specs.FinMap.{FinMap, from_entries, get, insert}
 use Rattle.shred_world.specs.declared.resource_id.ResourceId.{ResourceId}
 use Rattle.shred_world.specs.ResourceIds.{id_cmp, same_id}
-use Rattle.shred_world.proofs.CallerLemmas.{ids_total, slot_at, one_put, one_removed, same_made}
+use Rattle.shred_world.proofs.CallerLemmas.{ids_total, slot_at, one_put, one_removed, same_made, is_eq-then}
 
 -- how the hashed map compares its keys
 abbrev pub key_eq : ResourceId → ResourceId → Bool
 key_eq a b = (a.kind == b.kind) && (a.dynamic == b.dynamic)
 
-both-equal : (r s : Ordering) → is_eq (ordering_then r s) ≡ (is_eq r && is_eq s)
-both-equal Less s = refl
-both-equal Equal s = refl
-both-equal Greater s = refl
-
 alike : (a b : ResourceId) → same_id a b ≡ key_eq a b
-alike a b = both-equal (nat_cmp a.kind b.kind) (nat_cmp a.dynamic b.dynamic) ∙ (λ i. unsigned_tied a.kind b.kind i && unsigned_tied a.dynamic b.dynamic i)
+alike a b = is_eq-then (nat_cmp a.kind b.kind) (nat_cmp a.dynamic b.dynamic) ∙ (λ i. unsigned_tied a.kind b.kind i && unsigned_tied a.dynamic b.dynamic i)
 
 turned : (a b : ResourceId) → key_eq a b ≡ same_id b a
 turned a b = sym (alike a b) ∙ (eq_by_cmp_equiv ids_total).symm a b

@@ -105,7 +105,7 @@ count-none p (x ∷ xs) e = by (p x) (sym (sum_by-cons (λ y. cond (p y) 1 0) x 
     by true q later = absurd (omega arith)
     by false q later = later (omega arith)
 
-none-at : {A : Type 0} (p : A → Bool) (xs : List A) (i : ℕ) (d : A) → i < length xs → list_any p xs ≡ false → p (get_or xs i d) ≡ false
+pub none-at : {A : Type 0} (p : A → Bool) (xs : List A) (i : ℕ) (d : A) → i < length xs → list_any p xs ≡ false → p (get_or xs i d) ≡ false
 none-at p [] i d h e = absurd (omega arith)
 none-at p (x ∷ xs) zero d h e = (or_parts (p x) (list_any p xs) e).0
 none-at p (x ∷ xs) (suc i) d h e = none-at p xs i d (omega arith) ((or_parts (p x) (list_any p xs) e).1)

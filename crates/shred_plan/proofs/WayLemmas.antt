@@ -12,7 +12,7 @@ use Rattle.shred_plan.specs.declared.stage.Way.TheVariants.{Alone, Behind}
 use Rattle.shred_plan.specs.Plan.{Placing, Group, Stage, conflict, hits, joins, completes, admitted, longest, time_of, without, rest_after, systems_of}
 use Rattle.shred_plan.specs.Index.{is_loose, is_blocked}
 use Rattle.shred_plan.proofs.PositionLemmas.{position-none}
-use Rattle.shred_plan.proofs.LawLemmas.{count-none}
+use Rattle.shred_plan.proofs.LawLemmas.{count-none, none-at}
 
 -- what is left of different numbers
 
@@ -121,11 +121,6 @@ none-passes : {A : Type 0} (test : A → Bool) (xs : List A) (d : A) → ((i : �
 none-passes test [] d none = refl
 none-passes test (x ∷ xs) d none = or_from (test x) (list_any test xs) (none 0 (omega arith)) (none-passes test xs d (λ i h. none (suc i) (omega arith)))
 
-passes-nowhere : {A : Type 0} (test : A → Bool) (xs : List A) (i : ℕ) (d : A) → i < length xs → list_any test xs ≡ false → test (get_or xs i d) ≡ false
-passes-nowhere test [] i d h none = absurd (omega arith)
-passes-nowhere test (x ∷ xs) zero d h none = (or_parts (test x) (list_any test xs) none).0
-passes-nowhere test (x ∷ xs) (suc i) d h none = passes-nowhere test xs i d (omega arith) ((or_parts (test x) (list_any test xs) none).1)
-
 module _ {Id : Type 0} (one : Placing Id) (stage : Stage Id) where
   -- a group that a system may join is shorter than the longest
   joined-loose : (group : Group Id) → (nat_lt (length group) 4 && nat_lt (time_of group) (longest stage)) ≡ false → joins one stage group ≡ false
@@ -144,7 +139,7 @@ module _ {Id : Type 0} (one : Placing Id) (stage : Stage Id) where
   none-joined test tight =
       position-none (λ group. test group && joins one stage group) stage
       (none-passes (λ group. test group && joins one stage group) stage []
-      (λ i h. ap (λ b. test (get_or stage i []) && b) (joined-loose (get_or stage i []) (passes-nowhere (λ group. nat_lt (length group) 4 && nat_lt (time_of group) (longest stage)) stage i [] h tight)) ∙ by (test (get_or stage i []))))
+      (λ i h. ap (λ b. test (get_or stage i []) && b) (joined-loose (get_or stage i []) (none-at (λ group. nat_lt (length group) 4 && nat_lt (time_of group) (longest stage)) stage i [] h tight)) ∙ by (test (get_or stage i []))))
     where
       by : (b : Bool) → (b && false) ≡ false
       by true = refl

@@ -3,7 +3,7 @@ pub use Rattle.shred_stages.proofs.DisposeLemmas.{dispose-end, dispose-next, emp
 pub use Rattle.shred_stages.proofs.FreeLemmas.{planned-fence, planned-free, planned-more, planned-start}
 pub use Rattle.shred_stages.proofs.LeaveLemmas.{leaves-itself, leaves-leaves, leaves-to, step-leaves}
 pub use Rattle.shred_stages.proofs.LendLemmas.{left-other}
-pub use Rattle.shred_stages.proofs.LiftLemmas.{lent-owned, lent-read, plan-turn, stages-turns, step-lifted, turn-of, turns-in-any-order, turns-in-order}
+pub use Rattle.shred_stages.proofs.LiftLemmas.{lent-owned, lent-read, plan-turn, stages-turns, step-lifted, turn-of, turns-in-any-order, turns-in-order, lent-back}
 pub use Rattle.shred_stages.proofs.NeighbourLemmas.{same-itself, same-turned}
 pub use Rattle.shred_stages.proofs.PlanLemmas.{contains-in, in-contains}
 pub use Rattle.shred_stages.proofs.SetupLemmas.{set-up-one, set-up-both, set-up-stops}

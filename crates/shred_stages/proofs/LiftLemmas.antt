@@ -39,7 +39,7 @@ module _ {V : Type 0} (reads writes : List ResourceId) (w : Holding V) (id : Res
       ∙ (ap (λ b. readable (if b then shared_of (readable (w id)) else absent)) read ∙ read-back (readable (w id)))
 
 -- what a system left as it was lent is as it was
-lent-back : {V : Type 0} (written read : Bool) (slot : Slot V) → merged (if written then owned_of (takable slot) else (if read then shared_of (readable slot) else absent)) slot ≡ slot
+pub lent-back : {V : Type 0} (written read : Bool) (slot : Slot V) → merged (if written then owned_of (takable slot) else (if read then shared_of (readable slot) else absent)) slot ≡ slot
 lent-back true read absent = refl
 lent-back true read out = refl
 lent-back true read (shared v) = refl

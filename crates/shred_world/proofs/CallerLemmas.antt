@@ -1,6 +1,6 @@
 -- What users of bundles cite.
-pub use Rattle.shred_world.proofs.IdLemmas.{ids_total, same_id-is, same_id-itself}
-pub use Rattle.shred_world.proofs.WorldLemmas.{get-insert_here, insert-insert, insert_value_same, one_put, one_removed, same_made, slot_at}
+pub use Rattle.shred_world.proofs.IdLemmas.{ids_total, same_id-is, same_id-itself, is_eq-then}
+pub use Rattle.shred_world.proofs.WorldLemmas.{get-insert_here, insert-insert, insert_value_same, one_put, one_removed, same_made, slot_at, flattened}
 use Rattle.std.proofs.Common.{◌≡◌, Option, Some, None, IsSome, is_some, cond, ap, ◌∙◌}
 use Rattle.std.specs.FinMap as map
 use Rattle.std.specs.Option.{option_and_then}

@@ -9,7 +9,7 @@ use Rattle.shred_world.specs.declared.resource_id.ResourceId.{ResourceId}
 use Rattle.shred_world.specs.ResourceIds.{same_id}
 pub use Rattle.shred_world.specs.SameIds.{exact_ids, ids_total, same_id_equiv, same_id-is, same_id-itself}
 
-is_eq-then : (r s : Ordering) → is_eq (ordering_then r s) ≡ (is_eq r && is_eq s)
+pub is_eq-then : (r s : Ordering) → is_eq (ordering_then r s) ≡ (is_eq r && is_eq s)
 is_eq-then Less s = refl
 is_eq-then Equal s = refl
 is_eq-then Greater s = refl

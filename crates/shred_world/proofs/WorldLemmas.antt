@@ -72,7 +72,7 @@ pub if_none : {A : Type 0} (o : Option A) {P : Type 0} → (o ≡ None → P) �
 if_none None p = p refl
 if_none (Some y) p = tt
 
-flattened : {V : Type 0} (o : Option (Option V)) (v : V) → option_flatten o ≡ Some v → o ≡ Some (Some v)
+pub flattened : {V : Type 0} (o : Option (Option V)) (v : V) → option_flatten o ≡ Some v → o ≡ Some (Some v)
 flattened None v e = cc
 flattened (Some x) v e = ap Some e
 

@@ -8,12 +8,7 @@ use Rattle.hibitset_sets.proofs.CallerLemmas.{any-walk, contains-with}
 use Rattle.specs_entity.specs.Births.{Births, deleted, living}
 use Rattle.simulation.specs.declared.values.Position.{Position}
 use Rattle.simulation.specs.Steps.{Accepts, is_far, is_reaped}
-
-same-bools : (a b : Bool) → (a ≡ true → b ≡ true) → (b ≡ true → a ≡ true) → a ≡ b
-same-bools true true f g = refl
-same-bools true false f g = absurd (false≢true (f refl))
-same-bools false true f g = absurd (false≢true (g refl))
-same-bools false false f g = refl
+use Rattle.hibitset_sets.specs.BitSetEq.{both_ways}
 
 module _ (position : ℕ → Option Position) (before : Births) where
   -- the deletions that are accepted while some indices are left to look at
@@ -88,7 +83,7 @@ module _ (position : ℕ → Option Position) (before : Births) where
   pub accepting-end : (now : Births) → Accepting now [] → Accepts position before now
   accepting-end now so = record {
     same = so.same;
-    deletions = λ index. same-bools (fin.contains now.deletions index) _ (so.sound index) (λ wanted. elim (so.complete index wanted) [
+    deletions = λ index. both_ways (fin.contains now.deletions index) _ (so.sound index) (λ wanted. elim (so.complete index wanted) [
       | inl is ↦ is
       | inr none ↦ absurd (false≢true none)
     ]);

@@ -29,7 +29,7 @@ members-of p count indices same index come =
     let h = filter-members count 0 p index (subst (IsToCome index) same come) in
     (h.0, below index count h.1)
 
-walk-is : (p : ℕ → Bool) → walk p ≡ filter p (range_with_len 0 16777216)
+pub walk-is : (p : ℕ → Bool) → walk p ≡ filter p (range_with_len 0 16777216)
 unfolding walk
 walk-is p = refl
 

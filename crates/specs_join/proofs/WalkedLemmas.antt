@@ -1,12 +1,9 @@
 -- A walk ascends.
-use Rattle.std.proofs.Common.{◌≡◌, ℕ, zero, suc, ◌+◌, ◌<◌, ◌≤◌, List, [], ◌∷◌, Bool, true, false, cond, filter, inl, inr, refl, sym, subst, arith}
+use Rattle.std.proofs.Common.{◌≡◌, ℕ, zero, suc, ◌+◌, ◌<◌, ◌≤◌, List, [], ◌∷◌, Bool, true, false, cond, filter, inl, inr, sym, subst, arith}
 use Rattle.std.specs.List.{range_with_len}
 use Rattle.hibitset_sets.specs.Walk.{walk}
 use Rattle.specs_layouts.specs.ToCome.{IsToCome}
-
-walk-is : (p : ℕ → Bool) → walk p ≡ filter p (range_with_len 0 16777216)
-unfolding walk
-walk-is p = refl
+use Rattle.specs_join.proofs.NewLemmas.{walk-is}
 
 -- ---- those that come are greater than those that came
 

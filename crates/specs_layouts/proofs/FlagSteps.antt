@@ -5,8 +5,8 @@ use Rattle.std.specs.Ordering.{nat_cmp}
 use Rattle.hibitset_sets.specs.BitSet.{SetWithRoom}
 use Rattle.specs_layouts.specs.Parts.{Puts}
 use Rattle.specs_layouts.specs.Flags.{flag_part}
-use Rattle.specs_layouts.specs.FlagLemmas.{is-present}
 use Rattle.specs_layouts.proofs.Present.{with-here, with-other, without-here, without-other}
+use Rattle.specs_layouts.specs.DenseLemmas.{told-or-not}
 
 module _ {T : Type 0} (same : (x y : T) → x ≡ y) (value : T) (before after : SetWithRoom) (index : ℕ) where
   pub flag-put : (part : T) → after.members ≡ set.insert before.members index → Puts (flag_part (record { value = value; present = before })) index (Some part) (flag_part (record { value = value; present = after }))
@@ -26,4 +26,4 @@ module _ {T : Type 0} (same : (x y : T) → x ≡ y) (value : T) (before after :
       }
 
   pub flag-value : (part : T) → IsSome (flag_part (record { value = value; present = before }) index) → flag_part (record { value = value; present = before }) index ≡ Some part
-  flag-value part there = ap (λ b. cond b (Some value) None) (is-present (set.contains before.members index) (Some value) there) ∙ ap Some (same value part)
+  flag-value part there = ap (λ b. cond b (Some value) None) (told-or-not (set.contains before.members index) (Some value) there) ∙ ap Some (same value part)

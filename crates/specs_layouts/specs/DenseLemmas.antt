@@ -12,7 +12,7 @@ pub record Owns (places owners : List ℕ) (index : ℕ) : Type 0 where
   pub place : slice_index places index < length owners
   pub owner : slice_index owners (slice_index places index) ≡ index
 
-told-or-not : {T : Type 0} (b : Bool) (part : Option T) → IsSome (cond b part None) → b ≡ true
+pub told-or-not : {T : Type 0} (b : Bool) (part : Option T) → IsSome (cond b part None) → b ≡ true
 told-or-not true part there = refl
 told-or-not false part there = absurd (false≢true there)
 

@@ -1,20 +1,16 @@
 -- What the flags are after a write.
-use Rattle.std.proofs.Common.{◌≡◌, ℕ, Bool, true, false, cond, Option, Some, None, IsSome, refl, ap, ◌∙◌}
+use Rattle.std.proofs.Common.{◌≡◌, ℕ, cond, Some, None, IsSome, ap, ◌∙◌}
 use Rattle.std.specs.FinSet as set
 use Rattle.std.specs.Ordering.{nat_cmp}
-use Rattle.std.proofs.lemmas.Bool.{false≢true}
 use Rattle.specs_layouts.specs.Parts.{Puts, HasNone}
 use Rattle.specs_layouts.specs.Flags.{flag_part, with_flag_part}
 use Rattle.specs_layouts.specs.declared.storages.null.NullStorage.{NullStorage}
-
-pub is-present : {T : Type 0} (b : Bool) (part : Option T) → IsSome (cond b part None) → b ≡ true
-is-present true part there = refl
-is-present false part there = absurd (false≢true there)
+use Rattle.specs_layouts.specs.DenseLemmas.{told-or-not}
 
 pub with_flag_part-puts : {T : Type 0} → ((x y : T) → x ≡ y) → (s : NullStorage T) (index : ℕ) (part : T) → IsSome (flag_part s index) → Puts (flag_part s) index (Some part) (flag_part (with_flag_part s index part))
 with_flag_part-puts same s index part there =
     record {
-      here = ap (λ b. cond b (Some part) None) (is-present (set.contains s.present.members index) (Some s.value) there);
+      here = ap (λ b. cond b (Some part) None) (told-or-not (set.contains s.present.members index) (Some s.value) there);
       others = λ other apart. ap (λ v. cond (set.contains s.present.members other) (Some v) None) (same part s.value);
     }
 

@@ -12,6 +12,7 @@ use Rattle.specs_layouts.specs.ToCome.{IsToCome}
 use Rattle.specs_layouts.proofs.CallerLemmas.{walk-come}
 use Rattle.specs_markers.specs.Marks.{IsMarked, IsLastMarked, IsNoteOfLast}
 use Rattle.specs_markers.specs.Noting.{marked_list, pairs_of}
+use Rattle.specs_join.proofs.CallerLemmas.{walk-is}
 
 -- ---- a walk ascends
 
@@ -40,12 +41,8 @@ filter-rises : (n a : ℕ) (p : ℕ → Bool) → Rises (filter p (range_with_le
 filter-rises zero a p = tt
 filter-rises (suc n) a p = test-rises a (filter p (range_with_len (a + 1) n)) (p a) (filter-from n (a + 1) p) (filter-rises n (a + 1) p)
 
-rises-of : (p : ℕ → Bool) (count : ℕ) (indices : List ℕ) → indices ≡ filter p (range_with_len 0 count) → Rises indices
+pub rises-of : (p : ℕ → Bool) (count : ℕ) (indices : List ℕ) → indices ≡ filter p (range_with_len 0 count) → Rises indices
 rises-of p count indices is = subst Rises (sym is) (filter-rises count 0 p)
-
-walk-is : (p : ℕ → Bool) → walk p ≡ filter p (range_with_len 0 16777216)
-unfolding walk
-walk-is p = refl
 
 walk-rises : (p : ℕ → Bool) → Rises (walk p)
 walk-rises p = rises-of p 16777216 (walk p) (walk-is p)

@@ -1,7 +1,7 @@
 -- A list that is loaded into an empty world, and what is saved of that.
-use Rattle.std.proofs.Common.{◌≡◌, ◌⊎◌, ◌↔◌, ◌+◌, ◌<◌, ◌≤◌, ℕ, zero, suc, Bool, true, false, cond, List, [], ◌∷◌, filter, map, Option, Some, None, is_some, IsSome, IfSome, option_and_then, option_map, unwrap_or, inl, inr, refl, sym, ap, subst, ◌∙◌, arith}
+use Rattle.std.proofs.Common.{◌≡◌, ◌⊎◌, ◌↔◌, ◌<◌, ℕ, Bool, true, false, cond, List, [], ◌∷◌, map, Option, Some, None, is_some, IsSome, IfSome, option_and_then, option_map, unwrap_or, inl, inr, refl, sym, ap, subst, ◌∙◌, arith}
 use Rattle.std.proofs.lemmas.Bool.{false≢true}
-use Rattle.std.specs.List.{range_with_len, cons_option}
+use Rattle.std.specs.List.{cons_option}
 use Rattle.std.proofs.lemmas.Option.{same_Some}
 use Rattle.hibitset_sets.specs.Walk.{walk}
 use Rattle.specs_entity.specs.Births.{Births, IsAlive, living}
@@ -16,6 +16,8 @@ use Rattle.specs_saveload.specs.Known.{IsSound, Known, bearer_at}
 use Rattle.specs_saveload.specs.Loading.{AreApart, AreInOrder, Loads}
 use Rattle.specs_saveload.specs.Saved.{IsEntryOf, all_some, entry_of, marked_at, name_of, same_birth, saved}
 use Rattle.specs_saveload.proofs.KnownLemmas.{bearer-alive, bearer-known, life-itself, same-life}
+use Rattle.specs_join.proofs.CallerLemmas.{walk-is}
+use Rattle.specs_markers.proofs.CallerLemmas.{rises-of}
 
 -- ---- an empty world, and a list that was loaded into it
 
@@ -244,33 +246,6 @@ first-none f (x ∷ xs) none = none-first f x xs (first-none f xs) (f x) (all_so
 abbrev Rises : List ℕ → Type 0
 Rises [] = Unit {0}
 Rises (first ∷ rest) = ((other : ℕ) → IsToCome other rest → first < other) × Rises rest
-
-test-from : (p : ℕ → Bool) (a index : ℕ) (rest : List ℕ) (test : Bool) → ((other : ℕ) → IsToCome other rest → a + 1 ≤ other) → IsToCome index (cond test (a ∷ rest) rest) → a ≤ index
-test-from p a index rest true from (inl here) = omega (arith, here)
-test-from p a index rest true from (inr there) = let after = from index there in omega (arith, after)
-test-from p a index rest false from there = let after = from index there in omega (arith, after)
-
-filter-from : (n a : ℕ) (p : ℕ → Bool) (index : ℕ) → IsToCome index (filter p (range_with_len a n)) → a ≤ index
-filter-from zero a p index come = absurd come
-filter-from (suc n) a p index come = test-from p a index (filter p (range_with_len (a + 1) n)) (p a) (filter-from n (a + 1) p) come
-
-above : (a other : ℕ) → a + 1 ≤ other → a < other
-above a other least = omega (arith, least)
-
-test-rises : (a : ℕ) (rest : List ℕ) (test : Bool) → ((other : ℕ) → IsToCome other rest → a + 1 ≤ other) → Rises rest → Rises (cond test (a ∷ rest) rest)
-test-rises a rest true from rises = (λ other come. above a other (from other come), rises)
-test-rises a rest false from rises = rises
-
-filter-rises : (n a : ℕ) (p : ℕ → Bool) → Rises (filter p (range_with_len a n))
-filter-rises zero a p = tt
-filter-rises (suc n) a p = test-rises a (filter p (range_with_len (a + 1) n)) (p a) (filter-from n (a + 1) p) (filter-rises n (a + 1) p)
-
-walk-is : (p : ℕ → Bool) → walk p ≡ filter p (range_with_len 0 16777216)
-unfolding walk
-walk-is p = refl
-
-rises-of : (p : ℕ → Bool) (count : ℕ) (indices : List ℕ) → indices ≡ filter p (range_with_len 0 count) → Rises indices
-rises-of p count indices is = subst Rises (sym is) (filter-rises count 0 p)
 
 walk-rises : (p : ℕ → Bool) → Rises (walk p)
 walk-rises p = rises-of p 16777216 (walk p) (walk-is p)

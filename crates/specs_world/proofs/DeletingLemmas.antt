@@ -18,8 +18,9 @@ use Rattle.specs_entity.specs.declared.errors.Error.TheVariants as variant
 use Rattle.specs_layouts.specs.Drops.{ids_of}
 use Rattle.specs_world.specs.Resources.{Place, held}
 use Rattle.specs_world.specs.Dropping.{SlotDrops, Rests, StayOut, DropsIn, DropsComponents, Kills, Deletes, DeletesIn, MergesIn, RefusesDeath, RefusesIn}
-use Rattle.specs_world.proofs.DroppingLemmas.{get-insert_other, slot-of-value, slot-rests, slot-append, listed-of-kinds}
+use Rattle.specs_world.proofs.DroppingLemmas.{get-insert_other, slot-rests, slot-append, listed-of-kinds}
 use Rattle.specs_world.proofs.ResourceLemmas.{resource-value}
+use Rattle.shred_world.proofs.CallerLemmas.{flattened}
 
 -- what is true at one id and at each other is true of all
 by-id : {P : ResourceId → Type 0} (id : ResourceId) → P id → ((other : ResourceId) → same_id other id ≡ false → P other) → (other : ResourceId) → P other
@@ -77,21 +78,21 @@ module _ {V : Type 0} (drops : V → List ℕ → V → Type 0) (w w1 w2 w3 : Sl
   pub rests-around : ((value : V) → drops value [] value) → value_at w id ≡ Some v → Rests drops w1 w2 → Rests drops w w3
   rests-around none stood rests =
       by-id {P = λ q. SlotDrops drops [] (get w q) (get w3 q)} id
-      (subst (λ slot. SlotDrops drops [] (get w id) slot) (slot-of-value (get w id) v stood ∙ sym stands-put) (slot-rests drops none (get w id)))
+      (subst (λ slot. SlotDrops drops [] (get w id) slot) (flattened (get w id) v stood ∙ sym stands-put) (slot-rests drops none (get w id)))
       (λ other apart. subst (λ slot. SlotDrops drops [] slot (get w3 other)) (get-taken other apart) (subst (λ slot. SlotDrops drops [] (get w1 other) slot) (sym (get-put other apart)) (rests other)))
 
   -- what was out beside it stays out
   pub out-around : value_at w id ≡ Some v → StayOut w1 w2 → StayOut w w3
   out-around stood outs =
       by-id {P = λ q. get w q ≡ Some None → get w3 q ≡ Some None} id
-      (λ out. stands-put ∙ sym (slot-of-value (get w id) v stood) ∙ out)
+      (λ out. stands-put ∙ sym (flattened (get w id) v stood) ∙ out)
       (λ other apart out. get-put other apart ∙ outs other (get-taken other apart ∙ out))
 
   -- drops of parts around the table of kinds
   pub drops-around : (part : V → Option (List ℕ)) (wrapped : List ℕ → V) → ((value : V) (kinds : List ℕ) → part value ≡ Some kinds → value ≡ wrapped kinds) → (entities : List Entity) (kinds : List ℕ)
       → resource_at part w id ≡ Some kinds → v ≡ wrapped kinds → DropsIn drops kinds (ids_of entities) w1 w2 → DropsComponents (record { part = part; wrapped = wrapped; id = id }) drops entities w w3
   drops-around part wrapped only entities kinds there is dropped =
-      let table : get w3 id ≡ get w id = stands-put ∙ ap (λ value. Some (Some value)) is ∙ sym (slot-of-value (get w id) (wrapped kinds) (resource-value part wrapped only w id kinds there)) in
+      let table : get w3 id ≡ get w id = stands-put ∙ ap (λ value. Some (Some value)) is ∙ sym (flattened (get w id) (wrapped kinds) (resource-value part wrapped only w id kinds there)) in
       record {
         kinds = kinds;
         registered = there;

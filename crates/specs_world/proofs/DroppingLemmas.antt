@@ -14,12 +14,7 @@ use Rattle.shred_world.specs.Worlds.{Slots, value_at, AreDistinct, is_of_kinds}
 use Rattle.shred_world.proofs.IdLemmas.{ids_total, same_id-is, same_id-fields}
 use Rattle.shred_world.proofs.WorldLemmas.{get-insert_here}
 use Rattle.specs_world.specs.Dropping.{SlotDrops, HasRoomAt, HaveRoom, Rests, DropsIn}
-
--- a slot in which a value stands
-pub slot-of-value : {V : Type 0} (slot : Option (Option V)) (v : V) → option_flatten slot ≡ Some v → slot ≡ Some (Some v)
-slot-of-value None v e = cc
-slot-of-value (Some None) v e = cc
-slot-of-value (Some (Some x)) v e = ap Some e
+use Rattle.shred_world.proofs.CallerLemmas.{flattened}
 
 -- what is put at an id leaves each other
 pub get-insert_other : {X : Type 0} (w : map.FinMap id_cmp X) (id : ResourceId) (x : X) (other : ResourceId) → same_id other id ≡ false → get (insert w id x) other ≡ get w other
@@ -30,7 +25,7 @@ module _ {V : Type 0} (drops : V → List ℕ → V → Type 0) where
   pub slot-dropped : (indices : List ℕ) (w : Slots V) (id : ResourceId) (was now : V) → value_at w id ≡ Some was → drops was indices now
       → SlotDrops drops indices (get w id) (get (insert w id (Some now)) id)
   slot-dropped indices w id was now stands dropped =
-      subst (λ slot. SlotDrops drops indices slot (get (insert w id (Some now)) id)) (sym (slot-of-value (get w id) was stands)) (now, get-insert_here w id (Some now), dropped)
+      subst (λ slot. SlotDrops drops indices slot (get (insert w id (Some now)) id)) (sym (flattened (get w id) was stands)) (now, get-insert_here w id (Some now), dropped)
 
   module _ (none : (v : V) → drops v [] v) where
     pub slot-rests : (slot : Option (Option V)) → SlotDrops drops [] slot slot

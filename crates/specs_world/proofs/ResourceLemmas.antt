@@ -16,6 +16,7 @@ use Rattle.specs_entity.specs.declared.ids.Entity.{Entity}
 use Rattle.specs_layouts.specs.Masked.{Masked}
 use Rattle.specs_world.proofs.DroppingLemmas.{get-insert_other}
 use Rattle.specs_world.specs.Resources.{Becomes, IsNew, DeletesLater, without_put}
+use Rattle.specs_storage.proofs.PartLemmas.{none-of}
 
 -- a slot is empty where it is there and no value stands in it
 empty-slot : {V : Type 0} (slot : Option (Option V)) → is_some slot ≡ true → option_flatten slot ≡ None → slot ≡ Some None
@@ -126,11 +127,6 @@ lent-deletes {V} part wrapped w w' id lent value left is stood leaves only entit
     (λ o. MatchOption o (w' ≡ w) (λ was. (IsAlive was entity → w' ≡ insert w id (Some (wrapped (deleted was entity.id)))) × (¬ (IsAlive was entity) → w' ≡ w)))
     (sym (sym stood ∙ ap option_copied_mut is))
     (λ alive. put ∙ ap (λ b. insert w id (Some (wrapped b))) (ways.0 alive), λ dead. lent-same part wrapped w w' id lent value left is stood leaves only (ways.1 dead))
-
--- nothing stands where no value is found
-pub nothing-there : {A : Type 0} (found : Option A) → is_some found ≡ false → found ≡ None
-nothing-there None none = refl
-nothing-there (Some a) none = cc
 
 slot-as : {V : Type 0} (one other : Option (Option V)) → slot_of one ≡ slot_of other → one ≡ other
 slot-as None None e = refl

@@ -4,8 +4,9 @@ use Rattle.std.specs.Option.{option_copied}
 use Rattle.shred_world.specs.ResourceIds.{id_of}
 use Rattle.shred_world.specs.Bundles.{readable}
 use Rattle.scene_basics.specs.Values.{births_in}
-use Rattle.scene_basics.proofs.KnownLemmas.{lent-none, lent-some, none-lives}
+use Rattle.scene_basics.proofs.KnownLemmas.{lent-none, lent-some}
 use Rattle.scene_basics.proofs.known.is_living.Goals as goal
+use Rattle.scene_commands.proofs.CallerLemmas.{none-lives}
 
 pub returns-in_default : goal.returns-in_default
 returns-in_default g c =

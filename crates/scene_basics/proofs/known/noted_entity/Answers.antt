@@ -4,8 +4,9 @@ use Rattle.std.specs.Option.{option_copied}
 use Rattle.shred_world.specs.ResourceIds.{id_of}
 use Rattle.shred_world.specs.Bundles.{readable}
 use Rattle.scene_basics.specs.Values.{noting_in}
-use Rattle.scene_basics.proofs.KnownLemmas.{lent-none, lent-some, none-noted}
+use Rattle.scene_basics.proofs.KnownLemmas.{lent-none, lent-some}
 use Rattle.scene_basics.proofs.known.noted_entity.Goals as goal
+use Rattle.scene_commands.proofs.CallerLemmas.{none-noted}
 
 pub returns-in_err-value : goal.returns-in_err-value
 returns-in_err-value g c =
