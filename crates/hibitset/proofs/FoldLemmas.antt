@@ -75,6 +75,12 @@ module _ {A B : Type 0} (start : A → Type 0) (step : A → ℕ → A → Type 
   pub fold-alone : (list : List ℕ) (result : A) → FoldsFromStart start step list result → FoldsInParts start step combine list result
   fold-alone list result folded = record { first = list; others = []; whole = append-nil list; opening = result; folded = folded; combined = refl }
 
+-- a relation of lists and values holds of a start, and is kept by a step and by combining
+pub record HoldsInParts {A : Type 0} (start : A → Type 0) (step : A → ℕ → A → Type 0) (combine : A → A → A → Type 0) (J : List ℕ → A → Type 0) : Type 0 where
+  pub starts : (a : A) → start a → J [] a
+  pub steps : (list : List ℕ) (a b : A) (i : ℕ) → J list a → step a i b → J (list ++ i ∷ []) b
+  pub combines : (list other : List ℕ) (a b c : A) → J list a → J other b → combine a b c → J (list ++ other) c
+
 module _ {A : Type 0} (start : A → Type 0) (step : A → ℕ → A → Type 0) (combine : A → A → A → Type 0) (J : List ℕ → A → Type 0) (keeps : HoldsInParts start step combine J) where
   holds-part : (list : List ℕ) (a : A) → FoldsFromStart start step list a → J list a
   holds-part list a folded = chained_keeps step J (λ xs q x v held stepped. keeps.steps xs q v x held stepped) list folded.0 a (keeps.starts folded.0 folded.1) folded.2
