@@ -80,6 +80,7 @@ proper-none book scene proper id kind = by (scene.part id kind) refl
 none-under : (scene : PlainScene) → NoneGone scene → (id : ℕ) (names : List Name) → list_any (λ kind. holds_gone (scene.part id kind)) names ≡ false
 none-under scene none id [] = refl
 none-under scene none id (kind ∷ names) = or_from (holds_gone (scene.part id kind)) (list_any (λ other. holds_gone (scene.part id other)) names) (none id kind) (none-under scene none id names)
+
 -- and where none is held, none is found
 pub none-found : (book : Book) (scene : PlainScene) → NoneGone scene → first_gone book scene ≡ None
 none-found book scene none = among scene.ids

@@ -41,6 +41,7 @@ next-tie id_of next (x ∷ xs) none =
     let both = or_parts (not (ltb (id_of x) next)) (list_any (λ one. not (ltb (id_of one) next)) xs) none in
     let below : id_of x < next = ltb-true (id_of x) next (not-false (ltb (id_of x) next) both.0) in
     ap (λ n. max n (id_of x + 1)) (next-tie id_of next xs both.1) ∙ omega (arith, below)
+
 -- the parts of an id are as they were once those of another were put in
 list-away : (id other : ℕ) (parts : List DraftPart) (base : Parts) (kind : Name) → eqb other id ≡ false → list_put id parts base other kind ≡ base other kind
 list-away id other [] base kind differ = refl

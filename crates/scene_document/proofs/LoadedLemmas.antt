@@ -211,6 +211,7 @@ ids-below id_of next [] h = All-nil (λ id. id < next)
 ids-below id_of next (x ∷ xs) h =
     let apart = or_parts (not (ltb (id_of x) next)) (list_any (λ one. not (ltb (id_of one) next)) xs) h in
     All-insert_key nat_cmp (id_of x) (λ id. id < next) (ascending (map id_of xs)) (ids-below id_of next xs apart.1) (ltb-true (id_of x) next (not-false (ltb (id_of x) next) apart.0))
+
 -- against a document no refusal stands
 pub unrefused : (book : Book) (indices : ℕ) (json : Json) (draft : Draft) → document_from book indices json ≡ Ok draft → refusal_of indices draft ≡ None
 unrefused book indices json draft made = whole (has_float json) (draft_from book json) made

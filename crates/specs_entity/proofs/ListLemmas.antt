@@ -271,6 +271,7 @@ deletions-all_buried births (one ∷ indices) index is =
     let rest = deletions-all_buried (buried births one) indices index is in
     let parts = and_parts (not (eqb index one)) (fin.contains births.deletions index) (sym (contains-without births.deletions one index) ∙ rest.0) in
     (parts.1, or_from (eqb index one) _ (not-true (eqb index one) parts.0) rest.1)
+
 -- where all accepted are buried no deletion is left
 pub deletions-done : (births : Births) (indices : List ℕ) → ((index : ℕ) → fin.contains births.deletions index ≡ true → list_any (λ other. eqb index other) indices ≡ true) → (all_buried births indices).deletions ≡ fin.empty
 deletions-done births indices all =
