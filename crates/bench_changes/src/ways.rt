@@ -9,7 +9,7 @@ use crate::parts::{Drift, Place, Plain};
 use specs_join::laws::a_join_has_an_item_for_each_index;
 use specs_join::{Change, Join, JoinCursor, ParJoin, change_each};
 use specs_layouts::MaskedStorage;
-use specs_storage::{EntryCursor, WriteStorage};
+use specs_storage::{EntryCursor, LentStorageMut};
 use std::alloc::{AllocError, Global};
 use std::thread::Threads;
 
@@ -63,7 +63,7 @@ fn drift_at<R: Join>(cursor: &mut EntryCursor<'_, Place, R>, along: u32)
 }
 
 /// The entry at each index of the drifts.
-pub fn by_entries(storage: &mut WriteStorage<'_, Place>, drifts: &MaskedStorage<Drift>) {
+pub fn by_entries(storage: &mut LentStorageMut<'_, Place>, drifts: &MaskedStorage<Drift>) {
     let mut cursor = storage.entries().cursor(drifts);
     while cursor.advance().is_some() {
         let along = cursor.item().along;

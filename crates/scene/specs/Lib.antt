@@ -21,6 +21,7 @@ pub mod Limits
 pub mod Turns
 pub mod Running
 pub mod Outcomes
+pub mod Members
 pub use Rattle.scene_devices.specs.Faults
 pub use Rattle.scene_devices.specs.Reading
 pub use Rattle.scene_devices.specs.Counted

@@ -4,17 +4,17 @@ ghost use Rattle.scene_model.specs.Lawful.{IsLawful};
 ghost use Rattle.scene_model.specs.Commands.{skips_of};
 ghost use Rattle.scene_model.specs.Frames.{Accepts, Refuses};
 ghost use Rattle.scene_model.specs.Queues.{plain_commands};
-ghost use Rattle.scene_world.specs.Places.{kinds_of};
-ghost use Rattle.scene_world.specs.Turns.{placed_as};
 ghost use Rattle.scene_dispatch.specs.Orders.{turn_order};
-ghost use Rattle.scene.specs.Running.{Stands, listed_scene};
+ghost use Rattle.scene.specs.Running.{Stands};
+ghost use Rattle.scene.specs.Members.{frame_by, listed_by};
+ghost use Rattle.scene_world.specs.Members.{kinds_by, placed_by};
 
 use crate::laws::a_refusal_in_a_world_is_one_of_the_scene;
 use crate::{keep_scene, run_frame};
 use scene_dispatch::SceneDispatcher;
 use scene_model::{Command, FrameRefusal, Skip};
 use scene_snapshot::KeptScene;
-use scene_world::{Rules, SceneValue};
+use scene_world::Rules;
 use shred_world::World;
 use std::sync::Wait;
 use std::thread::Threads;
@@ -37,37 +37,20 @@ where
     R::Data: Send + Sync,
     R::Global: Send + Sync,
     R::System: Send + Sync,
-    requires stands { Stands (kinds_of ⟦<R::Value as SceneValue<R::Data>>⟧.places R.part_of R.columns) (placed_as (λ
-        placed. placed.position) (λ placed. placed.system)
-        R.kind_of R.config_of R.declared R.sense R.does) (R.book rules.now)
-        dispatcher.old world.old places.now (listed_scene R.part_of R.global_of (R.book rules.now) kept.old) }
+    requires stands { Stands (kinds_by R.Rules R.Value.SceneValue) (placed_by R.Rules)
+        (R.book rules.now) dispatcher.old world.old places.now (listed_by R.Rules rules.now kept.old) }
     requires given { All (IsLawful (R.book rules.now)) (plain_commands R.part_of given.now) }
     ensures accepted { OnOk result ((skipped : List ℕ) × Accepts (R.book rules.now) limit
-        (record {
-          order = turn_order (placed_as (λ placed. placed.position) (λ placed. placed.system)
-              R.kind_of R.config_of R.declared R.sense R.does).plain dispatcher.old;
-          commands = plain_commands R.part_of given.now;
-        })
-        (listed_scene R.part_of R.global_of (R.book rules.now) kept.old) (listed_scene R.part_of R.global_of (R.book
-        rules.now) kept.new) skipped
-        × (skips.new.items ≡ skips.old.items ++ skips_of frame skipped)) }
-    ensures stands { OnOk result (Stands (kinds_of ⟦<R::Value as SceneValue<R::Data>>⟧.places R.part_of R.columns)
-        (placed_as (λ placed. placed.position) (λ placed. placed.system)
-        R.kind_of R.config_of R.declared R.sense R.does) (R.book rules.now)
-        dispatcher.new world.new places.now (listed_scene R.part_of R.global_of (R.book rules.now) kept.new)) }
-    ensures refused { IfErr result (Refuses (R.book rules.now) limit
-        (record {
-          order = turn_order (placed_as (λ placed. placed.position) (λ placed. placed.system)
-              R.kind_of R.config_of R.declared R.sense R.does).plain dispatcher.old;
-          commands = plain_commands R.part_of given.now;
-        })
-        (listed_scene R.part_of R.global_of (R.book rules.now) kept.old)) }
+        (frame_by R.Rules dispatcher.old given.now) (listed_by R.Rules rules.now kept.old) (listed_by R.Rules
+        rules.now kept.new) skipped × (skips.new.items ≡ skips.old.items ++ skips_of frame skipped)) }
+    ensures stands { OnOk result (Stands (kinds_by R.Rules R.Value.SceneValue) (placed_by R.Rules)
+        (R.book rules.now) dispatcher.new world.new places.now (listed_by R.Rules rules.now kept.new)) }
+    ensures refused { IfErr result (Refuses (R.book rules.now) limit (frame_by R.Rules dispatcher.old given.now)
+        (listed_by R.Rules rules.now kept.old)) }
     ensures skips { OnErr result (skips.new.items ≡ skips.old.items) }
     ensures kept { OnErr result (kept.new ≡ kept.old) }
-    ensures order { turn_order (placed_as (λ placed. placed.position) (λ placed. placed.system)
-        R.kind_of R.config_of R.declared R.sense R.does).plain dispatcher.new ≡ turn_order (placed_as (λ placed.
-        placed.position) (λ placed. placed.system)
-        R.kind_of R.config_of R.declared R.sense R.does).plain dispatcher.old }
+    ensures order { turn_order (placed_by R.Rules).plain dispatcher.new ≡ turn_order
+        (placed_by R.Rules).plain dispatcher.old }
 {
     a_refusal_in_a_world_is_one_of_the_scene(rules);
     let noted = skips.len();

@@ -7,10 +7,11 @@ ghost use Rattle.scene_model.specs.Lawful.{IsLawful};
 ghost use Rattle.scene_model.specs.Leads.{RunsTo};
 ghost use Rattle.scene_model.specs.Commands.{CommandsAccepted, first_gone, skips_of};
 ghost use Rattle.scene_model.specs.Queues.{plain_commands, waiting};
-ghost use Rattle.scene_world.specs.Standing.{plain_of, commands_of};
-ghost use Rattle.scene_world.specs.Places.{kinds_of};
+ghost use Rattle.scene_world.specs.Standing.{commands_of};
+ghost use Rattle.scene_world.specs.Members.{kinds_by};
 ghost use Rattle.scene_commands.specs.Acts.{seen_of, MayAct, StaysElsewhere};
 ghost use Rattle.scene_commands.specs.Lists.{RefusesActs};
+ghost use Rattle.scene_commands.specs.Members.{scene_in};
 ghost use Rattle.scene.specs.Waiting.{waiting_in, waiting_at, PlacesAscend, NoneWaitsAt, StaysApart};
 ghost use Rattle.scene.specs.Sparing.{AsksNoDeath, NoneGone};
 ghost use Rattle.scene.specs.Refusals.{CommandsRefusedIn, GoneIn, RefusesAll};
@@ -18,7 +19,7 @@ ghost use Rattle.scene.specs.Refusals.{CommandsRefusedIn, GoneIn, RefusesAll};
 use crate::queues::{put_queues, take_queues};
 use scene_commands::{act_all, find_gone};
 use scene_model::{Command, DocumentRules, FrameRefusal, Queue, Skip};
-use scene_world::{Rules, SceneValue};
+use scene_world::Rules;
 use shred_world::World;
 use std::alloc::Global;
 
@@ -66,20 +67,16 @@ fn act_queues<R: Rules>(
     skips: &mut Vec<Skip>,
     alloc: Global,
 ) -> Result<(), FrameRefusal>
-    requires may { MayAct (kinds_of ⟦<R::Value as SceneValue<R::Data>>⟧.places R.part_of R.columns) world.old }
+    requires may { MayAct (kinds_by R.Rules R.Value.SceneValue) world.old }
     requires lawful { All (λ queue. All (IsLawful (R.book rules.now)) (plain_commands R.part_of (waiting queue)))
         queues.now }
     requires room { earlier + length (waiting_in R.part_of queues.now) ≤ 4294967295 }
     ensures ran { OnOk result (RunsTo frame (earlier + 1) (waiting_in R.part_of queues.now)
-        (plain_of (kinds_of ⟦<R::Value as SceneValue<R::Data>>⟧.places R.part_of R.columns) (seen_of world.old))
-        (plain_of (kinds_of ⟦<R::Value as SceneValue<R::Data>>⟧.places R.part_of R.columns) (seen_of world.new))
-        skips.old.items skips.new.items) }
-    ensures may { OnOk result (MayAct
-        (kinds_of ⟦<R::Value as SceneValue<R::Data>>⟧.places R.part_of R.columns) world.new) }
-    ensures elsewhere { OnOk result (StaysElsewhere
-        (kinds_of ⟦<R::Value as SceneValue<R::Data>>⟧.places R.part_of R.columns) world.old world.new) }
-    ensures refused { IfErr result (RefusesActs
-        (kinds_of ⟦<R::Value as SceneValue<R::Data>>⟧.places R.part_of R.columns) (earlier + 1)
+        (scene_in R.Rules R.Value.SceneValue world.old)
+        (scene_in R.Rules R.Value.SceneValue world.new) skips.old.items skips.new.items) }
+    ensures may { OnOk result (MayAct (kinds_by R.Rules R.Value.SceneValue) world.new) }
+    ensures elsewhere { OnOk result (StaysElsewhere (kinds_by R.Rules R.Value.SceneValue) world.old world.new) }
+    ensures refused { IfErr result (RefusesActs (kinds_by R.Rules R.Value.SceneValue) (earlier + 1)
         (waiting_in R.part_of queues.now) world.old) }
     ensures kept { (more : List Skip) × (skips.new.items ≡ skips.old.items ++ more) }
 {
@@ -104,21 +101,17 @@ fn act_both<R: Rules>(
     skips: &mut Vec<Skip>,
     alloc: Global,
 ) -> Result<(), FrameRefusal>
-    requires may { MayAct (kinds_of ⟦<R::Value as SceneValue<R::Data>>⟧.places R.part_of R.columns) world.old }
+    requires may { MayAct (kinds_by R.Rules R.Value.SceneValue) world.old }
     requires given { All (IsLawful (R.book rules.now)) (plain_commands R.part_of given.now) }
     requires lawful { All (λ queue. All (IsLawful (R.book rules.now)) (plain_commands R.part_of (waiting queue)))
         queues.now }
     requires room { length given.now + length (waiting_in R.part_of queues.now) ≤ 4294967295 }
-    ensures ran { OnOk result (RunsTo frame 1 (plain_commands R.part_of given.now ++ waiting_in R.part_of queues.now)
-        (plain_of (kinds_of ⟦<R::Value as SceneValue<R::Data>>⟧.places R.part_of R.columns) (seen_of world.old))
-        (plain_of (kinds_of ⟦<R::Value as SceneValue<R::Data>>⟧.places R.part_of R.columns) (seen_of world.new))
-        skips.old.items skips.new.items) }
-    ensures may { OnOk result (MayAct
-        (kinds_of ⟦<R::Value as SceneValue<R::Data>>⟧.places R.part_of R.columns) world.new) }
-    ensures elsewhere { OnOk result (StaysElsewhere
-        (kinds_of ⟦<R::Value as SceneValue<R::Data>>⟧.places R.part_of R.columns) world.old world.new) }
-    ensures refused { IfErr result (RefusesActs
-        (kinds_of ⟦<R::Value as SceneValue<R::Data>>⟧.places R.part_of R.columns) 1
+    ensures ran { OnOk result (RunsTo frame 1 (plain_commands R.part_of given.now
+        ++ waiting_in R.part_of queues.now) (scene_in R.Rules R.Value.SceneValue world.old)
+        (scene_in R.Rules R.Value.SceneValue world.new) skips.old.items skips.new.items) }
+    ensures may { OnOk result (MayAct (kinds_by R.Rules R.Value.SceneValue) world.new) }
+    ensures elsewhere { OnOk result (StaysElsewhere (kinds_by R.Rules R.Value.SceneValue) world.old world.new) }
+    ensures refused { IfErr result (RefusesActs (kinds_by R.Rules R.Value.SceneValue) 1
         (plain_commands R.part_of given.now ++ waiting_in R.part_of queues.now) world.old) }
     ensures kept { (more : List Skip) × (skips.new.items ≡ skips.old.items ++ more) }
 {
@@ -174,14 +167,11 @@ fn look<R: Rules>(
     kills: bool,
     alloc: Global,
 ) -> Result<(), FrameRefusal>
-    requires may { MayAct (kinds_of ⟦<R::Value as SceneValue<R::Data>>⟧.places R.part_of R.columns) world.now }
-    requires spared { kills ≡ false → NoneGone
-        (plain_of (kinds_of ⟦<R::Value as SceneValue<R::Data>>⟧.places R.part_of R.columns) (seen_of world.now)) }
-    ensures ok { OnOk result (first_gone (R.book rules.now)
-        (plain_of (kinds_of ⟦<R::Value as SceneValue<R::Data>>⟧.places R.part_of R.columns) (seen_of world.now)) ≡
-        None) }
-    ensures refused { IfErr result (GoneIn (R.book rules.now)
-        (plain_of (kinds_of ⟦<R::Value as SceneValue<R::Data>>⟧.places R.part_of R.columns) (seen_of world.now))) }
+    requires may { MayAct (kinds_by R.Rules R.Value.SceneValue) world.now }
+    requires spared { kills ≡ false → NoneGone (scene_in R.Rules R.Value.SceneValue world.now) }
+    ensures ok { OnOk result
+        (first_gone (R.book rules.now) (scene_in R.Rules R.Value.SceneValue world.now) ≡ None) }
+    ensures refused { IfErr result (GoneIn (R.book rules.now) (scene_in R.Rules R.Value.SceneValue world.now)) }
 {
     if !kills {
         return Ok(());
@@ -209,30 +199,24 @@ fn act_out<R: Rules>(
 ) -> Result<(), FrameRefusal>
 where
     R::Value: Drop,
-    requires may { MayAct (kinds_of ⟦<R::Value as SceneValue<R::Data>>⟧.places R.part_of R.columns) world.old }
-    requires none { NoneGone (plain_of (kinds_of ⟦<R::Value as SceneValue<R::Data>>⟧.places R.part_of R.columns)
-        (seen_of world.old)) }
+    requires may { MayAct (kinds_by R.Rules R.Value.SceneValue) world.old }
+    requires none { NoneGone (scene_in R.Rules R.Value.SceneValue world.old) }
     requires ascend { PlacesAscend places.now }
     requires given { All (IsLawful (R.book rules.now)) (plain_commands R.part_of given.now) }
     requires lawful { All (λ queue. All (IsLawful (R.book rules.now)) (plain_commands R.part_of (waiting queue)))
         queues.items }
     requires room { length given.now + length (waiting_in R.part_of queues.items) ≤ 4294967295 }
-    ensures ran { OnOk result (RunsTo frame 1 (plain_commands R.part_of given.now ++ waiting_in R.part_of
-        queues.items)
-        (plain_of (kinds_of ⟦<R::Value as SceneValue<R::Data>>⟧.places R.part_of R.columns) (seen_of world.old))
-        (plain_of (kinds_of ⟦<R::Value as SceneValue<R::Data>>⟧.places R.part_of R.columns) (seen_of world.new))
-        skips.old.items skips.new.items) }
-    ensures may { OnOk result (MayAct
-        (kinds_of ⟦<R::Value as SceneValue<R::Data>>⟧.places R.part_of R.columns) world.new) }
-    ensures none_gone { OnOk result (first_gone (R.book rules.now)
-        (plain_of (kinds_of ⟦<R::Value as SceneValue<R::Data>>⟧.places R.part_of R.columns) (seen_of world.new)) ≡
-        None) }
-    ensures empty { OnOk result (NoneWaitsAt
-        (kinds_of ⟦<R::Value as SceneValue<R::Data>>⟧.places R.part_of R.columns) places.now (seen_of world.new)) }
-    ensures apart { OnOk result (StaysApart
-        (kinds_of ⟦<R::Value as SceneValue<R::Data>>⟧.places R.part_of R.columns) places.now world.old world.new) }
-    ensures refused { IfErr result (RefusesAll
-        (kinds_of ⟦<R::Value as SceneValue<R::Data>>⟧.places R.part_of R.columns) (R.book rules.now)
+    ensures ran { OnOk result (RunsTo frame 1 (plain_commands R.part_of given.now
+        ++ waiting_in R.part_of queues.items) (scene_in R.Rules R.Value.SceneValue world.old)
+        (scene_in R.Rules R.Value.SceneValue world.new) skips.old.items skips.new.items) }
+    ensures may { OnOk result (MayAct (kinds_by R.Rules R.Value.SceneValue) world.new) }
+    ensures none_gone { OnOk result
+        (first_gone (R.book rules.now) (scene_in R.Rules R.Value.SceneValue world.new) ≡ None) }
+    ensures empty { OnOk result
+        (NoneWaitsAt (kinds_by R.Rules R.Value.SceneValue) places.now (seen_of world.new)) }
+    ensures apart { OnOk result
+        (StaysApart (kinds_by R.Rules R.Value.SceneValue) places.now world.old world.new) }
+    ensures refused { IfErr result (RefusesAll (kinds_by R.Rules R.Value.SceneValue) (R.book rules.now)
         (plain_commands R.part_of given.now ++ waiting_in R.part_of queues.items) world.old) }
     ensures kept { (more : List Skip) × (skips.new.items ≡ skips.old.items ++ more) }
 {
@@ -271,33 +255,24 @@ pub fn run_commands<R: Rules>(
 ) -> Result<(), FrameRefusal>
 where
     R::Value: Drop,
-    requires may { MayAct (kinds_of ⟦<R::Value as SceneValue<R::Data>>⟧.places R.part_of R.columns) world.old }
-    requires none { NoneGone (plain_of (kinds_of ⟦<R::Value as SceneValue<R::Data>>⟧.places R.part_of R.columns)
-        (seen_of world.old)) }
+    requires may { MayAct (kinds_by R.Rules R.Value.SceneValue) world.old }
+    requires none { NoneGone (scene_in R.Rules R.Value.SceneValue world.old) }
     requires ascend { PlacesAscend places.now }
     requires given { All (IsLawful (R.book rules.now)) (plain_commands R.part_of given.now) }
     requires lawful { All (λ place. All (IsLawful (R.book rules.now))
-        (commands_of (kinds_of ⟦<R::Value as SceneValue<R::Data>>⟧.places R.part_of R.columns) (seen_of world.old)
-        place))
-        places.now }
+        (commands_of (kinds_by R.Rules R.Value.SceneValue) (seen_of world.old) place)) places.now }
     ensures accepted { OnOk result ((skipped : List ℕ) × CommandsAccepted (R.book rules.now) limit
-        (plain_commands R.part_of given.now ++ waiting_at
-        (kinds_of ⟦<R::Value as SceneValue<R::Data>>⟧.places R.part_of R.columns) places.now (seen_of world.old))
-        (plain_of (kinds_of ⟦<R::Value as SceneValue<R::Data>>⟧.places R.part_of R.columns) (seen_of world.old))
-        (plain_of (kinds_of ⟦<R::Value as SceneValue<R::Data>>⟧.places R.part_of R.columns) (seen_of world.new))
-        skipped
-        × (skips.new.items ≡ skips.old.items ++ skips_of frame skipped)) }
-    ensures may { OnOk result (MayAct
-        (kinds_of ⟦<R::Value as SceneValue<R::Data>>⟧.places R.part_of R.columns) world.new) }
-    ensures empty { OnOk result (NoneWaitsAt
-        (kinds_of ⟦<R::Value as SceneValue<R::Data>>⟧.places R.part_of R.columns) places.now (seen_of world.new)) }
-    ensures apart { OnOk result (StaysApart
-        (kinds_of ⟦<R::Value as SceneValue<R::Data>>⟧.places R.part_of R.columns) places.now world.old world.new) }
-    ensures refused { IfErr result (CommandsRefusedIn
-        (kinds_of ⟦<R::Value as SceneValue<R::Data>>⟧.places R.part_of R.columns) (R.book rules.now) limit
-        (plain_commands R.part_of given.now ++ waiting_at
-        (kinds_of ⟦<R::Value as SceneValue<R::Data>>⟧.places R.part_of R.columns) places.now (seen_of world.old))
-        (plain_of (kinds_of ⟦<R::Value as SceneValue<R::Data>>⟧.places R.part_of R.columns) (seen_of world.old))) }
+        (plain_commands R.part_of given.now ++ waiting_at (kinds_by R.Rules R.Value.SceneValue) places.now
+        (seen_of world.old)) (scene_in R.Rules R.Value.SceneValue world.old) (scene_in R.Rules
+        R.Value.SceneValue world.new) skipped × (skips.new.items ≡ skips.old.items ++ skips_of frame skipped)) }
+    ensures may { OnOk result (MayAct (kinds_by R.Rules R.Value.SceneValue) world.new) }
+    ensures empty { OnOk result
+        (NoneWaitsAt (kinds_by R.Rules R.Value.SceneValue) places.now (seen_of world.new)) }
+    ensures apart { OnOk result
+        (StaysApart (kinds_by R.Rules R.Value.SceneValue) places.now world.old world.new) }
+    ensures refused { IfErr result (CommandsRefusedIn (kinds_by R.Rules R.Value.SceneValue) (R.book rules.now)
+        limit (plain_commands R.part_of given.now ++ waiting_at (kinds_by R.Rules R.Value.SceneValue) places.now
+        (seen_of world.old)) (scene_in R.Rules R.Value.SceneValue world.old)) }
     ensures skips { OnErr result (skips.new.items ≡ skips.old.items) }
 {
     let Ok(queues) = take_queues::<R>(world, places, alloc) else {

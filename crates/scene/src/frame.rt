@@ -3,6 +3,7 @@ ghost use Rattle.std.specs.Prelude.{◌≡◌, ◌<◌, OnOk, OnErr, IfOk, Match
 ghost use Rattle.scene_model.specs.Parts.{Part};
 ghost use Rattle.scene_model.specs.Queues.{plain_commands};
 ghost use Rattle.scene_document.specs.Loading.{commands_at};
+ghost use Rattle.scene.specs.Members.{shown_by, IsReadyBy, IsOpenedBy, IsReadAndOpened, IsPlacedBy};
 
 use crate::advance::advance;
 use crate::keep_scene;
@@ -11,7 +12,7 @@ use scene_dispatch::SceneDispatcher;
 use scene_document::{JsonError, Limits, LoadError, read_json};
 use scene_model::{Command, DocRefusal, Report, Skips};
 use scene_snapshot::{KeptScene, kept_text};
-use scene_world::{Rules, SceneValue};
+use scene_world::Rules;
 use serde_json::Value;
 use shred_world::World;
 use std::alloc::{AllocError, Global};
@@ -64,9 +65,7 @@ where
     ghost use Rattle.scene.specs.Outcomes.{IsNoDocument, bounds_of};
     ghost use Rattle.scene_document.specs.Loading.{IsNotLoaded};
     ghost use Rattle.scene_document.specs.Texts.{scene_json, text_of, ReadsBack};
-    ghost use Rattle.scene_world.specs.Places.{kinds_of};
-    ghost use Rattle.scene_world.specs.Turns.{placed_as};
-    ghost use Rattle.scene.specs.Running.{shown_of, rules_of, IsReady, IsPlaced, IsOpened, IsOpenedFrom};
+    ghost use Rattle.scene.specs.Running.{rules_of};
     ghost use Rattle.scene_model.specs.Parts.{Json};
     ghost use Rattle.scene_document.specs.declared.loaded.LoadError.TheVariants.{Memory};
 
@@ -81,10 +80,7 @@ where
         bytes: &[u8],
     ) -> Result<Scene<R>, LoadError>
         requires { AreLimits limits }
-        ensures { MatchResult result (IsOpenedFrom (kinds_of ⟦<R::Value as SceneValue<R::Data>>⟧.places R.part_of
-            R.columns) R.part_of R.global_of
-            (placed_as (λ placed. placed.position)
-            (λ placed. placed.system) R.kind_of R.config_of R.declared R.sense R.does) R.book rules limits bytes.now)
+        ensures { MatchResult result (IsReadAndOpened R.Rules R.Value.SceneValue rules limits bytes.now)
             (IsNoDocument (R.book rules) (bounds_of limits) bytes.now) }
     {
         let value = match read_json(alloc, bytes) {
@@ -92,7 +88,7 @@ where
             Err(JsonError::Unreadable) => return Err(LoadError::Document(DocRefusal::Unreadable)),
             Err(JsonError::Memory) => return Err(LoadError::Memory),
         };
-        Scene::load_out_of(alloc, rules, limits, value)
+        Scene::load_owned(alloc, rules, limits, value)
     }
 
     /// The scene of a document that was read as JSON, before any frame.
@@ -106,11 +102,7 @@ where
         value: &Value,
     ) -> Result<Scene<R>, LoadError>
         requires { AreLimits limits }
-        ensures { MatchResult result (IsOpened (kinds_of ⟦<R::Value as SceneValue<R::Data>>⟧.places R.part_of
-            R.columns) R.part_of R.global_of
-            (placed_as (λ placed. placed.position)
-            (λ placed. placed.system) R.kind_of R.config_of R.declared R.sense R.does) R.book rules limits (view
-            value.now))
+        ensures { MatchResult result (IsOpenedBy R.Rules R.Value.SceneValue rules limits (view value.now))
             (IsNotLoaded (R.book rules) limits.indices (view value.now)) }
     {
         let prepared = match prepare_document(alloc, &rules, limits, value) {
@@ -128,18 +120,14 @@ where
     /// was read, before a world is filled with what it says.
     ///
     /// Errors: those of `load`.
-    pub fn load_out_of(
+    pub fn load_owned(
         alloc: Global,
         rules: R,
         limits: Limits,
         value: Value,
     ) -> Result<Scene<R>, LoadError>
         requires { AreLimits limits }
-        ensures { MatchResult result (IsOpened (kinds_of ⟦<R::Value as SceneValue<R::Data>>⟧.places R.part_of
-            R.columns) R.part_of R.global_of
-            (placed_as (λ placed. placed.position)
-            (λ placed. placed.system) R.kind_of R.config_of R.declared R.sense R.does) R.book rules limits (view
-            value))
+        ensures { MatchResult result (IsOpenedBy R.Rules R.Value.SceneValue rules limits (view value))
             (IsNotLoaded (R.book rules) limits.indices (view value)) }
     {
         let prepared = match prepare_document(alloc, &rules, limits, &value) {
@@ -162,20 +150,10 @@ where
         opened: Opened<R>,
     ) -> Result<Scene<R>, LoadError>
         requires limits { AreLimits limits }
-        requires placed { (json : Json) × IsPlaced (kinds_of
-            ⟦<R::Value as SceneValue<R::Data>>⟧.places R.part_of R.columns) R.part_of
-            (placed_as (λ placed. placed.position)
-            (λ placed. placed.system) R.kind_of R.config_of R.declared R.sense R.does) (R.book rules) limits json
-            opened }
-        ensures { MatchResult result (λ scene. (json : Json) → IsPlaced (kinds_of
-            ⟦<R::Value as SceneValue<R::Data>>⟧.places R.part_of R.columns) R.part_of
-            (placed_as (λ placed. placed.position)
-            (λ placed. placed.system) R.kind_of R.config_of R.declared R.sense R.does) (R.book rules) limits json
-            opened → IsOpened (kinds_of ⟦<R::Value as SceneValue<R::Data>>⟧.places R.part_of
-            R.columns) R.part_of R.global_of
-            (placed_as (λ placed. placed.position)
-            (λ placed. placed.system) R.kind_of R.config_of R.declared R.sense R.does) R.book rules limits json scene)
-            (λ error. error ≡ Memory) }
+        requires placed { (json : Json) × IsPlacedBy R.Rules R.Value.SceneValue rules limits json opened }
+        ensures { MatchResult result
+            (λ scene. (json : Json) → IsPlacedBy R.Rules R.Value.SceneValue rules limits json opened
+            → IsOpenedBy R.Rules R.Value.SceneValue rules limits json scene) (λ error. error ≡ Memory) }
     {
         let Opened {
             world,
@@ -210,10 +188,7 @@ where
 
     /// The frames asked for and not yet accepted.
     pub fn left(&self) -> u32
-        ensures { result ≡ frames_left (shown_of (kinds_of ⟦<R::Value as SceneValue<R::Data>>⟧.places R.part_of
-            R.columns) R.part_of R.global_of
-            (placed_as (λ placed. placed.position)
-            (λ placed. placed.system) R.kind_of R.config_of R.declared R.sense R.does) R.book self.now) }
+        ensures { result ≡ frames_left (shown_by R.Rules R.Value.SceneValue self.now) }
     {
         self.asked.saturating_sub(self.report.frames)
     }
@@ -222,45 +197,31 @@ where
     ///
     /// Errors: want of memory.
     pub fn snapshot(&self, alloc: Global) -> Result<Vec<u8>, AllocError>
-        ensures text { IfOk result (λ text. text.items ≡ text_of (R.book (rules_of self.now)) (shown_of (kinds_of
-            ⟦<R::Value as SceneValue<R::Data>>⟧.places R.part_of R.columns) R.part_of R.global_of
-            (placed_as (λ placed. placed.position)
-            (λ placed. placed.system) R.kind_of R.config_of R.declared R.sense R.does) R.book self.now).scene) }
+        ensures text { IfOk result (λ text. text.items ≡ text_of (R.book (rules_of self.now))
+            (shown_by R.Rules R.Value.SceneValue self.now).scene) }
         ensures reads { IfOk result (λ text. ReadsBack text.items
-            (scene_json (R.book (rules_of self.now)) (shown_of (kinds_of ⟦<R::Value as SceneValue<R::Data>>⟧.places
-            R.part_of R.columns) R.part_of R.global_of
-            (placed_as (λ placed. placed.position)
-            (λ placed. placed.system) R.kind_of R.config_of R.declared R.sense R.does) R.book self.now).scene)) }
+            (scene_json (R.book (rules_of self.now)) (shown_by R.Rules R.Value.SceneValue self.now).scene)) }
     {
         kept_text(alloc, &self.rules, &self.kept)
     }
 
     /// The next id of the last accepted scene.
     pub fn next(&self) -> u64
-        ensures { result ≡ (shown_of (kinds_of ⟦<R::Value as SceneValue<R::Data>>⟧.places R.part_of R.columns)
-            R.part_of R.global_of
-            (placed_as (λ placed. placed.position)
-            (λ placed. placed.system) R.kind_of R.config_of R.declared R.sense R.does) R.book self.now).scene.next }
+        ensures { result ≡ (shown_by R.Rules R.Value.SceneValue self.now).scene.next }
     {
         self.kept.living.next()
     }
 
     /// How far the scene has come: accepted frames, skipped commands, and the refusal if there is one.
     pub fn report(&self) -> &Report
-        ensures { result.now ≡ (shown_of (kinds_of ⟦<R::Value as SceneValue<R::Data>>⟧.places R.part_of R.columns)
-            R.part_of R.global_of
-            (placed_as (λ placed. placed.position)
-            (λ placed. placed.system) R.kind_of R.config_of R.declared R.sense R.does) R.book self.now).report }
+        ensures { result.now ≡ (shown_by R.Rules R.Value.SceneValue self.now).report }
     {
         &self.report
     }
 
     /// The report, for whom the scene has ended.
     pub fn into_report(self) -> Report
-        ensures { result ≡ (shown_of (kinds_of ⟦<R::Value as SceneValue<R::Data>>⟧.places R.part_of R.columns)
-            R.part_of R.global_of
-            (placed_as (λ placed. placed.position)
-            (λ placed. placed.system) R.kind_of R.config_of R.declared R.sense R.does) R.book self).report }
+        ensures { result ≡ (shown_by R.Rules R.Value.SceneValue self).report }
     {
         let Scene { report: told, .. } = self;
         told
@@ -269,10 +230,7 @@ where
     /// The rules and the report, for whom the scene has ended.
     pub fn into_parts(self) -> (R, Report)
         ensures rules { result.0 ≡ rules_of self }
-        ensures report { result.1 ≡ (shown_of (kinds_of ⟦<R::Value as SceneValue<R::Data>>⟧.places R.part_of
-            R.columns) R.part_of R.global_of
-            (placed_as (λ placed. placed.position)
-            (λ placed. placed.system) R.kind_of R.config_of R.declared R.sense R.does) R.book self).report }
+        ensures report { result.1 ≡ (shown_by R.Rules R.Value.SceneValue self).report }
     {
         let Scene {
             rules: kept,
@@ -291,9 +249,7 @@ where
     R::System: Send + Sync,
 {
     ghost use Rattle.scene.specs.Turns.{Advances, Stays, frames_left};
-    ghost use Rattle.scene_world.specs.Places.{kinds_of};
-    ghost use Rattle.scene_world.specs.Turns.{placed_as};
-    ghost use Rattle.scene.specs.Running.{shown_of, rules_of, IsReady};
+    ghost use Rattle.scene.specs.Running.{rules_of};
 
     /// Runs the next frame: its systems on the dispatcher, then its commands.
     ///
@@ -306,33 +262,14 @@ where
         &mut self,
         rt: &H,
     ) -> Result<(), Refused>
-        requires ready { IsReady (kinds_of ⟦<R::Value as SceneValue<R::Data>>⟧.places R.part_of R.columns) R.part_of
-            R.global_of
-            (placed_as (λ placed. placed.position)
-            (λ placed. placed.system) R.kind_of R.config_of R.declared R.sense R.does) R.book self.old }
-        requires left { 0 < frames_left (shown_of (kinds_of ⟦<R::Value as SceneValue<R::Data>>⟧.places R.part_of
-            R.columns) R.part_of R.global_of
-            (placed_as (λ placed. placed.position)
-            (λ placed. placed.system) R.kind_of R.config_of R.declared R.sense R.does) R.book self.old) }
+        requires ready { IsReadyBy R.Rules R.Value.SceneValue self.old }
+        requires left { 0 < frames_left (shown_by R.Rules R.Value.SceneValue self.old) }
         ensures rules { rules_of self.new ≡ rules_of self.old }
-        ensures ready { IsReady (kinds_of ⟦<R::Value as SceneValue<R::Data>>⟧.places R.part_of R.columns) R.part_of
-            R.global_of
-            (placed_as (λ placed. placed.position)
-            (λ placed. placed.system) R.kind_of R.config_of R.declared R.sense R.does) R.book self.new }
+        ensures ready { IsReadyBy R.Rules R.Value.SceneValue self.new }
         ensures ok { OnOk result (Advances (R.book (rules_of self.old))
-            (shown_of (kinds_of ⟦<R::Value as SceneValue<R::Data>>⟧.places R.part_of R.columns) R.part_of R.global_of
-            (placed_as (λ placed. placed.position)
-            (λ placed. placed.system) R.kind_of R.config_of R.declared R.sense R.does) R.book self.old) (shown_of
-            (kinds_of ⟦<R::Value as SceneValue<R::Data>>⟧.places R.part_of R.columns) R.part_of R.global_of
-            (placed_as (λ placed. placed.position)
-            (λ placed. placed.system) R.kind_of R.config_of R.declared R.sense R.does) R.book self.new)) }
+            (shown_by R.Rules R.Value.SceneValue self.old) (shown_by R.Rules R.Value.SceneValue self.new)) }
         ensures err { OnErr result (Stays (R.book (rules_of self.old))
-            (shown_of (kinds_of ⟦<R::Value as SceneValue<R::Data>>⟧.places R.part_of R.columns) R.part_of R.global_of
-            (placed_as (λ placed. placed.position)
-            (λ placed. placed.system) R.kind_of R.config_of R.declared R.sense R.does) R.book self.old) (shown_of
-            (kinds_of ⟦<R::Value as SceneValue<R::Data>>⟧.places R.part_of R.columns) R.part_of R.global_of
-            (placed_as (λ placed. placed.position)
-            (λ placed. placed.system) R.kind_of R.config_of R.declared R.sense R.does) R.book self.new)) }
+            (shown_by R.Rules R.Value.SceneValue self.old) (shown_by R.Rules R.Value.SceneValue self.new)) }
     {
         if self.report.refused.is_some() {
             return Err(Refused);

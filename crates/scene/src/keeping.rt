@@ -2,15 +2,16 @@
 ghost use Rattle.std.specs.Prelude.{◌≡◌, true, IfOk};
 ghost use Rattle.scene_model.specs.Parts.{is_among};
 ghost use Rattle.scene_model.specs.Declaring.{texts};
-ghost use Rattle.scene_world.specs.Standing.{roll_of, plain_of, IsSceneWorld};
-ghost use Rattle.scene_world.specs.Places.{kinds_of};
+ghost use Rattle.scene_world.specs.Standing.{roll_of, IsSceneWorld};
+ghost use Rattle.scene_world.specs.Members.{kinds_by};
 ghost use Rattle.scene_commands.specs.Acts.{seen_of};
+ghost use Rattle.scene_commands.specs.Members.{scene_in};
 ghost use Rattle.scene_snapshot.specs.KeptScenes.{kept_scene};
 ghost use Rattle.scene.specs.Taken.{ArePairs, HasIdsOf, IsColumnOf, AreColumnsOf};
 
 use crate::taking::{data_at, globals_in, next_in, pairs_in};
 use scene_snapshot::{ByPlace, Kept, KeptScene};
-use scene_world::{Rules, SceneValue};
+use scene_world::Rules;
 use shred_world::World;
 use std::alloc::{AllocError, Global};
 
@@ -24,11 +25,9 @@ pub fn keep_scene<R: Rules>(
     world: &World<R::Value>,
     alloc: Global,
 ) -> Result<KeptScene<R::Data, Vec<Option<R::Global>>>, AllocError>
-    requires stands { IsSceneWorld (kinds_of ⟦<R::Value as SceneValue<R::Data>>⟧.places R.part_of R.columns)
-        (R.book rules.now) (seen_of world.now) }
-    ensures { IfOk result (λ kept. kept_scene R.part_of R.global_of
-        ⟦<Vec<Option<R::Global>> as ByPlace<R::Global>>⟧.at_place (R.book rules.now) kept
-        ≡ plain_of (kinds_of ⟦<R::Value as SceneValue<R::Data>>⟧.places R.part_of R.columns) (seen_of world.now)) }
+    requires stands { IsSceneWorld (kinds_by R.Rules R.Value.SceneValue) (R.book rules.now)
+        (seen_of world.now) }
+    ensures { IfOk result (λ kept. kept_scene R.part_of R.global_of ⟦<Vec<Option<R::Global>> as ByPlace<R::Global>>⟧.at_place (R.book rules.now) kept ≡ scene_in R.Rules R.Value.SceneValue world.now) }
 {
     let globals = globals_in::<R>(world, rules.global_names(), alloc)?;
     let next = next_in::<R>(world)?;
@@ -49,14 +48,12 @@ fn keep_ids<R: Rules, G: Drop>(
     globals: G,
     alloc: Global,
 ) -> Result<Kept<(), G>, AllocError>
-    requires stands { IsSceneWorld (kinds_of ⟦<R::Value as SceneValue<R::Data>>⟧.places R.part_of R.columns)
-        (R.book rules.now) (seen_of world.now) }
-    requires pairs { ArePairs (roll_of (kinds_of ⟦<R::Value as SceneValue<R::Data>>⟧.places R.part_of R.columns)
-        (seen_of world.now)) pairs.now }
+    requires stands { IsSceneWorld (kinds_by R.Rules R.Value.SceneValue) (R.book rules.now)
+        (seen_of world.now) }
+    requires pairs { ArePairs (roll_of (kinds_by R.Rules R.Value.SceneValue) (seen_of world.now)) pairs.now }
     ensures next { IfOk result (λ kept. kept.next ≡ next) }
     ensures globals { IfOk result (λ kept. kept.globals ≡ globals) }
-    ensures ids { IfOk result (HasIdsOf (roll_of (kinds_of ⟦<R::Value as SceneValue<R::Data>>⟧.places R.part_of
-        R.columns) (seen_of world.now))) }
+    ensures ids { IfOk result (HasIdsOf (roll_of (kinds_by R.Rules R.Value.SceneValue) (seen_of world.now))) }
 {
     let mut slots = Vec::with_capacity(alloc, pairs.len())?;
     for pair in pairs {
@@ -73,13 +70,12 @@ fn keep_columns<R: Rules>(
     pairs: &[(u64, u32)],
     alloc: Global,
 ) -> Result<Vec<Kept<R::Data, ()>>, AllocError>
-    requires stands { IsSceneWorld (kinds_of ⟦<R::Value as SceneValue<R::Data>>⟧.places R.part_of R.columns)
-        (R.book rules.now) (seen_of world.now) }
+    requires stands { IsSceneWorld (kinds_by R.Rules R.Value.SceneValue) (R.book rules.now)
+        (seen_of world.now) }
     requires known { texts names.now ≡ (R.book rules.now).part_names }
-    requires pairs { ArePairs (roll_of (kinds_of ⟦<R::Value as SceneValue<R::Data>>⟧.places R.part_of R.columns)
-        (seen_of world.now)) pairs.now }
-    ensures { IfOk result (λ columns. AreColumnsOf (kinds_of ⟦<R::Value as SceneValue<R::Data>>⟧.places R.part_of
-        R.columns) R.part_of (seen_of world.now) (texts names.now) columns.items) }
+    requires pairs { ArePairs (roll_of (kinds_by R.Rules R.Value.SceneValue) (seen_of world.now)) pairs.now }
+    ensures { IfOk result (λ columns. AreColumnsOf (kinds_by R.Rules R.Value.SceneValue) R.part_of
+        (seen_of world.now) (texts names.now) columns.items) }
 {
     let mut columns = Vec::with_capacity(alloc, names.len())?;
     for kind in names {
@@ -98,13 +94,12 @@ fn keep_column<R: Rules>(
     pairs: &[(u64, u32)],
     alloc: Global,
 ) -> Result<Kept<R::Data, ()>, AllocError>
-    requires stands { IsSceneWorld (kinds_of ⟦<R::Value as SceneValue<R::Data>>⟧.places R.part_of R.columns)
-        (R.book rules.now) (seen_of world.now) }
+    requires stands { IsSceneWorld (kinds_by R.Rules R.Value.SceneValue) (R.book rules.now)
+        (seen_of world.now) }
     requires known { is_among kind.now R.columns.part_names ≡ true }
-    requires pairs { ArePairs (roll_of (kinds_of ⟦<R::Value as SceneValue<R::Data>>⟧.places R.part_of R.columns)
-        (seen_of world.now)) pairs.now }
-    ensures { IfOk result (IsColumnOf (kinds_of ⟦<R::Value as SceneValue<R::Data>>⟧.places R.part_of R.columns)
-        R.part_of (seen_of world.now) kind.now) }
+    requires pairs { ArePairs (roll_of (kinds_by R.Rules R.Value.SceneValue) (seen_of world.now)) pairs.now }
+    ensures { IfOk result
+        (IsColumnOf (kinds_by R.Rules R.Value.SceneValue) R.part_of (seen_of world.now) kind.now) }
 {
     let Some(value) = world.get_raw(R::part_id(kind)) else {
         return Ok(Kept::new(alloc, 0, ()));

@@ -26,8 +26,8 @@ pub use running::run_frame;
 pub use scene_devices::{Counted, CountedRead, CountedWrite, Faults};
 pub use scene_document::{Limits, LoadError};
 pub use scene_model::{
-    Accessor, Command, DocRefusal, DocumentRules, FrameRefusal, NotQueued, Queue, ReadError,
-    Report, RunningTime, Skip, Skips, Text,
+    Command, DocRefusal, DocumentRules, FrameRefusal, NotQueued, Queue, ReadError, Report,
+    RunningTime, Skip, Skips, SystemAccess, Text,
 };
 pub use scene_world::{
     AnyStore, QueueValue, Rules, SceneMarker, SceneMarkerAllocator, SceneStorage, SceneValue, Store,

@@ -9,20 +9,22 @@ ghost use Rattle.scene_document.specs.Documents.{refusal_of};
 ghost use Rattle.scene_document.specs.declared.loaded.LoadError.TheVariants.{Memory};
 ghost use Rattle.scene_document.specs.Openings.{first_scene, frames_of, all_systems};
 ghost use Rattle.scene_document.specs.Loading.{commands_at, IsNotLoaded};
-ghost use Rattle.scene_world.specs.Standing.{plain_of, IsSceneWorld};
+ghost use Rattle.scene_world.specs.Standing.{IsSceneWorld};
 ghost use Rattle.scene_commands.specs.Acts.{seen_of};
-ghost use Rattle.scene_world.specs.Places.{kinds_of};
-ghost use Rattle.scene_world.specs.Turns.{placed_as, IsOfBook};
+ghost use Rattle.scene_commands.specs.Members.{scene_in};
+ghost use Rattle.scene_world.specs.Turns.{IsOfBook};
+ghost use Rattle.scene_world.specs.Members.{kinds_by, placed_by};
 ghost use Rattle.scene_dispatch.specs.Orders.{turn_order};
 ghost use Rattle.scene.specs.Waiting.{NoneWaits};
 ghost use Rattle.scene.specs.Limits.{AreLimits};
-ghost use Rattle.scene.specs.Running.{IsUnrefused, IsOpenable, IsAlone, course_of, IsPrepared, IsPlaced};
+ghost use Rattle.scene.specs.Running.{IsUnrefused, IsOpenable, IsAlone, course_of};
+ghost use Rattle.scene.specs.Members.{IsPlacedBy, IsPreparedBy};
 
 use scene_commands::load_world;
 use scene_dispatch::{SceneDispatcher, open_queues, places_of_systems, stage_systems};
 use scene_document::{DocumentDraft, Limits, LoadError, commands_of, read_document};
 use scene_model::Command;
-use scene_world::{Rules, SceneValue, Store};
+use scene_world::{Rules, Store};
 use serde_json::Value;
 use shred_world::World;
 use std::alloc::{AllocError, Global};
@@ -78,15 +80,12 @@ where
     R::Value: Drop,
     requires limits { AreLimits limits }
     requires document { IsOpenable R.part_of R.global_of R.kind_of R.config_of (R.book rules.now) draft.now }
-    ensures stands { IfOk result (λ world. IsSceneWorld (kinds_of ⟦<R::Value as SceneValue<R::Data>>⟧.places
-        R.part_of R.columns) (R.book rules.now) (seen_of world)) }
-    ensures none { IfOk result (λ world. NoneWaits (kinds_of ⟦<R::Value as SceneValue<R::Data>>⟧.places R.part_of
-        R.columns) (seen_of world)) }
+    ensures stands { IfOk result (λ world. IsSceneWorld (kinds_by R.Rules R.Value.SceneValue) (R.book rules.now)
+        (seen_of world)) }
+    ensures none { IfOk result (λ world. NoneWaits (kinds_by R.Rules R.Value.SceneValue) (seen_of world)) }
     ensures scene { IfOk result (λ world. (plain : Draft) → (indices : ℕ)
         → IsDraft R.part_of R.global_of R.kind_of R.config_of (R.book rules.now) plain draft.now
-        → refusal_of indices plain ≡ None
-        → plain_of (kinds_of ⟦<R::Value as SceneValue<R::Data>>⟧.places R.part_of R.columns) (seen_of world)
-        ≡ first_scene plain) }
+        → refusal_of indices plain ≡ None → scene_in R.Rules R.Value.SceneValue world ≡ first_scene plain) }
 {
     let mut world = load_world(
         rules,
@@ -111,10 +110,7 @@ pub(crate) fn prepare_document<R: Rules>(
 ) -> Result<Prepared<R>, LoadError>
 where
     R::Value: Drop,
-    ensures { MatchResult result (IsPrepared R.part_of R.global_of R.kind_of R.config_of
-        (placed_as (λ placed. placed.position)
-        (λ placed. placed.system) R.kind_of R.config_of R.declared R.sense R.does) (R.book rules.now) limits
-        (view value.now))
+    ensures { MatchResult result (IsPreparedBy R.Rules rules.now limits (view value.now))
         (IsNotLoaded (R.book rules.now) limits.indices (view value.now)) }
 {
     let draft = match read_document(alloc, rules, limits, value) {
@@ -146,18 +142,9 @@ pub(crate) fn place_document<R: Rules>(
 where
     R::Value: Drop,
     requires limits { AreLimits limits }
-    requires prepared { (json : Json) × IsPrepared R.part_of R.global_of R.kind_of R.config_of
-        (placed_as (λ placed. placed.position)
-        (λ placed. placed.system) R.kind_of R.config_of R.declared R.sense R.does) (R.book rules.now) limits json
-        prepared }
-    ensures { MatchResult result (λ opened. (json : Json) → IsPrepared R.part_of R.global_of R.kind_of R.config_of
-        (placed_as (λ placed. placed.position)
-        (λ placed. placed.system) R.kind_of R.config_of R.declared R.sense R.does) (R.book rules.now) limits json
-        prepared → IsPlaced (kinds_of ⟦<R::Value as SceneValue<R::Data>>⟧.places R.part_of R.columns) R.part_of
-        (placed_as (λ placed. placed.position)
-        (λ placed. placed.system) R.kind_of R.config_of R.declared R.sense R.does) (R.book rules.now) limits json
-        opened)
-        (λ error. error ≡ Memory) }
+    requires prepared { (json : Json) × IsPreparedBy R.Rules rules.now limits json prepared }
+    ensures { MatchResult result (λ opened. (json : Json) → IsPreparedBy R.Rules rules.now limits json prepared
+        → IsPlacedBy R.Rules R.Value.SceneValue rules.now limits json opened) (λ error. error ≡ Memory) }
 {
     let Prepared {
         draft,
@@ -191,21 +178,15 @@ where
     R::Value: Drop,
     requires document { IsUnrefused R.part_of R.global_of R.kind_of R.config_of
         R.declared R.said_time (R.made_by rules.now) (R.book rules.now) draft }
-    ensures frames { IfOk result (λ drawn. (plain : Draft) → (frame : ℕ)
-        → IsDraft R.part_of R.global_of R.kind_of R.config_of (R.book rules.now) plain draft.entry
-        → frames_of plain frame ≡ course_of R.part_of (turn_order (placed_as (λ placed. placed.position) (λ placed.
-        placed.system)
-        R.kind_of R.config_of R.declared R.sense R.does).plain drawn.0.dispatcher) drawn.0.commands.items
-        frame) }
+    ensures frames { IfOk result (λ drawn. (plain : Draft) → (frame : ℕ) → IsDraft R.part_of R.global_of
+        R.kind_of R.config_of (R.book rules.now) plain draft.entry → frames_of plain frame ≡ course_of R.part_of
+        (turn_order (placed_by R.Rules).plain drawn.0.dispatcher) drawn.0.commands.items frame) }
     ensures lawful { IfOk result (λ drawn. (frame : ℕ)
         → All (IsLawful (R.book rules.now)) (commands_at R.part_of drawn.0.commands.items frame)) }
-    ensures staged { IfOk result (λ drawn. All (IsOfBook (placed_as (λ placed. placed.position) (λ placed.
-        placed.system)
-        R.kind_of R.config_of R.declared R.sense R.does) (R.book rules.now))
-        drawn.0.dispatcher.staging.systems) }
-    ensures locals { IfOk result (λ drawn. All (IsOfBook (placed_as (λ placed. placed.position) (λ placed.
-        placed.system)
-        R.kind_of R.config_of R.declared R.sense R.does) (R.book rules.now)) drawn.0.dispatcher.locals) }
+    ensures staged { IfOk result
+        (λ drawn. All (IsOfBook (placed_by R.Rules) (R.book rules.now)) drawn.0.dispatcher.staging.systems) }
+    ensures locals { IfOk result
+        (λ drawn. All (IsOfBook (placed_by R.Rules) (R.book rules.now)) drawn.0.dispatcher.locals) }
     ensures alone { IfOk result (λ drawn. IsAlone draft.entry drawn.1) }
     ensures asked { IfOk result (λ drawn. drawn.0.asked ≡ draft.entry.frames) }
 {

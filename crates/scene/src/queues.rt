@@ -2,7 +2,7 @@
 ghost use Rattle.std.specs.Prelude.{◌≡◌, [], ◌∷◌, map, IfOk, OnOk};
 ghost use Rattle.scene_model.specs.Queues.{plain_commands, waiting};
 ghost use Rattle.scene_world.specs.Standing.{commands_of};
-ghost use Rattle.scene_world.specs.Places.{kinds_of};
+ghost use Rattle.scene_world.specs.Members.{kinds_by};
 ghost use Rattle.scene_commands.specs.Acts.{seen_of};
 ghost use Rattle.scene.specs.Waiting.{PlacesAscend, NoneWaitsAt, StaysBeside};
 
@@ -16,12 +16,10 @@ fn take_queue<R: Rules>(
     world: &mut World<R::Value>,
     place: u32,
 ) -> Result<Queue<R::Data>, AllocError>
-    ensures queue { IfOk result (λ queue. plain_commands R.part_of (waiting queue)
-        ≡ commands_of (kinds_of ⟦<R::Value as SceneValue<R::Data>>⟧.places R.part_of R.columns) (seen_of world.old)
-        place) }
-    ensures beside { OnOk result (StaysBeside (kinds_of ⟦<R::Value as SceneValue<R::Data>>⟧.places R.part_of
-        R.columns)
-        (place ∷ []) world.old world.new) }
+    ensures queue { IfOk result (λ queue. plain_commands R.part_of (waiting queue) ≡ commands_of
+        (kinds_by R.Rules R.Value.SceneValue) (seen_of world.old) place) }
+    ensures beside { OnOk result
+        (StaysBeside (kinds_by R.Rules R.Value.SceneValue) (place ∷ []) world.old world.new) }
 {
     let id = <R::Value as SceneValue<R::Data>>::queue_id(place);
     let Some(value) = world.take_raw(id) else {
@@ -46,11 +44,9 @@ pub(crate) fn take_queues<R: Rules>(
 ) -> Result<Vec<Queue<R::Data>>, AllocError>
     requires ascend { PlacesAscend places.now }
     ensures queues { IfOk result (λ queues. map (λ queue. plain_commands R.part_of (waiting queue)) queues.items
-        ≡ map (commands_of (kinds_of ⟦<R::Value as SceneValue<R::Data>>⟧.places R.part_of R.columns)
-        (seen_of world.old)) places.now) }
-    ensures beside { OnOk result (StaysBeside (kinds_of ⟦<R::Value as SceneValue<R::Data>>⟧.places R.part_of
-        R.columns)
-        places.now world.old world.new) }
+        ≡ map (commands_of (kinds_by R.Rules R.Value.SceneValue) (seen_of world.old)) places.now) }
+    ensures beside { OnOk result
+        (StaysBeside (kinds_by R.Rules R.Value.SceneValue) places.now world.old world.new) }
 {
     let mut queues = Vec::new(alloc);
     for place in places {
@@ -68,11 +64,10 @@ fn put_queue<R: Rules>(
 ) -> Result<(), AllocError>
 where
     R::Value: Drop,
-    ensures empty { OnOk result (commands_of
-        (kinds_of ⟦<R::Value as SceneValue<R::Data>>⟧.places R.part_of R.columns) (seen_of world.new) place ≡ []) }
-    ensures beside { OnOk result (StaysBeside (kinds_of ⟦<R::Value as SceneValue<R::Data>>⟧.places R.part_of
-        R.columns)
-        (place ∷ []) world.old world.new) }
+    ensures empty { OnOk result
+        (commands_of (kinds_by R.Rules R.Value.SceneValue) (seen_of world.new) place ≡ []) }
+    ensures beside { OnOk result
+        (StaysBeside (kinds_by R.Rules R.Value.SceneValue) (place ∷ []) world.old world.new) }
 {
     queue.clear();
     let id = <R::Value as SceneValue<R::Data>>::queue_id(place);
@@ -103,11 +98,10 @@ pub(crate) fn put_queues<R: Rules>(
 where
     R::Value: Drop,
     requires ascend { PlacesAscend places.now }
-    ensures empty { OnOk result (NoneWaitsAt
-        (kinds_of ⟦<R::Value as SceneValue<R::Data>>⟧.places R.part_of R.columns) places.now (seen_of world.new)) }
-    ensures beside { OnOk result (StaysBeside (kinds_of ⟦<R::Value as SceneValue<R::Data>>⟧.places R.part_of
-        R.columns)
-        places.now world.old world.new) }
+    ensures empty { OnOk result
+        (NoneWaitsAt (kinds_by R.Rules R.Value.SceneValue) places.now (seen_of world.new)) }
+    ensures beside { OnOk result
+        (StaysBeside (kinds_by R.Rules R.Value.SceneValue) places.now world.old world.new) }
 {
     queues.reverse();
     for place in places {

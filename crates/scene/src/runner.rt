@@ -3,15 +3,14 @@ ghost use Rattle.std.specs.Prelude.{◌≡◌, MatchResult};
 ghost use Rattle.scene.specs.Limits.{AreLimits};
 ghost use Rattle.scene.specs.Turns.{RunsOut, nothing_yet};
 ghost use Rattle.scene.specs.Outcomes.{IsRunOf, IsNoDocument, RunsDocument, reading, writing, bounds_of, full_bounds};
-ghost use Rattle.scene_world.specs.Places.{kinds_of};
-ghost use Rattle.scene_world.specs.Turns.{placed_as};
-ghost use Rattle.scene.specs.Running.{shown_of, rules_of, IsReady};
+ghost use Rattle.scene.specs.Running.{rules_of};
+ghost use Rattle.scene.specs.Members.{shown_by, IsReadyBy};
 
 use crate::frame::Scene;
-use scene_devices::{CountedRead, CountedWrite, ReadFailure, read_document, write_text};
+use scene_devices::{CountedRead, CountedWrite, ReadFailure, read_bytes, write_text};
 use scene_document::{JsonError, Limits, LoadError, read_json};
 use scene_model::{DocRefusal, Report};
-use scene_world::{Rules, SceneValue};
+use scene_world::Rules;
 use std::sync::Wait;
 use std::thread::Threads;
 
@@ -54,7 +53,7 @@ where
         Err(JsonError::Memory) => return Err(LoadError::Memory),
     };
     drop(bytes);
-    let mut scene = match Scene::load_out_of(rt.alloc(), rules, limits, value) {
+    let mut scene = match Scene::load_owned(rt.alloc(), rules, limits, value) {
         Ok(scene) => scene,
         Err(error) => return Err(error),
     };
@@ -78,27 +77,12 @@ where
     R::Data: Send + Sync,
     R::Global: Send + Sync,
     R::System: Send + Sync,
-    requires ready { IsReady (kinds_of ⟦<R::Value as SceneValue<R::Data>>⟧.places R.part_of R.columns) R.part_of
-        R.global_of
-        (placed_as (λ placed. placed.position)
-        (λ placed. placed.system) R.kind_of R.config_of R.declared R.sense R.does) R.book scene.old }
-    requires start { (shown_of (kinds_of ⟦<R::Value as SceneValue<R::Data>>⟧.places R.part_of R.columns) R.part_of
-        R.global_of
-        (placed_as (λ placed. placed.position)
-        (λ placed. placed.system) R.kind_of R.config_of R.declared R.sense R.does) R.book scene.old).report ≡
-        nothing_yet }
+    requires ready { IsReadyBy R.Rules R.Value.SceneValue scene.old }
+    requires start { (shown_by R.Rules R.Value.SceneValue scene.old).report ≡ nothing_yet }
     ensures rules { rules_of scene.new ≡ rules_of scene.old }
-    ensures ready { IsReady (kinds_of ⟦<R::Value as SceneValue<R::Data>>⟧.places R.part_of R.columns) R.part_of
-        R.global_of
-        (placed_as (λ placed. placed.position)
-        (λ placed. placed.system) R.kind_of R.config_of R.declared R.sense R.does) R.book scene.new }
-    ensures end { RunsOut (R.book (rules_of scene.old))
-        (shown_of (kinds_of ⟦<R::Value as SceneValue<R::Data>>⟧.places R.part_of R.columns) R.part_of R.global_of
-        (placed_as (λ placed. placed.position)
-        (λ placed. placed.system) R.kind_of R.config_of R.declared R.sense R.does) R.book scene.old) (shown_of
-        (kinds_of ⟦<R::Value as SceneValue<R::Data>>⟧.places R.part_of R.columns) R.part_of R.global_of
-        (placed_as (λ placed. placed.position)
-        (λ placed. placed.system) R.kind_of R.config_of R.declared R.sense R.does) R.book scene.new) }
+    ensures ready { IsReadyBy R.Rules R.Value.SceneValue scene.new }
+    ensures end { RunsOut (R.book (rules_of scene.old)) (shown_by R.Rules R.Value.SceneValue scene.old)
+        (shown_by R.Rules R.Value.SceneValue scene.new) }
 {
     while scene.left() > 0 {
         match scene.run_frame(rt) {
@@ -138,7 +122,7 @@ where
         (reading I.remaining I.fault_count reader.old reader.new)
         (writing O.contents O.fault_count O.flushed writer.old writer.new) }
 {
-    let bytes = match read_document(rt.alloc(), reader) {
+    let bytes = match read_bytes(rt.alloc(), reader) {
         Ok(bytes) => bytes,
         Err(ReadFailure::Read) => return Err(RunError::Read),
         Err(ReadFailure::Memory) => return Err(RunError::Memory),

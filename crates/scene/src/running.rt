@@ -5,22 +5,22 @@ ghost use Rattle.scene_model.specs.Lawful.{IsLawful};
 ghost use Rattle.scene_model.specs.Commands.{skips_of};
 ghost use Rattle.scene_model.specs.Frames.{Accepts};
 ghost use Rattle.scene_model.specs.Queues.{plain_commands};
-ghost use Rattle.scene_world.specs.Standing.{plain_of};
 ghost use Rattle.scene_world.specs.Lent.{StandApart};
-ghost use Rattle.scene_world.specs.Places.{kinds_of};
 ghost use Rattle.scene_world.specs.Putting.{AreNamedIn};
-ghost use Rattle.scene_world.specs.Turns.{placed_as};
+ghost use Rattle.scene_world.specs.Members.{kinds_by, placed_by};
 ghost use Rattle.scene_dispatch.specs.Orders.{turn_order};
 ghost use Rattle.scene_dispatch.specs.Frames.{AreReady, WantsThread};
 ghost use Rattle.scene_commands.specs.Acts.{seen_of};
+ghost use Rattle.scene_commands.specs.Members.{scene_in};
 ghost use Rattle.scene.specs.Waiting.{AreTheirPlaces, NoneWaits};
 ghost use Rattle.scene.specs.Refusals.{RefusedIn};
+ghost use Rattle.scene.specs.Members.{frame_by};
 
 use crate::commands::run_commands;
 use scene_commands::laws::{a_scene_may_be_acted_on, a_scene_stands_after_commands};
 use scene_dispatch::SceneDispatcher;
 use scene_model::{Command, FrameRefusal, Skip};
-use scene_world::{Rules, SceneValue};
+use scene_world::Rules;
 use shred_world::World;
 use std::sync::Wait;
 use std::thread::Threads;
@@ -29,7 +29,7 @@ use std::thread::Threads;
 /// of a scene stand under one id.
 fn rules_stand<R: Rules>(rules: &R)
     ensures named { AreNamedIn R.columns (R.book rules.now) }
-    ensures apart { StandApart (kinds_of ⟦<R::Value as SceneValue<R::Data>>⟧.places R.part_of R.columns) }
+    ensures apart { StandApart (kinds_by R.Rules R.Value.SceneValue) }
 {}
 
 /// Runs a frame in a world in which a scene stands: the systems of a dispatcher, then the given commands, then those
@@ -61,43 +61,23 @@ where
     R::Data: Send + Sync,
     R::Global: Send + Sync,
     R::System: Send + Sync,
-    requires ready { AreReady (kinds_of ⟦<R::Value as SceneValue<R::Data>>⟧.places R.part_of R.columns) (placed_as
-        (λ placed. placed.position) (λ placed. placed.system)
-        R.kind_of R.config_of R.declared R.sense R.does) (R.book rules.now) dispatcher.old (holding_of world.old) }
-    requires none { NoneWaits (kinds_of ⟦<R::Value as SceneValue<R::Data>>⟧.places R.part_of R.columns) (seen_of
-        world.old) }
-    requires places { AreTheirPlaces places.now (turn_order (placed_as (λ placed. placed.position) (λ placed.
-        placed.system)
-        R.kind_of R.config_of R.declared R.sense R.does).plain dispatcher.old) }
+    requires ready { AreReady (kinds_by R.Rules R.Value.SceneValue) (placed_by R.Rules)
+        (R.book rules.now) dispatcher.old (holding_of world.old) }
+    requires none { NoneWaits (kinds_by R.Rules R.Value.SceneValue) (seen_of world.old) }
+    requires places { AreTheirPlaces places.now (turn_order (placed_by R.Rules).plain dispatcher.old) }
     requires given { All (IsLawful (R.book rules.now)) (plain_commands R.part_of given.now) }
-    ensures accepted { OnOk result ((skipped : List ℕ) × Accepts (R.book rules.now) limit
-        (record {
-          order = turn_order (placed_as (λ placed. placed.position) (λ placed. placed.system)
-              R.kind_of R.config_of R.declared R.sense R.does).plain dispatcher.old;
-          commands = plain_commands R.part_of given.now;
-        })
-        (plain_of (kinds_of ⟦<R::Value as SceneValue<R::Data>>⟧.places R.part_of R.columns) (seen_of world.old))
-        (plain_of (kinds_of ⟦<R::Value as SceneValue<R::Data>>⟧.places R.part_of R.columns) (seen_of world.new))
-        skipped
+    ensures accepted { OnOk result
+        ((skipped : List ℕ) × Accepts (R.book rules.now) limit (frame_by R.Rules dispatcher.old given.now)
+        (scene_in R.Rules R.Value.SceneValue world.old) (scene_in R.Rules R.Value.SceneValue world.new) skipped
         × (skips.new.items ≡ skips.old.items ++ skips_of frame skipped)) }
-    ensures ready { OnOk result (AreReady (kinds_of ⟦<R::Value as SceneValue<R::Data>>⟧.places R.part_of R.columns)
-        (placed_as (λ placed. placed.position) (λ placed. placed.system)
-        R.kind_of R.config_of R.declared R.sense R.does) (R.book rules.now) dispatcher.new (holding_of world.new)) }
-    ensures none { OnOk result (NoneWaits (kinds_of ⟦<R::Value as SceneValue<R::Data>>⟧.places R.part_of R.columns)
-        (seen_of world.new)) }
-    ensures refused { IfErr result (RefusedIn (kinds_of ⟦<R::Value as SceneValue<R::Data>>⟧.places R.part_of
-        R.columns) (R.book rules.now) limit
-        (record {
-          order = turn_order (placed_as (λ placed. placed.position) (λ placed. placed.system)
-              R.kind_of R.config_of R.declared R.sense R.does).plain dispatcher.old;
-          commands = plain_commands R.part_of given.now;
-        })
-        (plain_of (kinds_of ⟦<R::Value as SceneValue<R::Data>>⟧.places R.part_of R.columns) (seen_of world.old))) }
+    ensures ready { OnOk result (AreReady (kinds_by R.Rules R.Value.SceneValue) (placed_by R.Rules)
+        (R.book rules.now) dispatcher.new (holding_of world.new)) }
+    ensures none { OnOk result (NoneWaits (kinds_by R.Rules R.Value.SceneValue) (seen_of world.new)) }
+    ensures refused { IfErr result (RefusedIn (kinds_by R.Rules R.Value.SceneValue) (R.book rules.now) limit
+        (frame_by R.Rules dispatcher.old given.now) (scene_in R.Rules R.Value.SceneValue world.old)) }
     ensures skips { OnErr result (skips.new.items ≡ skips.old.items) }
-    ensures order { turn_order (placed_as (λ placed. placed.position) (λ placed. placed.system)
-        R.kind_of R.config_of R.declared R.sense R.does).plain dispatcher.new ≡ turn_order (placed_as (λ placed.
-        placed.position) (λ placed. placed.system)
-        R.kind_of R.config_of R.declared R.sense R.does).plain dispatcher.old }
+    ensures order { turn_order (placed_by R.Rules).plain dispatcher.new ≡ turn_order
+        (placed_by R.Rules).plain dispatcher.old }
     ensures workers { dispatcher.new.workers ≡ dispatcher.old.workers }
     ensures threads { dispatcher.old.workers < 2 → IfErr result (λ cause. ¬ (WantsThread cause)) }
 {

@@ -4,7 +4,7 @@ ghost use Rattle.scene_world.specs.Markers.{marker_at};
 ghost use Rattle.scene_model.specs.Parts.{is_among};
 ghost use Rattle.scene_model.specs.Declaring.{texts};
 ghost use Rattle.scene_world.specs.Standing.{roll_of, value_of, IsSceneWorld};
-ghost use Rattle.scene_world.specs.Places.{kinds_of};
+ghost use Rattle.scene_world.specs.Members.{kinds_by};
 ghost use Rattle.scene_commands.specs.Acts.{seen_of};
 ghost use Rattle.scene.specs.Taken.{AreMarkersOf, ArePairs, AreMarkedBy, AreOfPairs, part_at};
 
@@ -19,9 +19,8 @@ use std::alloc::{AllocError, Global};
 
 /// The markers of a world. Errors: where it has none.
 fn markers_in<R: Rules>(world: &World<R::Value>) -> Result<&MaskedStorage<SceneMarker>, AllocError>
-    ensures { IfOk result (λ markers. (index : ℕ) → (roll_of
-        (kinds_of ⟦<R::Value as SceneValue<R::Data>>⟧.places R.part_of R.columns) (seen_of world.now)).marker index
-        ≡ marker_at markers.now index) }
+    ensures { IfOk result (λ markers. (index : ℕ) → (roll_of (kinds_by R.Rules R.Value.SceneValue)
+        (seen_of world.now)).marker index ≡ marker_at markers.now index) }
 {
     let Some(value) = world.get_raw(<R::Value as SceneValue<R::Data>>::markers_id()) else {
         return Err(AllocError);
@@ -54,10 +53,10 @@ pub(crate) fn pairs_in<R: Rules>(
     world: &World<R::Value>,
     alloc: Global,
 ) -> Result<Vec<(u64, u32)>, AllocError>
-    requires stands { IsSceneWorld (kinds_of ⟦<R::Value as SceneValue<R::Data>>⟧.places R.part_of R.columns)
-        (R.book rules.now) (seen_of world.now) }
-    ensures { IfOk result (λ pairs. ArePairs (roll_of
-        (kinds_of ⟦<R::Value as SceneValue<R::Data>>⟧.places R.part_of R.columns) (seen_of world.now)) pairs.items) }
+    requires stands { IsSceneWorld (kinds_by R.Rules R.Value.SceneValue) (R.book rules.now)
+        (seen_of world.now) }
+    ensures { IfOk result
+        (λ pairs. ArePairs (roll_of (kinds_by R.Rules R.Value.SceneValue) (seen_of world.now)) pairs.items) }
 {
     let markers = markers_in::<R>(world)?;
     let mut pairs = pairs_of(markers, alloc)?;
@@ -73,9 +72,8 @@ fn ids_marked<R: Rules>(
     named: &[Entity],
     alloc: Global,
 ) -> Result<Vec<u64>, AllocError>
-    ensures { IfOk result (λ ids. AreMarkedBy (roll_of
-        (kinds_of ⟦<R::Value as SceneValue<R::Data>>⟧.places R.part_of R.columns) (seen_of world.now)) named.now
-        ids.items) }
+    ensures { IfOk result (λ ids. AreMarkedBy
+        (roll_of (kinds_by R.Rules R.Value.SceneValue) (seen_of world.now)) named.now ids.items) }
 {
     let mut ids = Vec::new(alloc);
     for entity in named {
@@ -100,12 +98,12 @@ fn datum_at<R: Rules>(
     named: &mut Vec<Entity>,
     alloc: Global,
 ) -> Result<Option<R::Data>, AllocError>
-    requires stands { IsSceneWorld (kinds_of ⟦<R::Value as SceneValue<R::Data>>⟧.places R.part_of R.columns)
-        (R.book rules.now) (seen_of world.now) }
+    requires stands { IsSceneWorld (kinds_by R.Rules R.Value.SceneValue) (R.book rules.now)
+        (seen_of world.now) }
     requires known { is_among kind.now R.columns.part_names ≡ true }
     requires column { Some value.now ≡ seen_of world.now (R.columns.part_id kind.now) }
-    ensures { IfOk result (λ datum. option_map R.part_of datum ≡ part_at
-        (kinds_of ⟦<R::Value as SceneValue<R::Data>>⟧.places R.part_of R.columns) (seen_of world.now) index kind.now) }
+    ensures { IfOk result (λ datum. option_map R.part_of datum ≡ part_at (kinds_by R.Rules R.Value.SceneValue)
+        (seen_of world.now) index kind.now) }
 {
     named.clear();
     R::named_at(value, kind, index, named)?;
@@ -125,13 +123,12 @@ pub(crate) fn data_at<R: Rules>(
     pairs: &[(u64, u32)],
     alloc: Global,
 ) -> Result<Vec<(u64, Option<R::Data>)>, AllocError>
-    requires stands { IsSceneWorld (kinds_of ⟦<R::Value as SceneValue<R::Data>>⟧.places R.part_of R.columns)
-        (R.book rules.now) (seen_of world.now) }
+    requires stands { IsSceneWorld (kinds_by R.Rules R.Value.SceneValue) (R.book rules.now)
+        (seen_of world.now) }
     requires known { is_among kind.now R.columns.part_names ≡ true }
     requires column { Some value.now ≡ seen_of world.now (R.columns.part_id kind.now) }
-    ensures { IfOk result (λ found. AreOfPairs
-        (kinds_of ⟦<R::Value as SceneValue<R::Data>>⟧.places R.part_of R.columns) R.part_of (seen_of world.now) kind.now
-        pairs.now found.items) }
+    ensures { IfOk result (λ found. AreOfPairs (kinds_by R.Rules R.Value.SceneValue) R.part_of
+        (seen_of world.now) kind.now pairs.now found.items) }
 {
     let mut found = Vec::new(alloc);
     let mut named = Vec::new(alloc);
@@ -146,7 +143,7 @@ pub(crate) fn data_at<R: Rules>(
 /// A global's value, if it has one. Errors: want of memory.
 fn global_in<R: Rules>(world: &World<R::Value>, name: &str) -> Result<Option<R::Global>, AllocError>
     ensures { IfOk result (λ global. option_map R.global_of global ≡ value_of
-        (kinds_of ⟦<R::Value as SceneValue<R::Data>>⟧.places R.part_of R.columns) (seen_of world.now) name.now) }
+        (kinds_by R.Rules R.Value.SceneValue) (seen_of world.now) name.now) }
 {
     let Some(value) = world.get_raw(R::global_id(name)) else {
         return Ok(None);
@@ -166,9 +163,8 @@ pub(crate) fn globals_in<R: Rules>(
     names: &[&'static str],
     alloc: Global,
 ) -> Result<Vec<Option<R::Global>>, AllocError>
-    ensures { IfOk result (λ globals. map (option_map R.global_of) globals.items ≡ map (value_of
-        (kinds_of ⟦<R::Value as SceneValue<R::Data>>⟧.places R.part_of R.columns) (seen_of world.now))
-        (texts names.now)) }
+    ensures { IfOk result (λ globals. map (option_map R.global_of) globals.items ≡ map
+        (value_of (kinds_by R.Rules R.Value.SceneValue) (seen_of world.now)) (texts names.now)) }
 {
     let mut globals = Vec::new(alloc);
     for name in names {
@@ -179,8 +175,8 @@ pub(crate) fn globals_in<R: Rules>(
 
 /// The next id of a world. Errors: where the world has no allocator of ids.
 pub(crate) fn next_in<R: Rules>(world: &World<R::Value>) -> Result<u64, AllocError>
-    ensures { IfOk result (λ next. next ≡ (roll_of
-        (kinds_of ⟦<R::Value as SceneValue<R::Data>>⟧.places R.part_of R.columns) (seen_of world.now)).noting.next) }
+    ensures { IfOk result
+        (λ next. next ≡ (roll_of (kinds_by R.Rules R.Value.SceneValue) (seen_of world.now)).noting.next) }
 {
     let Some(value) = world.get_raw(<R::Value as SceneValue<R::Data>>::allocator_id()) else {
         return Err(AllocError);

@@ -9,7 +9,7 @@ ghost use Rattle.scene_basics.specs.Numbers.{part_of, json_of, signed_in};
 ghost use Rattle.scene_basics.specs.Systems.{basics, facts_of, kind_of, system_named};
 
 use crate::data::{BasicSystem, Datum, G, HP, OWNER, POS, VEL};
-use scene::{Accessor, DocumentRules, ReadError, RunningTime};
+use scene::{DocumentRules, ReadError, RunningTime, SystemAccess};
 use serde_json::Value;
 use std::alloc::{AllocError, Global};
 
@@ -141,37 +141,37 @@ impl DocumentRules for Basics {
         }
     }
 
-    fn accessor(system: &BasicSystem, alloc: Global) -> Result<Accessor, AllocError> {
+    fn accessor(system: &BasicSystem, alloc: Global) -> Result<SystemAccess, AllocError> {
         match *system {
-            BasicSystem::Drift => Ok(Accessor {
+            BasicSystem::Drift => Ok(SystemAccess {
                 reads: vec![in alloc; VEL]?,
                 writes: vec![in alloc; POS]?,
                 read_globals: Vec::new(alloc),
                 written_globals: Vec::new(alloc),
                 writes_reserved: false,
             }),
-            BasicSystem::Pull => Ok(Accessor {
+            BasicSystem::Pull => Ok(SystemAccess {
                 reads: Vec::new(alloc),
                 writes: vec![in alloc; VEL]?,
                 read_globals: vec![in alloc; G]?,
                 written_globals: Vec::new(alloc),
                 writes_reserved: false,
             }),
-            BasicSystem::Decay => Ok(Accessor {
+            BasicSystem::Decay => Ok(SystemAccess {
                 reads: Vec::new(alloc),
                 writes: vec![in alloc; HP]?,
                 read_globals: Vec::new(alloc),
                 written_globals: Vec::new(alloc),
                 writes_reserved: false,
             }),
-            BasicSystem::Reap => Ok(Accessor {
+            BasicSystem::Reap => Ok(SystemAccess {
                 reads: vec![in alloc; HP]?,
                 writes: Vec::new(alloc),
                 read_globals: Vec::new(alloc),
                 written_globals: Vec::new(alloc),
                 writes_reserved: false,
             }),
-            BasicSystem::Bud => Ok(Accessor {
+            BasicSystem::Bud => Ok(SystemAccess {
                 reads: vec![in alloc; HP, POS]?,
                 writes: Vec::new(alloc),
                 read_globals: Vec::new(alloc),

@@ -1,17 +1,17 @@
 -- An entity comes to life, gets its id, and is marked.
-use Rattle.std.proofs.Common.{◌≡◌, ◌<◌, ◌≤◌, ℕ, false, cond, eqb, Option, Some, None, refl, ap, sym, ◌∙◌, subst}
+use Rattle.std.proofs.Common.{◌≡◌, ◌<◌, ◌≤◌, ℕ, false, cond, eqb, Option, Some, refl, ap, sym, ◌∙◌, subst}
 use Rattle.std.specs.Prelude.{IsSome, option_and_then}
 use Rattle.shred_world.specs.declared.resource_id.ResourceId.{ResourceId}
 use Rattle.shred_world.specs.ResourceIds.{same_id}
 use Rattle.shred_world.specs.Worlds.{Slots}
 use Rattle.specs_entity.specs.Births.{Births, count, living, IsBorn, IsAlive, LivesOn, BringsToLife, Continues}
 use Rattle.specs_entity.specs.Life.{LifeAt}
-use Rattle.specs_layouts.specs.Parts.{Puts}
-use Rattle.specs_markers.specs.Simple.{Noting, Gives, allocated}
+use Rattle.specs_markers.specs.Simple.{Noting, Gives, allocated, given_id}
 use Rattle.scene_world.specs.Standing.{Kinds, roll_of}
 use Rattle.scene_commands.specs.Acts.{seen_of}
-use Rattle.scene_commands.specs.Newborns.{ComesToLife, GetsId, Marks}
-use Rattle.scene_commands.proofs.DeathLemmas.{puts-at, births-read, noting-read}
+use Rattle.scene_commands.specs.Elsewhere.{Notes}
+use Rattle.scene_commands.specs.Newborns.{ComesToLife}
+use Rattle.scene_commands.proofs.DeathLemmas.{births-read, noting-read}
 
 module _ {V : Type 0} (kinds : Kinds V) (w later : Slots V) (was back : V) where
   -- entities with one more
@@ -35,13 +35,13 @@ module _ {V : Type 0} (kinds : Kinds V) (w later : Slots V) (was back : V) where
       now-is : (roll_of kinds (seen_of later)).births ≡ after
       now-is = births-read kinds later back after stands new
 
-  -- an allocator that gave its next id
-  pub gets-id : seen_of w kinds.allocator_id ≡ Some was → seen_of later kinds.allocator_id ≡ Some back → ((other : ResourceId) → same_id other kinds.allocator_id ≡ false → seen_of later other ≡ seen_of w other)
-      → (before after : Noting) → kinds.noting was ≡ Some before → kinds.noting back ≡ Some after → (entity : LifeAt) (given : ℕ) → Gives before entity None given after
-      → GetsId kinds entity given (seen_of w) (seen_of later)
-  gets-id stood stands others before after old new entity given gives = record {
-    id = gives.id ∙ ap (λ n. n.next) (sym was-is);
-    noting = now-is ∙ gives.allocator ∙ ap (λ n. allocated n entity None) (sym was-is);
+  -- an allocator that gave an id, one that was asked for or the next
+  pub notes : seen_of w kinds.allocator_id ≡ Some was → seen_of later kinds.allocator_id ≡ Some back → ((other : ResourceId) → same_id other kinds.allocator_id ≡ false → seen_of later other ≡ seen_of w other)
+      → (before after : Noting) → kinds.noting was ≡ Some before → kinds.noting back ≡ Some after → (entity : LifeAt) (asked : Option ℕ) (given : ℕ) → Gives before entity asked given after
+      → Notes kinds entity asked given (seen_of w) (seen_of later)
+  notes stood stands others before after old new entity asked given gives = record {
+    id = gives.id ∙ ap (λ n. given_id n asked) (sym was-is);
+    noting = now-is ∙ gives.allocator ∙ ap (λ n. allocated n entity asked) (sym was-is);
     there = subst (λ o. IsSome o) (sym (ap (option_and_then kinds.noting) stands ∙ new)) refl;
     others = others;
   }
@@ -51,15 +51,3 @@ module _ {V : Type 0} (kinds : Kinds V) (w later : Slots V) (was back : V) where
 
       now-is : (roll_of kinds (seen_of later)).noting ≡ after
       now-is = noting-read kinds later back after stands new
-
-  -- markers with one more
-  pub marks : seen_of w kinds.markers_id ≡ Some was → seen_of later kinds.markers_id ≡ Some back → ((other : ResourceId) → same_id other kinds.markers_id ≡ false → seen_of later other ≡ seen_of w other)
-      → (before after : ℕ → Option ℕ) → ((at : ℕ) → kinds.marker was at ≡ before at) → ((at : ℕ) → kinds.marker back at ≡ after at) → (index given : ℕ) → Puts before index (Some given) after
-      → Marks kinds index given (seen_of w) (seen_of later)
-  marks stood stands others before after old new index given puts = record {
-    marker = λ at.
-        ap (λ held. option_and_then (λ v. kinds.marker v at) held) stands ∙ new at ∙ puts-at before after index (Some given) puts at
-        ∙ ap (λ marker. cond (eqb at index) (Some given) marker) (sym (ap (λ held. option_and_then (λ v. kinds.marker v at) held) stood ∙ old at));
-    there = subst (λ held. IsSome held) (sym stands) refl;
-    others = others;
-  }

@@ -17,7 +17,8 @@ use Rattle.scene_world.specs.Standing.{Kinds, roll_of}
 use Rattle.scene_world.specs.Changes.{but_at}
 use Rattle.scene_world.proofs.CallerLemmas.{noted-forgotten}
 use Rattle.scene_commands.specs.Acts.{seen_of}
-use Rattle.scene_commands.specs.Deaths.{Unmarks, Forgets, LetsDie}
+use Rattle.scene_commands.specs.Deaths.{Forgets, LetsDie}
+use Rattle.scene_commands.specs.Elsewhere.{SetsMark}
 use Rattle.scene_commands.proofs.LookLemmas.{seen-value}
 
 -- a value that was taken out, and another that came back in its place
@@ -58,14 +59,14 @@ module _ {V : Type 0} (kinds : Kinds V) (w : Slots V) (v : V) where
   noting-read noting stands is = ap (λ held. unwrap_or (option_and_then kinds.noting held) none_noted) stands ∙ ap (λ o. unwrap_or o none_noted) is
 
 module _ {V : Type 0} (kinds : Kinds V) (w later : Slots V) (was back : V) where
-  -- markers of which one was taken out
-  pub unmarks : seen_of w kinds.markers_id ≡ Some was → seen_of later kinds.markers_id ≡ Some back → ((other : ResourceId) → same_id other kinds.markers_id ≡ false → seen_of later other ≡ seen_of w other)
-      → (before after : ℕ → Option ℕ) → ((at : ℕ) → kinds.marker was at ≡ before at) → ((at : ℕ) → kinds.marker back at ≡ after at) → (index : ℕ) → Puts before index None after
-      → Unmarks kinds index (seen_of w) (seen_of later)
-  unmarks stood stands others before after old new index puts = record {
+  -- markers of which one is another, or is taken out
+  pub sets-mark : seen_of w kinds.markers_id ≡ Some was → seen_of later kinds.markers_id ≡ Some back → ((other : ResourceId) → same_id other kinds.markers_id ≡ false → seen_of later other ≡ seen_of w other)
+      → (before after : ℕ → Option ℕ) → ((at : ℕ) → kinds.marker was at ≡ before at) → ((at : ℕ) → kinds.marker back at ≡ after at) → (index : ℕ) (given : Option ℕ) → Puts before index given after
+      → SetsMark kinds index given (seen_of w) (seen_of later)
+  sets-mark stood stands others before after old new index given puts = record {
     marker = λ at.
-        ap (λ held. option_and_then (λ v. kinds.marker v at) held) stands ∙ new at ∙ puts-at before after index None puts at
-        ∙ ap (λ marker. cond (eqb at index) None marker) (sym (ap (λ held. option_and_then (λ v. kinds.marker v at) held) stood ∙ old at));
+        ap (λ held. option_and_then (λ v. kinds.marker v at) held) stands ∙ new at ∙ puts-at before after index given puts at
+        ∙ ap (λ marker. cond (eqb at index) given marker) (sym (ap (λ held. option_and_then (λ v. kinds.marker v at) held) stood ∙ old at));
     there = subst (λ held. IsSome held) (sym stands) refl;
     others = others;
   }

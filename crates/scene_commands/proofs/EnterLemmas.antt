@@ -6,12 +6,10 @@ use Rattle.std.specs.FinMap as map
 use Rattle.std.specs.Cmp.{nat_cmp_total}
 use Rattle.std.proofs.lemmas.Bool.{false≢true}
 use Rattle.std.proofs.lemmas.List.Elements.{All-cons, All-weaker}
-use Rattle.shred_world.specs.declared.resource_id.ResourceId.{ResourceId}
-use Rattle.shred_world.specs.ResourceIds.{same_id}
 use Rattle.shred_world.specs.Worlds.{Slots}
 use Rattle.specs_entity.specs.Births.{count, living, none_born}
 use Rattle.specs_entity.specs.Life.{Life, LifeAt}
-use Rattle.specs_markers.specs.Simple.{Noting, Gives, allocated, noted_under, none_noted}
+use Rattle.specs_markers.specs.Simple.{Noting, allocated, noted_under, none_noted}
 use Rattle.scene_model.specs.Ids.{ascending}
 use Rattle.scene_model.specs.Parts.{Name, is_among}
 use Rattle.scene_model.specs.Scenes.{lives}
@@ -39,23 +37,6 @@ noted-there noting entity id other =
     turned : (b : Bool) → eqb id other ≡ b → eqb id other ≡ eqb other id
     turned true same = grind arith
     turned false differ = differ ∙ sym (apart-turned id other differ)
-
--- an allocator that gave an id that was asked for
-module _ {V : Type 0} (kinds : Kinds V) (w later : Slots V) (was back : V) where
-  pub notes-under : seen_of w kinds.allocator_id ≡ Some was → seen_of later kinds.allocator_id ≡ Some back → ((other : ResourceId) → same_id other kinds.allocator_id ≡ false → seen_of later other ≡ seen_of w other)
-      → (before after : Noting) → kinds.noting was ≡ Some before → kinds.noting back ≡ Some after → (entity : LifeAt) (id given : ℕ) → Gives before entity (Some id) given after
-      → NotesUnder kinds entity id (seen_of w) (seen_of later)
-  notes-under stood stands others before after old new entity id given gives = record {
-    noting = now-is ∙ gives.allocator ∙ ap (λ n. allocated n entity (Some id)) (sym was-is);
-    there = subst (λ o. IsSome o) (sym (ap (option_and_then kinds.noting) stands ∙ new)) refl;
-    others = others;
-  }
-    where
-      was-is : (roll_of kinds (seen_of w)).noting ≡ before
-      was-is = ap (λ held. unwrap_or (option_and_then kinds.noting held) none_noted) stood ∙ ap (λ o. unwrap_or o none_noted) old
-
-      now-is : (roll_of kinds (seen_of later)).noting ≡ after
-      now-is = ap (λ held. unwrap_or (option_and_then kinds.noting held) none_noted) stands ∙ ap (λ o. unwrap_or o none_noted) new
 
 module _ {V : Type 0} (kinds : Kinds V) (apart : StandApart kinds) (w : Slots V) (alive noted : Sight V) (later : Slots V) (entity : LifeAt) (id : ℕ)
     (may : MayAct kinds w) (absent : lives id (ids_in (roll_of kinds (seen_of w))) ≡ false)

@@ -2,7 +2,7 @@
 use Rattle.std.proofs.Common.{◌≡◌, ℕ, Bool, true, false, cond, ◌&&◌, List, [], ◌∷◌, map, Vec, Option, Some, None, is_some, refl, ap, sym, ◌∙◌, subst}
 use Rattle.std.specs.Prelude.{option_and_then, option_map}
 use Rattle.std.specs.List.{list_all, list_any}
-use Rattle.std.proofs.lemmas.Bool.{false≢true}
+use Rattle.std.proofs.lemmas.Bool.{false≢true, and_parts}
 use Rattle.std.specs.FinMap as slots
 use Rattle.std.specs.Option.{option_flatten, option_copied, unwrap_or}
 use denote.Ref.{Bor}
@@ -21,7 +21,7 @@ use Rattle.scene_model.specs.Commands.{ref_lives, refs_live, is_gone}
 use Rattle.scene_model.specs.Laws.{refs_to}
 use Rattle.scene_world.specs.Stored.{Stored, ids_reached, part_with, part_under}
 use Rattle.scene_world.specs.Rolls.{Roll, is_life, is_id, reference, id_at, index_of, index_if, ids_in, ref_to}
-use Rattle.scene_world.proofs.CallerLemmas.{is-id, both-true, life-there, lives-index}
+use Rattle.scene_world.proofs.CallerLemmas.{is-id, life-there, lives-index}
 use Rattle.scene_world.specs.Putting.{StoresAs}
 use Rattle.scene_commands.specs.Acts.{seen_of, entity_under, AreUnder}
 
@@ -78,7 +78,7 @@ module _ (roll : Roll) where
           → cond b (Some one) None ≡ Some entity → IsUnder id entity
       at one noted true is f =
           let same : one ≡ entity = cc in
-          let both = both-true (is_life one.generation (living roll.births one.id)) (is_id id (roll.marker one.id)) is in
+          let both = and_parts (is_life one.generation (living roll.births one.id)) (is_id id (roll.marker one.id)) is in
           subst (λ x. IsUnder id x) same (record { noted = noted; alive = both.0; marked = is-id id (roll.marker one.id) both.1 })
       at one noted false is f = cc
 

@@ -4,7 +4,7 @@ use Rattle.std.specs.Prelude.{IsSome, option_and_then, option_map}
 use Rattle.std.specs.Option.{unwrap_or}
 use Rattle.std.specs.List.{list_all}
 use Rattle.std.specs.Str.{bytes_eq}
-use Rattle.std.proofs.lemmas.Bool.{true≢false, false≢true, eqb-true}
+use Rattle.std.proofs.lemmas.Bool.{true≢false, false≢true, eqb-true, and_parts}
 use Rattle.std.proofs.lemmas.List.Elements.{All-nil, All-cons, All-weaker, All-append, All-head, All-tail}
 use Rattle.std.proofs.lemmas.Slice.Eq.{bytes_eq-Decides}
 use Rattle.shred_world.specs.Worlds.{Slots}
@@ -21,7 +21,7 @@ use Rattle.scene_world.specs.Rolls.{Roll, is_life, ids_in, ref_to}
 use Rattle.scene_world.specs.Standing.{Sight, Kinds, roll_of, column_of, column_in, plain_of}
 use Rattle.scene_world.specs.Lent.{StandApart, entities, markers, allocator, parts, value}
 use Rattle.scene_world.specs.Changes.{IsAnother, Bears}
-use Rattle.scene_world.proofs.CallerLemmas.{both-true, living-lives, lives-below, next-noted, next-after, born-roll, born-within, born-scene}
+use Rattle.scene_world.proofs.CallerLemmas.{living-lives, lives-below, next-noted, next-after, born-roll, born-within, born-scene}
 use Rattle.scene_commands.specs.Acts.{seen_of, entity_under, AreUnder, WasBorn, MayAct, Acts}
 use Rattle.scene_commands.specs.Newborns.{IsGiven, ComesToLife, Settles}
 use Rattle.scene_commands.proofs.LookLemmas.{same-noted, stored-part, lives-under}
@@ -132,7 +132,7 @@ module _ {V : Type 0} (kinds : Kinds V) (apart : StandApart kinds) (w : Slots V)
   all-before (id ∷ ids) (one ∷ named) found live =
       let first : entity_under (roll_of kinds marked) id ≡ Some one = cc in
       let rest : map (entity_under (roll_of kinds marked)) ids ≡ map (λ entity. Some entity) named = cc in
-      let both = both-true (lives id (ids_in old)) (list_all (ref_lives (ids_in old)) (refs_to ids)) live in
+      let both = and_parts (lives id (ids_in old)) (list_all (ref_lives (ids_in old)) (refs_to ids)) live in
       ap (λ o. o ∷ map (entity_under old) ids) (before-under id one first both.0) ∙ ap (λ l. Some one ∷ l) (all-before ids named rest both.1)
 
   module _ (live : list_all (λ entry. refs_live (ids_in old) entry.1) given ≡ true) where
@@ -142,7 +142,7 @@ module _ {V : Type 0} (kinds : Kinds V) (apart : StandApart kinds) (w : Slots V)
       where
         by : (entries : List (Name × Part)) → list_all (λ entry. refs_live (ids_in old) entry.1) entries ≡ true → under kind entries ≡ Some part → refs_live (ids_in old) part ≡ true
         by [] all e = cc
-        by (entry ∷ entries) all e = at (bytes_eq kind entry.0) e (both-true (refs_live (ids_in old) entry.1) (list_all (λ one. refs_live (ids_in old) one.1) entries) all) (by entries)
+        by (entry ∷ entries) all e = at (bytes_eq kind entry.0) e (and_parts (refs_live (ids_in old) entry.1) (list_all (λ one. refs_live (ids_in old) one.1) entries) all) (by entries)
           where
             at : (b : Bool) → cond b (Some entry.1) (under kind entries) ≡ Some part → (refs_live (ids_in old) entry.1 ≡ true) × (list_all (λ one. refs_live (ids_in old) one.1) entries ≡ true)
                 → (list_all (λ one. refs_live (ids_in old) one.1) entries ≡ true → under kind entries ≡ Some part → refs_live (ids_in old) part ≡ true) → refs_live (ids_in old) part ≡ true

@@ -1,8 +1,13 @@
 -- References that are gone in a world: who holds one.
-use Rattle.std.specs.Prelude.{◌≡◌, ◌≤◌, ◌==◌, ◌⊎◌, ℕ, Bool, true, false, List, Option, Some, None, All}
+use Rattle.std.specs.Prelude.{◌≡◌, ◌≤◌, ◌==◌, ◌⊎◌, ℕ, Bool, true, false, List, Option, Some, None, option_map, All}
 use Rattle.std.specs.List.{list_any}
 use Rattle.specs_entity.specs.Births.{Births, IsAlive}
 use Rattle.specs_entity.specs.Life.{LifeAt}
+use Rattle.scene_model.specs.Parts.{Name}
+use Rattle.scene_model.specs.Commands.{holds_gone}
+use Rattle.scene_world.specs.Stored.{part_under}
+use Rattle.scene_world.specs.Rolls.{ref_to}
+use Rattle.scene_world.specs.Standing.{Kinds, Sight, roll_of, column_of}
 
 -- a list has each entity that lives, and none that doesn't
 pub record AreLiving (births : Births) (entities : List LifeAt) : Type 0 where
@@ -24,3 +29,7 @@ pub record IsLesser (least : Option ℕ) (id : ℕ) (result : Option ℕ) : Type
 abbrev pub IsLesserIf : Bool → Option ℕ → ℕ → Option ℕ → Type 0
 IsLesserIf true least id result = IsLesser least id result
 IsLesserIf false least id result = result ≡ least
+
+-- whether a part at an index under one of some kinds refers to somebody who is gone
+abbrev pub any_gone : {V : Type 0} → Kinds V → Sight V → List Name → ℕ → Bool
+any_gone kinds w names index = list_any (λ kind. holds_gone (option_map (part_under (ref_to (roll_of kinds w))) (column_of kinds w kind index))) names

@@ -3,10 +3,12 @@ pub use Rattle.scene_world.specs.Standing
 pub use Rattle.scene_world.specs.Changes
 pub use Rattle.scene_world.specs.Places
 pub mod Acts
+pub mod Elsewhere
 pub mod Deaths
 pub mod Newborns
 pub mod Lists
 pub mod Gone
+pub mod Members
 pub use Rattle.scene_document.specs.Drafts
 pub use Rattle.scene_document.specs.DraftViews
 pub use Rattle.scene_document.specs.Documents

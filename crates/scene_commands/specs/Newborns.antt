@@ -1,11 +1,8 @@
 -- What becomes of a world, step by step, as an entity is born.
 use Rattle.std.specs.Prelude.{◌≡◌, ◌<◌, ◌≤◌, ◌==◌, ℕ, true, false, List, Option, Some, None, IsSome, option_and_then}
-use Rattle.shred_world.specs.declared.resource_id.ResourceId.{ResourceId}
-use Rattle.shred_world.specs.ResourceIds.{same_id}
 use Rattle.shred_world.specs.Worlds.{Slots}
 use Rattle.specs_entity.specs.Births.{Births, count, living, IsBorn, IndicesAreSpent, GenerationsAreSpent}
 use Rattle.specs_entity.specs.Life.{LifeAt}
-use Rattle.specs_markers.specs.Simple.{allocated}
 use Rattle.scene_model.specs.declared.refusals.FrameRefusal.{FrameRefusal}
 use Rattle.scene_model.specs.declared.refusals.FrameRefusal.TheVariants.{System, GoneReference, IdsSpent, IndicesSpent, GenerationsSpent, TooManyCommands, Memory, Threads}
 use Rattle.scene_model.specs.Parts.{Name, Part, is_among, under}
@@ -19,6 +16,7 @@ use Rattle.scene_world.specs.Standing.{Sight, Kinds, roll_of, column_of, plain_o
 use Rattle.scene_world.specs.Changes.{but_at}
 use Rattle.scene_world.specs.Putting.{StoresAs}
 use Rattle.scene_commands.specs.Acts.{seen_of, AreUnder, PutsPart}
+use Rattle.scene_commands.specs.Elsewhere.{StaysBut, StaysButParts, SetsMark, Notes}
 
 -- a spawn is to be done: an id is left for it, and its references live
 pub record IsToBeDone {V : Type 0} (kinds : Kinds V) (parts : List (Name × Part)) (w : Slots V) : Type 0 where
@@ -67,20 +65,15 @@ module _ {V : Type 0} (kinds : Kinds V) where
     pub live_on : (one : LifeAt) → living (roll_of kinds w).births one.id ≡ Some one.generation → living (roll_of kinds later).births one.id ≡ Some one.generation
     pub births : (at : ℕ) → count (roll_of kinds w).births at ≤ count (roll_of kinds later).births at
     pub there : IsSome (option_and_then kinds.births (later kinds.entities_id))
-    pub others : (id : ResourceId) → same_id id kinds.entities_id ≡ false → later id ≡ w id
+    pub others : StaysBut kinds.entities_id w later
 
   -- an entity is noted under the id that comes next, and all else is as it was
-  pub record GetsId (entity : LifeAt) (given : ℕ) (w later : Sight V) : Type 0 where
-    pub id : given ≡ (roll_of kinds w).noting.next
-    pub noting : (roll_of kinds later).noting ≡ allocated (roll_of kinds w).noting entity None
-    pub there : IsSome (option_and_then kinds.noting (later kinds.allocator_id))
-    pub others : (id : ResourceId) → same_id id kinds.allocator_id ≡ false → later id ≡ w id
+  abbrev pub GetsId : LifeAt → ℕ → Sight V → Sight V → Type 0
+  GetsId entity given = Notes kinds entity None given
 
   -- an index is marked with an id, and all else is as it was
-  pub record Marks (index given : ℕ) (w later : Sight V) : Type 0 where
-    pub marker : (at : ℕ) → (roll_of kinds later).marker at ≡ but_at index (Some given) (roll_of kinds w).marker at
-    pub there : IsSome (later kinds.markers_id)
-    pub others : (id : ResourceId) → same_id id kinds.markers_id ≡ false → later id ≡ w id
+  abbrev pub Marks : ℕ → ℕ → Sight V → Sight V → Type 0
+  Marks index given = SetsMark kinds index (Some given)
 
   -- a part is stored at an index, and its references are to entities that are known in the world
   pub record GivesPart (kind : Name) (index : ℕ) (part : Part) (w later : Sight V) : Type 0 where
@@ -95,7 +88,7 @@ module _ {V : Type 0} (kinds : Kinds V) where
     pub here : (kind : Name) → is_among kind kinds.part_names ≡ true → (part : Part) → under kind given ≡ Some part → IsGiven roll part (column_of kinds later kind index)
     pub none : (kind : Name) → is_among kind kinds.part_names ≡ true → under kind given ≡ None → column_of kinds later kind index ≡ column_of kinds w kind index
     pub elsewhere : (kind : Name) → is_among kind kinds.part_names ≡ true → (at : ℕ) → (at == index) ≡ false → column_of kinds later kind at ≡ column_of kinds w kind at
-    pub others : (id : ResourceId) → ((kind : Name) → is_among kind kinds.part_names ≡ true → same_id id (kinds.part_id kind) ≡ false) → later id ≡ w id
+    pub others : StaysButParts kinds w later
 
   -- an entity that came to life gets its id, is marked with it, and is given its parts
   pub record Settles (entity : LifeAt) (given : List (Name × Part)) (w later : Sight V) : Type 0 where

@@ -9,7 +9,7 @@ ghost use Rattle.scene_model.specs.Rulebook.{spawn};
 ghost use Rattle.scene_model.specs.Queues.{plain_entry};
 ghost use Rattle.scene_world.specs.Standing.{roll_of};
 ghost use Rattle.scene_world.specs.Rolls.{ids_in};
-ghost use Rattle.scene_world.specs.Places.{kinds_of};
+ghost use Rattle.scene_world.specs.Members.{kinds_by};
 ghost use Rattle.scene_commands.specs.Acts.{seen_of, MayAct, Acts, StaysElsewhere};
 ghost use Rattle.scene_commands.specs.Newborns.{RefusesLife, RefusesSpawn, ComesToLife, GetsId, Marks, GivesPart};
 ghost use Rattle.scene_commands.specs.Newborns.{GivesParts, Settles};
@@ -31,8 +31,7 @@ fn are_live<R: Rules>(
     alloc: Global,
 ) -> Result<bool, AllocError>
     ensures { IfOk result (λ live. live ≡ refs_live
-        (ids_in (roll_of (kinds_of ⟦<R::Value as SceneValue<R::Data>>⟧.places R.part_of R.columns)
-        (seen_of world.now))) (R.part_of datum.now)) }
+        (ids_in (roll_of (kinds_by R.Rules R.Value.SceneValue) (seen_of world.now))) (R.part_of datum.now)) }
 {
     let refs = rules.refs(alloc, datum)?;
     let found = entities_under::<R>(world, refs.as_slice(), alloc)?;
@@ -47,8 +46,8 @@ fn all_live<R: Rules>(
     alloc: Global,
 ) -> Result<bool, AllocError>
     ensures { IfOk result (λ live. live ≡ list_all (λ entry. refs_live
-        (ids_in (roll_of (kinds_of ⟦<R::Value as SceneValue<R::Data>>⟧.places R.part_of R.columns)
-        (seen_of world.now))) entry.1) (map (plain_entry R.part_of) parts.now)) }
+        (ids_in (roll_of (kinds_by R.Rules R.Value.SceneValue) (seen_of world.now))) entry.1)
+        (map (plain_entry R.part_of) parts.now)) }
 {
     for part in parts {
         if !are_live(rules, world, &part.1, alloc)? {
@@ -60,9 +59,8 @@ fn all_live<R: Rules>(
 
 /// The id that comes next, if there is an allocator of ids.
 fn next_id<R: Rules>(world: &World<R::Value>) -> Option<u64>
-    ensures { IfSome result (λ next. next
-        ≡ (roll_of (kinds_of ⟦<R::Value as SceneValue<R::Data>>⟧.places R.part_of R.columns)
-        (seen_of world.now)).noting.next) }
+    ensures { IfSome result
+        (λ next. next ≡ (roll_of (kinds_by R.Rules R.Value.SceneValue) (seen_of world.now)).noting.next) }
 {
     let value = world.get_raw(<R::Value as SceneValue<R::Data>>::allocator_id())?;
     let allocator = <R::Value as SceneValue<R::Data>>::allocator(value)?;
@@ -84,12 +82,11 @@ fn refusal_of(error: Error) -> FrameRefusal
 ///
 /// Errors: `IndicesSpent`; `GenerationsSpent`; `Memory`.
 pub fn bring_to_life<R: Rules>(world: &mut World<R::Value>) -> Result<Entity, FrameRefusal>
-    ensures ok { IfOk result (λ entity. ComesToLife
-        (kinds_of ⟦<R::Value as SceneValue<R::Data>>⟧.places R.part_of R.columns) entity (seen_of world.old)
-        (seen_of world.new)) }
+    ensures ok { IfOk result (λ entity. ComesToLife (kinds_by R.Rules R.Value.SceneValue) entity
+        (seen_of world.old) (seen_of world.new)) }
     ensures range { IfOk result (λ entity. entity.id < 16777216) }
-    ensures refused { IfErr result (RefusesLife
-        (roll_of (kinds_of ⟦<R::Value as SceneValue<R::Data>>⟧.places R.part_of R.columns) (seen_of world.old)).births) }
+    ensures refused { IfErr result
+        (RefusesLife (roll_of (kinds_by R.Rules R.Value.SceneValue) (seen_of world.old)).births) }
 {
     let id = <R::Value as SceneValue<R::Data>>::entities_id();
     let Some(value) = world.take_raw(id) else {
@@ -116,8 +113,7 @@ pub fn bring_to_life<R: Rules>(world: &mut World<R::Value>) -> Result<Entity, Fr
 
 /// Notes an entity under the id that comes next, and answers that id. Errors: want of memory, and where no id is left.
 fn give_id<R: Rules>(world: &mut World<R::Value>, entity: Entity) -> Result<u64, AllocError>
-    ensures { IfOk result (λ id. GetsId
-        (kinds_of ⟦<R::Value as SceneValue<R::Data>>⟧.places R.part_of R.columns) entity id (seen_of world.old)
+    ensures { IfOk result (λ id. GetsId (kinds_by R.Rules R.Value.SceneValue) entity id (seen_of world.old)
         (seen_of world.new)) }
 {
     let id = <R::Value as SceneValue<R::Data>>::allocator_id();
@@ -149,8 +145,8 @@ fn give_id<R: Rules>(world: &mut World<R::Value>, entity: Entity) -> Result<u64,
 /// Marks an index with an id. Errors: want of memory.
 pub fn mark<R: Rules>(world: &mut World<R::Value>, index: u32, given: u64) -> Result<(), AllocError>
     requires { index < 16777216 }
-    ensures { OnOk result (Marks (kinds_of ⟦<R::Value as SceneValue<R::Data>>⟧.places R.part_of R.columns)
-        index given (seen_of world.old) (seen_of world.new)) }
+    ensures { OnOk result
+        (Marks (kinds_by R.Rules R.Value.SceneValue) index given (seen_of world.old) (seen_of world.new)) }
 {
     let id = <R::Value as SceneValue<R::Data>>::markers_id();
     let Some(value) = world.take_raw(id) else {
@@ -183,8 +179,8 @@ fn give_part<R: Rules>(
 ) -> Result<(), AllocError>
     requires known { IsTrue (is_among kind.now R.columns.part_names) }
     requires within { index < 16777216 }
-    ensures { OnOk result (GivesPart (kinds_of ⟦<R::Value as SceneValue<R::Data>>⟧.places R.part_of R.columns)
-        kind.now index (R.part_of datum.now) (seen_of world.old) (seen_of world.new)) }
+    ensures { OnOk result (GivesPart (kinds_by R.Rules R.Value.SceneValue) kind.now index (R.part_of datum.now)
+        (seen_of world.old) (seen_of world.new)) }
 {
     let refs = rules.refs(alloc, datum)?;
     let Some(named) = entities_under::<R>(world, refs.as_slice(), alloc)? else {
@@ -205,8 +201,8 @@ fn give_parts<R: Rules>(
     requires known { All (λ entry. is_among entry.0 R.columns.part_names ≡ true)
         (map (plain_entry R.part_of) parts.now) }
     requires apart { AllPairs (λ one other. bytes_eq one.0 other.0 ≡ false) (map (plain_entry R.part_of) parts.now) }
-    ensures { OnOk result (GivesParts (kinds_of ⟦<R::Value as SceneValue<R::Data>>⟧.places R.part_of R.columns)
-        (roll_of (kinds_of ⟦<R::Value as SceneValue<R::Data>>⟧.places R.part_of R.columns) (seen_of world.old)) index
+    ensures { OnOk result (GivesParts (kinds_by R.Rules R.Value.SceneValue)
+        (roll_of (kinds_by R.Rules R.Value.SceneValue) (seen_of world.old)) index
         (map (plain_entry R.part_of) parts.now) (seen_of world.old) (seen_of world.new)) }
 {
     for part in parts {
@@ -227,8 +223,8 @@ fn settle<R: Rules>(
     requires known { All (λ entry. is_among entry.0 R.columns.part_names ≡ true)
         (map (plain_entry R.part_of) parts.now) }
     requires apart { AllPairs (λ one other. bytes_eq one.0 other.0 ≡ false) (map (plain_entry R.part_of) parts.now) }
-    ensures { OnOk result (Settles (kinds_of ⟦<R::Value as SceneValue<R::Data>>⟧.places R.part_of R.columns)
-        entity (map (plain_entry R.part_of) parts.now) (seen_of world.old) (seen_of world.new)) }
+    ensures { OnOk result (Settles (kinds_by R.Rules R.Value.SceneValue) entity
+        (map (plain_entry R.part_of) parts.now) (seen_of world.old) (seen_of world.new)) }
 {
     let id = give_id::<R>(world, entity)?;
     mark::<R>(world, entity.id(), id)?;
@@ -248,20 +244,16 @@ pub fn spawn_entity<R: Rules>(
     parts: &[(&'static str, R::Data)],
     alloc: Global,
 ) -> Result<bool, FrameRefusal>
-    requires may { MayAct (kinds_of ⟦<R::Value as SceneValue<R::Data>>⟧.places R.part_of R.columns) world.old }
+    requires may { MayAct (kinds_by R.Rules R.Value.SceneValue) world.old }
     requires known { All (λ entry. is_among entry.0 R.columns.part_names ≡ true)
         (map (plain_entry R.part_of) parts.now) }
     requires apart { AllPairs (λ one other. bytes_eq one.0 other.0 ≡ false) (map (plain_entry R.part_of) parts.now) }
-    ensures acts { IfOk result (λ done. Acts
-        (kinds_of ⟦<R::Value as SceneValue<R::Data>>⟧.places R.part_of R.columns)
+    ensures acts { IfOk result (λ done. Acts (kinds_by R.Rules R.Value.SceneValue)
         (spawn (map (plain_entry R.part_of) parts.now)) done world.old world.new) }
-    ensures may { OnOk result (MayAct
-        (kinds_of ⟦<R::Value as SceneValue<R::Data>>⟧.places R.part_of R.columns) world.new) }
-    ensures elsewhere { OnOk result (StaysElsewhere
-        (kinds_of ⟦<R::Value as SceneValue<R::Data>>⟧.places R.part_of R.columns) world.old world.new) }
-    ensures refused { IfErr result (RefusesSpawn
-        (kinds_of ⟦<R::Value as SceneValue<R::Data>>⟧.places R.part_of R.columns)
-        (map (plain_entry R.part_of) parts.now) world.old) }
+    ensures may { OnOk result (MayAct (kinds_by R.Rules R.Value.SceneValue) world.new) }
+    ensures elsewhere { OnOk result (StaysElsewhere (kinds_by R.Rules R.Value.SceneValue) world.old world.new) }
+    ensures refused { IfErr result
+        (RefusesSpawn (kinds_by R.Rules R.Value.SceneValue) (map (plain_entry R.part_of) parts.now) world.old) }
 {
     match all_live(rules, world, parts, alloc) {
         Ok(true) => {}

@@ -4,7 +4,7 @@ ghost use Rattle.specs_markers.specs.Simple.{noted_under};
 ghost use Rattle.scene_model.specs.Rulebook.{kill};
 ghost use Rattle.scene_model.specs.Declaring.{texts};
 ghost use Rattle.scene_world.specs.Standing.{roll_of};
-ghost use Rattle.scene_world.specs.Places.{kinds_of};
+ghost use Rattle.scene_world.specs.Members.{kinds_by};
 ghost use Rattle.scene_commands.specs.Acts.{seen_of, MayAct, Acts, StaysElsewhere};
 ghost use Rattle.scene_commands.specs.Deaths.{DropsParts, Unmarks, Forgets, LetsDie};
 
@@ -24,8 +24,8 @@ fn take_all<R: Rules>(
     index: u32,
 ) -> Result<(), AllocError>
     requires { texts names.now ≡ R.columns.part_names }
-    ensures { OnOk result (DropsParts (kinds_of ⟦<R::Value as SceneValue<R::Data>>⟧.places R.part_of R.columns)
-        index R.columns.part_names (seen_of world.old) (seen_of world.new)) }
+    ensures { OnOk result (DropsParts (kinds_by R.Rules R.Value.SceneValue) index R.columns.part_names
+        (seen_of world.old) (seen_of world.new)) }
 {
     for kind in names {
         take_at::<R>(world, kind, index)?;
@@ -35,8 +35,8 @@ fn take_all<R: Rules>(
 
 /// Takes the marker at an index out of a world. Errors: want of memory.
 fn unmark<R: Rules>(world: &mut World<R::Value>, index: u32) -> Result<(), AllocError>
-    ensures { OnOk result (Unmarks (kinds_of ⟦<R::Value as SceneValue<R::Data>>⟧.places R.part_of R.columns)
-        index (seen_of world.old) (seen_of world.new)) }
+    ensures { OnOk result
+        (Unmarks (kinds_by R.Rules R.Value.SceneValue) index (seen_of world.old) (seen_of world.new)) }
 {
     let id = <R::Value as SceneValue<R::Data>>::markers_id();
     let Some(value) = world.take_raw(id) else {
@@ -57,8 +57,8 @@ fn unmark<R: Rules>(world: &mut World<R::Value>, index: u32) -> Result<(), Alloc
 
 /// Takes out what the allocator of ids notes under an id. Errors: where the world has none, told as want of memory.
 fn forget<R: Rules>(world: &mut World<R::Value>, id: u64) -> Result<(), AllocError>
-    ensures { OnOk result (Forgets (kinds_of ⟦<R::Value as SceneValue<R::Data>>⟧.places R.part_of R.columns)
-        id (seen_of world.old) (seen_of world.new)) }
+    ensures { OnOk result
+        (Forgets (kinds_by R.Rules R.Value.SceneValue) id (seen_of world.old) (seen_of world.new)) }
 {
     let place = <R::Value as SceneValue<R::Data>>::allocator_id();
     let Some(value) = world.take_raw(place) else {
@@ -82,8 +82,8 @@ fn forget<R: Rules>(world: &mut World<R::Value>, id: u64) -> Result<(), AllocErr
 
 /// Lets an entity of a world die. Errors: where it isn't alive, or the world has no entities, told as want of memory.
 fn let_die<R: Rules>(world: &mut World<R::Value>, entity: Entity) -> Result<(), AllocError>
-    ensures { OnOk result (LetsDie (kinds_of ⟦<R::Value as SceneValue<R::Data>>⟧.places R.part_of R.columns)
-        entity.id (seen_of world.old) (seen_of world.new)) }
+    ensures { OnOk result
+        (LetsDie (kinds_by R.Rules R.Value.SceneValue) entity.id (seen_of world.old) (seen_of world.new)) }
 {
     let id = <R::Value as SceneValue<R::Data>>::entities_id();
     let Some(value) = world.take_raw(id) else {
@@ -119,16 +119,13 @@ pub fn kill_entity<R: Rules>(
     world: &mut World<R::Value>,
     id: u64,
 ) -> Result<bool, AllocError>
-    requires may { MayAct (kinds_of ⟦<R::Value as SceneValue<R::Data>>⟧.places R.part_of R.columns) world.old }
-    ensures acts { IfOk result (λ done. Acts
-        (kinds_of ⟦<R::Value as SceneValue<R::Data>>⟧.places R.part_of R.columns) (kill id) done world.old world.new) }
-    ensures forgotten { IfOk result (λ done. IsTrue done → noted_under
-        (roll_of (kinds_of ⟦<R::Value as SceneValue<R::Data>>⟧.places R.part_of R.columns)
-        (seen_of world.new)).noting id ≡ None) }
-    ensures may { OnOk result (MayAct
-        (kinds_of ⟦<R::Value as SceneValue<R::Data>>⟧.places R.part_of R.columns) world.new) }
-    ensures elsewhere { OnOk result (StaysElsewhere
-        (kinds_of ⟦<R::Value as SceneValue<R::Data>>⟧.places R.part_of R.columns) world.old world.new) }
+    requires may { MayAct (kinds_by R.Rules R.Value.SceneValue) world.old }
+    ensures acts { IfOk result
+        (λ done. Acts (kinds_by R.Rules R.Value.SceneValue) (kill id) done world.old world.new) }
+    ensures forgotten { IfOk result (λ done. IsTrue done
+        → noted_under (roll_of (kinds_by R.Rules R.Value.SceneValue) (seen_of world.new)).noting id ≡ None) }
+    ensures may { OnOk result (MayAct (kinds_by R.Rules R.Value.SceneValue) world.new) }
+    ensures elsewhere { OnOk result (StaysElsewhere (kinds_by R.Rules R.Value.SceneValue) world.old world.new) }
 {
     let Some(entity) = entity_under::<R>(world, id) else {
         return Ok(false);

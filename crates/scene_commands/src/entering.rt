@@ -1,10 +1,10 @@
 //! Entities that begin to live in a world under ids of their own.
 ghost use Rattle.std.specs.Prelude.{◌≡◌, [], ◌∷◌, map, OnOk};
-ghost use Rattle.scene_world.specs.Places.{kinds_of};
 ghost use Rattle.scene_commands.specs.Acts.{seen_of, MayAct};
 ghost use Rattle.scene_commands.specs.Entries.{with_entities};
 ghost use Rattle.scene_commands.specs.Becoming.{Becomes};
 ghost use Rattle.scene_commands.specs.Notes.{NotesUnder};
+ghost use Rattle.scene_world.specs.Members.{kinds_by};
 
 use crate::{bring_to_life, entity_under, mark};
 use scene_document::EntityDraft;
@@ -20,8 +20,8 @@ fn note_under<R: Rules>(
     entity: Entity,
     given: u64,
 ) -> Result<(), AllocError>
-    ensures { OnOk result (NotesUnder (kinds_of ⟦<R::Value as SceneValue<R::Data>>⟧.places R.part_of R.columns)
-        entity given (seen_of world.old) (seen_of world.new)) }
+    ensures { OnOk result (NotesUnder (kinds_by R.Rules R.Value.SceneValue) entity given (seen_of world.old)
+        (seen_of world.new)) }
 {
     let id = <R::Value as SceneValue<R::Data>>::allocator_id();
     let Some(value) = world.take_raw(id) else {
@@ -54,9 +54,9 @@ fn note_under<R: Rules>(
 /// Errors: want of memory; so is told where somebody lives under the id, where the entities of the world are at their
 /// limits, and where the id is 18,446,744,073,709,551,615.
 pub fn enter_entity<R: Rules>(world: &mut World<R::Value>, id: u64) -> Result<(), AllocError>
-    requires may { MayAct (kinds_of ⟦<R::Value as SceneValue<R::Data>>⟧.places R.part_of R.columns) world.old }
-    ensures { OnOk result (Becomes (kinds_of ⟦<R::Value as SceneValue<R::Data>>⟧.places R.part_of R.columns)
-        (with_entities (id ∷ [])) world.old world.new) }
+    requires may { MayAct (kinds_by R.Rules R.Value.SceneValue) world.old }
+    ensures { OnOk result
+        (Becomes (kinds_by R.Rules R.Value.SceneValue) (with_entities (id ∷ [])) world.old world.new) }
 {
     if entity_under::<R>(world, id).is_some() {
         return Err(AllocError);
@@ -76,8 +76,8 @@ pub(crate) fn enter_entities<R: Rules>(
     world: &mut World<R::Value>,
     entities: &[EntityDraft<R::Data>],
 ) -> Result<(), AllocError>
-    requires may { MayAct (kinds_of ⟦<R::Value as SceneValue<R::Data>>⟧.places R.part_of R.columns) world.old }
-    ensures { OnOk result (Becomes (kinds_of ⟦<R::Value as SceneValue<R::Data>>⟧.places R.part_of R.columns)
+    requires may { MayAct (kinds_by R.Rules R.Value.SceneValue) world.old }
+    ensures { OnOk result (Becomes (kinds_by R.Rules R.Value.SceneValue)
         (with_entities (map (λ entity. entity.id) entities.now)) world.old world.new) }
 {
     for index in (0..entities.len()).rev() {

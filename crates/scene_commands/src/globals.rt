@@ -2,12 +2,12 @@
 ghost use Rattle.std.specs.Prelude.{◌≡◌, map, OnOk};
 ghost use Rattle.scene_model.specs.Declaring.{texts};
 ghost use Rattle.scene_document.specs.DraftViews.{named};
-ghost use Rattle.scene_world.specs.Places.{kinds_of};
 ghost use Rattle.scene_commands.specs.Acts.{MayAct};
 ghost use Rattle.scene_commands.specs.Becoming.{Becomes};
 ghost use Rattle.scene_commands.specs.Entries.{with_value, with_values};
+ghost use Rattle.scene_world.specs.Members.{kinds_by};
 
-use scene_world::{Rules, SceneValue};
+use scene_world::Rules;
 use shred_world::World;
 use std::alloc::AllocError;
 
@@ -21,9 +21,9 @@ fn put_global<R: Rules>(
 ) -> Result<(), AllocError>
 where
     R::Value: Drop,
-    requires may { MayAct (kinds_of ⟦<R::Value as SceneValue<R::Data>>⟧.places R.part_of R.columns) world.old }
+    requires may { MayAct (kinds_by R.Rules R.Value.SceneValue) world.old }
     requires names { texts names.now ≡ R.columns.global_names }
-    ensures { OnOk result (Becomes (kinds_of ⟦<R::Value as SceneValue<R::Data>>⟧.places R.part_of R.columns)
+    ensures { OnOk result (Becomes (kinds_by R.Rules R.Value.SceneValue)
         (with_value (named R.global_of (texts names.now) global.now)) world.old world.new) }
 {
     let Some((place, value)) = global else {
@@ -49,9 +49,9 @@ pub(crate) fn put_globals<R: Rules>(
 ) -> Result<(), AllocError>
 where
     R::Value: Drop,
-    requires may { MayAct (kinds_of ⟦<R::Value as SceneValue<R::Data>>⟧.places R.part_of R.columns) world.old }
+    requires may { MayAct (kinds_by R.Rules R.Value.SceneValue) world.old }
     requires names { texts names.now ≡ R.columns.global_names }
-    ensures { OnOk result (Becomes (kinds_of ⟦<R::Value as SceneValue<R::Data>>⟧.places R.part_of R.columns)
+    ensures { OnOk result (Becomes (kinds_by R.Rules R.Value.SceneValue)
         (with_values (map (named R.global_of (texts names.now)) globals.now)) world.old world.new) }
 {
     for index in (0..globals.len()).rev() {

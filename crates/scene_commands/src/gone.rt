@@ -1,14 +1,14 @@
 //! References that are gone in a world.
 ghost use Rattle.std.specs.Prelude.{◌≡◌, ℕ, false, IfOk, option_map};
-ghost use Rattle.std.specs.List.{list_any};
 ghost use Rattle.scene_model.specs.Commands.{first_gone, holds_gone};
 ghost use Rattle.scene_model.specs.Declaring.{texts};
 ghost use Rattle.scene_world.specs.Rolls.{ref_to};
-ghost use Rattle.scene_world.specs.Standing.{column_of, plain_of, roll_of};
+ghost use Rattle.scene_world.specs.Standing.{column_of, roll_of};
 ghost use Rattle.scene_world.specs.Stored.{part_under};
-ghost use Rattle.scene_world.specs.Places.{kinds_of};
+ghost use Rattle.scene_world.specs.Members.{kinds_by};
 ghost use Rattle.scene_commands.specs.Acts.{seen_of, MayAct};
-ghost use Rattle.scene_commands.specs.Gone.{AreLiving, IsLesserIf};
+ghost use Rattle.scene_commands.specs.Gone.{AreLiving, IsLesserIf, any_gone};
+ghost use Rattle.scene_commands.specs.Members.{scene_in};
 
 use crate::looking::is_living;
 use scene_model::DocumentRules;
@@ -22,8 +22,7 @@ use std::alloc::{AllocError, Global};
 /// The entities that live in a world. Errors: want of memory, and where the world has no entities.
 pub fn living_in<R: Rules>(world: &World<R::Value>) -> Result<Vec<Entity>, AllocError>
     ensures { IfOk result (λ entities. AreLiving
-        (roll_of (kinds_of ⟦<R::Value as SceneValue<R::Data>>⟧.places R.part_of R.columns) (seen_of world.now)).births
-        entities.items) }
+        (roll_of (kinds_by R.Rules R.Value.SceneValue) (seen_of world.now)).births entities.items) }
 {
     let Some(value) = world.get_raw(<R::Value as SceneValue<R::Data>>::entities_id()) else {
         return Err(AllocError);
@@ -40,8 +39,7 @@ pub fn living_in<R: Rules>(world: &World<R::Value>) -> Result<Vec<Entity>, Alloc
 
 /// The id with which an index is marked, if it is.
 pub fn id_marked<R: Rules>(world: &World<R::Value>, index: u32) -> Option<u64>
-    ensures { result ≡ (roll_of (kinds_of ⟦<R::Value as SceneValue<R::Data>>⟧.places R.part_of R.columns)
-        (seen_of world.now)).marker index }
+    ensures { result ≡ (roll_of (kinds_by R.Rules R.Value.SceneValue) (seen_of world.now)).marker index }
 {
     let value = world.get_raw(<R::Value as SceneValue<R::Data>>::markers_id())?;
     let markers = <R::Value as SceneValue<R::Data>>::markers(value)?;
@@ -61,11 +59,10 @@ fn part_holds_gone<R: Rules>(
     index: u32,
     named: &mut Vec<Entity>,
 ) -> Result<bool, AllocError>
-    requires may { MayAct (kinds_of ⟦<R::Value as SceneValue<R::Data>>⟧.places R.part_of R.columns) world.now }
-    ensures { IfOk result (λ gone. gone ≡ holds_gone (option_map (part_under (ref_to
-        (roll_of (kinds_of ⟦<R::Value as SceneValue<R::Data>>⟧.places R.part_of R.columns) (seen_of world.now))))
-        (column_of (kinds_of ⟦<R::Value as SceneValue<R::Data>>⟧.places R.part_of R.columns) (seen_of world.now)
-        kind.now index))) }
+    requires may { MayAct (kinds_by R.Rules R.Value.SceneValue) world.now }
+    ensures { IfOk result (λ gone. gone ≡ holds_gone
+        (option_map (part_under (ref_to (roll_of (kinds_by R.Rules R.Value.SceneValue) (seen_of world.now))))
+        (column_of (kinds_by R.Rules R.Value.SceneValue) (seen_of world.now) kind.now index))) }
 {
     let Some(value) = world.get_raw(R::part_id(kind)) else {
         return Ok(false);
@@ -89,11 +86,9 @@ fn any_holds_gone<R: Rules>(
     index: u32,
     named: &mut Vec<Entity>,
 ) -> Result<bool, AllocError>
-    requires may { MayAct (kinds_of ⟦<R::Value as SceneValue<R::Data>>⟧.places R.part_of R.columns) world.now }
-    ensures { IfOk result (λ gone. gone ≡ list_any (λ kind. holds_gone (option_map (part_under (ref_to
-        (roll_of (kinds_of ⟦<R::Value as SceneValue<R::Data>>⟧.places R.part_of R.columns) (seen_of world.now))))
-        (column_of (kinds_of ⟦<R::Value as SceneValue<R::Data>>⟧.places R.part_of R.columns) (seen_of world.now)
-        kind index))) (texts names.now)) }
+    requires may { MayAct (kinds_by R.Rules R.Value.SceneValue) world.now }
+    ensures { IfOk result (λ gone. gone ≡ any_gone (kinds_by R.Rules R.Value.SceneValue) (seen_of world.now)
+        (texts names.now) index) }
 {
     for kind in names {
         if part_holds_gone::<R>(world, kind, index, named)? {
@@ -118,10 +113,9 @@ fn lesser(counts: bool, least: Option<u64>, id: u64) -> Option<u64>
 
 /// Whether a part of a kind may refer to an entity, as far as the rules tell at once.
 fn may_name<R: Rules>(world: &World<R::Value>, kind: &str) -> bool
-    ensures { result ≡ false → (index : ℕ) → holds_gone (option_map (part_under (ref_to
-        (roll_of (kinds_of ⟦<R::Value as SceneValue<R::Data>>⟧.places R.part_of R.columns) (seen_of world.now))))
-        (column_of (kinds_of ⟦<R::Value as SceneValue<R::Data>>⟧.places R.part_of R.columns) (seen_of world.now)
-        kind.now index)) ≡ false }
+    ensures { result ≡ false → (index : ℕ) → holds_gone
+        (option_map (part_under (ref_to (roll_of (kinds_by R.Rules R.Value.SceneValue) (seen_of world.now))))
+        (column_of (kinds_by R.Rules R.Value.SceneValue) (seen_of world.now) kind.now index)) ≡ false }
 {
     match world.get_raw(R::part_id(kind)) {
         Some(value) => !R::names_nobody(value, kind),
@@ -137,13 +131,9 @@ fn naming_kinds<R: Rules>(
     names: &[&'static str],
     alloc: Global,
 ) -> Result<Vec<&'static str>, AllocError>
-    ensures { IfOk result (λ kinds. (index : ℕ) → list_any (λ kind. holds_gone (option_map (part_under (ref_to
-        (roll_of (kinds_of ⟦<R::Value as SceneValue<R::Data>>⟧.places R.part_of R.columns) (seen_of world.now))))
-        (column_of (kinds_of ⟦<R::Value as SceneValue<R::Data>>⟧.places R.part_of R.columns) (seen_of world.now)
-        kind index))) (texts kinds.items) ≡ list_any (λ kind. holds_gone (option_map (part_under (ref_to
-        (roll_of (kinds_of ⟦<R::Value as SceneValue<R::Data>>⟧.places R.part_of R.columns) (seen_of world.now))))
-        (column_of (kinds_of ⟦<R::Value as SceneValue<R::Data>>⟧.places R.part_of R.columns) (seen_of world.now)
-        kind index))) (texts names.now)) }
+    ensures { IfOk result (λ kinds. (index : ℕ) → any_gone (kinds_by R.Rules R.Value.SceneValue)
+        (seen_of world.now) (texts kinds.items) index ≡ any_gone (kinds_by R.Rules R.Value.SceneValue)
+        (seen_of world.now) (texts names.now) index) }
 {
     let mut kinds = Vec::new(alloc);
     for kind in names {
@@ -163,9 +153,9 @@ pub fn find_gone<R: Rules>(
     world: &World<R::Value>,
     alloc: Global,
 ) -> Result<Option<u64>, AllocError>
-    requires may { MayAct (kinds_of ⟦<R::Value as SceneValue<R::Data>>⟧.places R.part_of R.columns) world.now }
-    ensures { IfOk result (λ gone. gone ≡ first_gone (R.book rules.now)
-        (plain_of (kinds_of ⟦<R::Value as SceneValue<R::Data>>⟧.places R.part_of R.columns) (seen_of world.now))) }
+    requires may { MayAct (kinds_by R.Rules R.Value.SceneValue) world.now }
+    ensures { IfOk result
+        (λ gone. gone ≡ first_gone (R.book rules.now) (scene_in R.Rules R.Value.SceneValue world.now)) }
 {
     let names = naming_kinds::<R>(world, rules.part_names(), alloc)?;
     if names.is_empty() {

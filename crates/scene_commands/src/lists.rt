@@ -4,16 +4,16 @@ ghost use Rattle.scene_model.specs.declared.refusals.FrameRefusal.TheVariants as
 ghost use Rattle.scene_model.specs.Lawful.{IsLawful};
 ghost use Rattle.scene_model.specs.Leads.{RunsTo};
 ghost use Rattle.scene_model.specs.Queues.{plain_command, plain_commands};
-ghost use Rattle.scene_world.specs.Standing.{plain_of};
-ghost use Rattle.scene_world.specs.Places.{kinds_of};
-ghost use Rattle.scene_commands.specs.Acts.{seen_of, MayAct, Acts, StaysElsewhere};
+ghost use Rattle.scene_commands.specs.Acts.{MayAct, Acts, StaysElsewhere};
 ghost use Rattle.scene_commands.specs.Lists.{Notes, RefusesAct, RefusesActs};
+ghost use Rattle.scene_commands.specs.Members.{scene_in};
+ghost use Rattle.scene_world.specs.Members.{kinds_by};
 
 use crate::births::spawn_entity;
 use crate::deaths::kill_entity;
 use crate::parts::{put_part, take_part};
 use scene_model::{Command, DocumentRules, FrameRefusal, Skip};
-use scene_world::{Rules, SceneValue};
+use scene_world::Rules;
 use shred_world::World;
 use std::alloc::{AllocError, Global};
 
@@ -40,18 +40,14 @@ pub fn act<R: Rules>(
     command: &Command<R::Data>,
     alloc: Global,
 ) -> Result<bool, FrameRefusal>
-    requires may { MayAct (kinds_of ⟦<R::Value as SceneValue<R::Data>>⟧.places R.part_of R.columns) world.old }
+    requires may { MayAct (kinds_by R.Rules R.Value.SceneValue) world.old }
     requires lawful { IsLawful (R.book rules.now) (plain_command R.part_of command.now) }
-    ensures acts { IfOk result (λ done. Acts
-        (kinds_of ⟦<R::Value as SceneValue<R::Data>>⟧.places R.part_of R.columns)
+    ensures acts { IfOk result (λ done. Acts (kinds_by R.Rules R.Value.SceneValue)
         (plain_command R.part_of command.now) done world.old world.new) }
-    ensures may { OnOk result (MayAct
-        (kinds_of ⟦<R::Value as SceneValue<R::Data>>⟧.places R.part_of R.columns) world.new) }
-    ensures elsewhere { OnOk result (StaysElsewhere
-        (kinds_of ⟦<R::Value as SceneValue<R::Data>>⟧.places R.part_of R.columns) world.old world.new) }
-    ensures refused { IfErr result (RefusesAct
-        (kinds_of ⟦<R::Value as SceneValue<R::Data>>⟧.places R.part_of R.columns)
-        (plain_command R.part_of command.now) world.old) }
+    ensures may { OnOk result (MayAct (kinds_by R.Rules R.Value.SceneValue) world.new) }
+    ensures elsewhere { OnOk result (StaysElsewhere (kinds_by R.Rules R.Value.SceneValue) world.old world.new) }
+    ensures refused { IfErr result
+        (RefusesAct (kinds_by R.Rules R.Value.SceneValue) (plain_command R.part_of command.now) world.old) }
 {
     match command {
         Command::Spawn(parts) => spawn_entity(rules, world, parts.as_slice(), alloc),
@@ -90,19 +86,15 @@ pub fn act_all<R: Rules>(
     skips: &mut Vec<Skip>,
     alloc: Global,
 ) -> Result<(), FrameRefusal>
-    requires may { MayAct (kinds_of ⟦<R::Value as SceneValue<R::Data>>⟧.places R.part_of R.columns) world.old }
+    requires may { MayAct (kinds_by R.Rules R.Value.SceneValue) world.old }
     requires lawful { All (IsLawful (R.book rules.now)) (plain_commands R.part_of commands.now) }
     requires room { earlier + length commands.now ≤ 4294967295 }
     ensures ran { OnOk result (RunsTo frame (earlier + 1) (plain_commands R.part_of commands.now)
-        (plain_of (kinds_of ⟦<R::Value as SceneValue<R::Data>>⟧.places R.part_of R.columns) (seen_of world.old))
-        (plain_of (kinds_of ⟦<R::Value as SceneValue<R::Data>>⟧.places R.part_of R.columns) (seen_of world.new))
-        skips.old.items skips.new.items) }
-    ensures may { OnOk result (MayAct
-        (kinds_of ⟦<R::Value as SceneValue<R::Data>>⟧.places R.part_of R.columns) world.new) }
-    ensures elsewhere { OnOk result (StaysElsewhere
-        (kinds_of ⟦<R::Value as SceneValue<R::Data>>⟧.places R.part_of R.columns) world.old world.new) }
-    ensures refused { IfErr result (RefusesActs
-        (kinds_of ⟦<R::Value as SceneValue<R::Data>>⟧.places R.part_of R.columns) (earlier + 1)
+        (scene_in R.Rules R.Value.SceneValue world.old)
+        (scene_in R.Rules R.Value.SceneValue world.new) skips.old.items skips.new.items) }
+    ensures may { OnOk result (MayAct (kinds_by R.Rules R.Value.SceneValue) world.new) }
+    ensures elsewhere { OnOk result (StaysElsewhere (kinds_by R.Rules R.Value.SceneValue) world.old world.new) }
+    ensures refused { IfErr result (RefusesActs (kinds_by R.Rules R.Value.SceneValue) (earlier + 1)
         (plain_commands R.part_of commands.now) world.old) }
     ensures kept { (more : List Skip) × (skips.new.items ≡ skips.old.items ++ more) }
 {

@@ -5,7 +5,7 @@ ghost use Rattle.scene_document.specs.DraftViews.{IsDraft};
 ghost use Rattle.scene_document.specs.Documents.{refusal_of};
 ghost use Rattle.scene_document.specs.Openings.{first_scene};
 ghost use Rattle.scene_world.specs.Standing.{StandsFor};
-ghost use Rattle.scene_world.specs.Places.{kinds_of};
+ghost use Rattle.scene_world.specs.Members.{kinds_by};
 ghost use Rattle.scene_commands.specs.Acts.{seen_of, MayAct};
 ghost use Rattle.scene_commands.specs.Fills.{filled_with};
 ghost use Rattle.scene_commands.specs.Becoming.{Becomes, IsQuiet};
@@ -15,7 +15,7 @@ use crate::globals::put_globals;
 use crate::opening::open_world;
 use crate::part_lists::put_parts;
 use scene_document::DocumentDraft;
-use scene_world::{Rules, SceneValue, Store};
+use scene_world::{Rules, Store};
 use shred_world::World;
 use std::alloc::{AllocError, Global};
 
@@ -30,8 +30,8 @@ fn fill_world<R: Rules>(
 ) -> Result<(), AllocError>
 where
     R::Value: Drop,
-    requires may { MayAct (kinds_of ⟦<R::Value as SceneValue<R::Data>>⟧.places R.part_of R.columns) world.old }
-    ensures { OnOk result (Becomes (kinds_of ⟦<R::Value as SceneValue<R::Data>>⟧.places R.part_of R.columns)
+    requires may { MayAct (kinds_by R.Rules R.Value.SceneValue) world.old }
+    ensures { OnOk result (Becomes (kinds_by R.Rules R.Value.SceneValue)
         (filled_with R.part_of R.global_of (R.book rules.now) draft.now) world.old world.new) }
 {
     enter_entities::<R>(world, draft.entities.as_slice())?;
@@ -59,13 +59,11 @@ pub fn load_world<R: Rules>(
 ) -> Result<World<R::Value>, AllocError>
 where
     R::Value: Drop,
-    ensures may { IfOk result (MayAct (kinds_of ⟦<R::Value as SceneValue<R::Data>>⟧.places R.part_of R.columns)) }
-    ensures quiet { IfOk result (IsQuiet (kinds_of ⟦<R::Value as SceneValue<R::Data>>⟧.places R.part_of R.columns)) }
-    ensures stands { IfOk result (λ world. (plain : Draft) → (indices : ℕ)
-        → IsDraft R.part_of R.global_of R.kind_of R.config_of (R.book rules.now) plain draft.now
-        → refusal_of indices plain ≡ None
-        → StandsFor (kinds_of ⟦<R::Value as SceneValue<R::Data>>⟧.places R.part_of R.columns) (R.book rules.now)
-        (seen_of world) (first_scene plain)) }
+    ensures may { IfOk result (MayAct (kinds_by R.Rules R.Value.SceneValue)) }
+    ensures quiet { IfOk result (IsQuiet (kinds_by R.Rules R.Value.SceneValue)) }
+    ensures stands { IfOk result (λ world. (plain : Draft) → (indices : ℕ) → IsDraft R.part_of R.global_of
+        R.kind_of R.config_of (R.book rules.now) plain draft.now → refusal_of indices plain ≡ None → StandsFor
+        (kinds_by R.Rules R.Value.SceneValue) (R.book rules.now) (seen_of world) (first_scene plain)) }
 {
     let mut world = open_world::<R>(store, limits, draft.next, alloc)?;
     match fill_world(rules, &mut world, draft, alloc) {

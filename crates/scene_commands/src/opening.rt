@@ -1,11 +1,12 @@
 //! Worlds in which nobody lives yet.
 ghost use Rattle.std.specs.Prelude.{◌≡◌, min, IfOk};
 ghost use Rattle.specs_entity.specs.Births.{none_born};
-ghost use Rattle.scene_world.specs.Standing.{roll_of, plain_of};
-ghost use Rattle.scene_world.specs.Places.{kinds_of};
+ghost use Rattle.scene_world.specs.Standing.{roll_of};
+ghost use Rattle.scene_world.specs.Members.{kinds_by};
 ghost use Rattle.scene_commands.specs.Acts.{MayAct, seen_of};
 ghost use Rattle.scene_commands.specs.Openings.{without_entities};
 ghost use Rattle.scene_commands.specs.Becoming.{IsQuiet};
+ghost use Rattle.scene_commands.specs.Members.{scene_in};
 
 use scene_world::{Rules, SceneMarkerAllocator, SceneValue, Store, no_markers};
 use shred_world::World;
@@ -24,14 +25,11 @@ pub fn open_world<R: Rules>(
 ) -> Result<World<R::Value>, AllocError>
 where
     R::Value: Drop,
-    ensures may { IfOk result (MayAct (kinds_of ⟦<R::Value as SceneValue<R::Data>>⟧.places R.part_of R.columns)) }
-    ensures births { IfOk result (λ world. (roll_of
-        (kinds_of ⟦<R::Value as SceneValue<R::Data>>⟧.places R.part_of R.columns) (seen_of world)).births
-        ≡ none_born (min limits.0 16777216) (min limits.1 2147483647)) }
-    ensures quiet { IfOk result (IsQuiet (kinds_of ⟦<R::Value as SceneValue<R::Data>>⟧.places R.part_of R.columns)) }
-    ensures scene { IfOk result (λ world. plain_of
-        (kinds_of ⟦<R::Value as SceneValue<R::Data>>⟧.places R.part_of R.columns) (seen_of world)
-        ≡ without_entities next) }
+    ensures may { IfOk result (MayAct (kinds_by R.Rules R.Value.SceneValue)) }
+    ensures births { IfOk result (λ world. (roll_of (kinds_by R.Rules R.Value.SceneValue)
+        (seen_of world)).births ≡ none_born (min limits.0 16777216) (min limits.1 2147483647)) }
+    ensures quiet { IfOk result (IsQuiet (kinds_by R.Rules R.Value.SceneValue)) }
+    ensures scene { IfOk result (λ world. scene_in R.Rules R.Value.SceneValue world ≡ without_entities next) }
 {
     let mut world = World::empty(alloc);
     let entities = EntitiesRes::with_limits(alloc, limits.0, limits.1);

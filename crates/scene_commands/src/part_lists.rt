@@ -2,14 +2,14 @@
 ghost use Rattle.std.specs.Prelude.{◌≡◌, map, OnOk};
 ghost use Rattle.scene_model.specs.Declaring.{texts};
 ghost use Rattle.scene_document.specs.DraftViews.{named, plain_entity};
-ghost use Rattle.scene_world.specs.Places.{kinds_of};
 ghost use Rattle.scene_commands.specs.Acts.{MayAct};
 ghost use Rattle.scene_commands.specs.Becoming.{Becomes};
 ghost use Rattle.scene_commands.specs.Entries.{with_one, with_list, with_parts};
+ghost use Rattle.scene_world.specs.Members.{kinds_by};
 
 use crate::put_part;
 use scene_document::EntityDraft;
-use scene_world::{Rules, SceneValue};
+use scene_world::Rules;
 use shred_world::World;
 use std::alloc::{AllocError, Global};
 
@@ -25,9 +25,9 @@ fn put_one<R: Rules>(
     names: &[&'static str],
     alloc: Global,
 ) -> Result<(), AllocError>
-    requires may { MayAct (kinds_of ⟦<R::Value as SceneValue<R::Data>>⟧.places R.part_of R.columns) world.old }
+    requires may { MayAct (kinds_by R.Rules R.Value.SceneValue) world.old }
     requires names { texts names.now ≡ R.columns.part_names }
-    ensures { OnOk result (Becomes (kinds_of ⟦<R::Value as SceneValue<R::Data>>⟧.places R.part_of R.columns)
+    ensures { OnOk result (Becomes (kinds_by R.Rules R.Value.SceneValue)
         (with_one id (named R.part_of (texts names.now) part.now)) world.old world.new) }
 {
     let Some((place, datum)) = part else {
@@ -52,9 +52,9 @@ fn put_list<R: Rules>(
     names: &[&'static str],
     alloc: Global,
 ) -> Result<(), AllocError>
-    requires may { MayAct (kinds_of ⟦<R::Value as SceneValue<R::Data>>⟧.places R.part_of R.columns) world.old }
+    requires may { MayAct (kinds_by R.Rules R.Value.SceneValue) world.old }
     requires names { texts names.now ≡ R.columns.part_names }
-    ensures { OnOk result (Becomes (kinds_of ⟦<R::Value as SceneValue<R::Data>>⟧.places R.part_of R.columns)
+    ensures { OnOk result (Becomes (kinds_by R.Rules R.Value.SceneValue)
         (with_list id (map (named R.part_of (texts names.now)) parts.now)) world.old world.new) }
 {
     for index in (0..parts.len()).rev() {
@@ -71,9 +71,9 @@ pub(crate) fn put_parts<R: Rules>(
     names: &[&'static str],
     alloc: Global,
 ) -> Result<(), AllocError>
-    requires may { MayAct (kinds_of ⟦<R::Value as SceneValue<R::Data>>⟧.places R.part_of R.columns) world.old }
+    requires may { MayAct (kinds_by R.Rules R.Value.SceneValue) world.old }
     requires names { texts names.now ≡ R.columns.part_names }
-    ensures { OnOk result (Becomes (kinds_of ⟦<R::Value as SceneValue<R::Data>>⟧.places R.part_of R.columns)
+    ensures { OnOk result (Becomes (kinds_by R.Rules R.Value.SceneValue)
         (with_parts (map (plain_entity R.part_of (texts names.now)) entities.now)) world.old world.new) }
 {
     for index in (0..entities.len()).rev() {

@@ -2,11 +2,11 @@
 ghost use Rattle.std.specs.Prelude.{◌≡◌, ◌<◌, length, None, IsTrue, IfOk, OnOk};
 ghost use Rattle.scene_model.specs.Parts.{is_among};
 ghost use Rattle.scene_model.specs.Rulebook.{put, take};
-ghost use Rattle.scene_world.specs.Places.{kinds_of};
 ghost use Rattle.scene_commands.specs.Acts.{seen_of, MayAct, Acts, StaysElsewhere, PutsPart, SetsColumn};
+ghost use Rattle.scene_world.specs.Members.{kinds_by};
 
 use crate::looking::{entities_under, entity_under};
-use scene_world::{Rules, SceneValue};
+use scene_world::Rules;
 use shred_world::World;
 use specs_entity::Entity;
 use std::alloc::{AllocError, Global};
@@ -22,8 +22,8 @@ pub(crate) fn put_at<R: Rules>(
     requires known { IsTrue (is_among kind.now R.columns.part_names) }
     requires within { index < 16777216 }
     requires as_many { length named.now ≡ length (R.part_of datum.now).refs }
-    ensures { OnOk result (PutsPart (kinds_of ⟦<R::Value as SceneValue<R::Data>>⟧.places R.part_of R.columns)
-        kind.now index (R.part_of datum.now) named.now (seen_of world.old) (seen_of world.new)) }
+    ensures { OnOk result (PutsPart (kinds_by R.Rules R.Value.SceneValue) kind.now index
+        (R.part_of datum.now) named.now (seen_of world.old) (seen_of world.new)) }
 {
     match world.get_mut_raw(R::part_id(kind)) {
         Some(value) => R::put(value, kind, index, datum, named),
@@ -38,8 +38,8 @@ pub(crate) fn take_at<R: Rules>(
     index: u32,
 ) -> Result<(), AllocError>
     requires known { IsTrue (is_among kind.now R.columns.part_names) }
-    ensures { OnOk result (SetsColumn (kinds_of ⟦<R::Value as SceneValue<R::Data>>⟧.places R.part_of R.columns)
-        kind.now index None (seen_of world.old) (seen_of world.new)) }
+    ensures { OnOk result (SetsColumn (kinds_by R.Rules R.Value.SceneValue) kind.now index None
+        (seen_of world.old) (seen_of world.new)) }
 {
     match world.get_mut_raw(R::part_id(kind)) {
         Some(value) => R::take(value, kind, index),
@@ -62,15 +62,12 @@ pub fn put_part<R: Rules>(
     datum: &R::Data,
     alloc: Global,
 ) -> Result<bool, AllocError>
-    requires may { MayAct (kinds_of ⟦<R::Value as SceneValue<R::Data>>⟧.places R.part_of R.columns) world.old }
+    requires may { MayAct (kinds_by R.Rules R.Value.SceneValue) world.old }
     requires known { IsTrue (is_among kind.now R.columns.part_names) }
-    ensures acts { IfOk result (λ done. Acts
-        (kinds_of ⟦<R::Value as SceneValue<R::Data>>⟧.places R.part_of R.columns)
+    ensures acts { IfOk result (λ done. Acts (kinds_by R.Rules R.Value.SceneValue)
         (put id kind.now (R.part_of datum.now)) done world.old world.new) }
-    ensures may { OnOk result (MayAct
-        (kinds_of ⟦<R::Value as SceneValue<R::Data>>⟧.places R.part_of R.columns) world.new) }
-    ensures elsewhere { OnOk result (StaysElsewhere
-        (kinds_of ⟦<R::Value as SceneValue<R::Data>>⟧.places R.part_of R.columns) world.old world.new) }
+    ensures may { OnOk result (MayAct (kinds_by R.Rules R.Value.SceneValue) world.new) }
+    ensures elsewhere { OnOk result (StaysElsewhere (kinds_by R.Rules R.Value.SceneValue) world.old world.new) }
 {
     let Some(entity) = entity_under::<R>(world, id) else {
         return Ok(false);
@@ -93,15 +90,12 @@ pub fn take_part<R: Rules>(
     id: u64,
     kind: &str,
 ) -> Result<bool, AllocError>
-    requires may { MayAct (kinds_of ⟦<R::Value as SceneValue<R::Data>>⟧.places R.part_of R.columns) world.old }
+    requires may { MayAct (kinds_by R.Rules R.Value.SceneValue) world.old }
     requires known { IsTrue (is_among kind.now R.columns.part_names) }
-    ensures acts { IfOk result (λ done. Acts
-        (kinds_of ⟦<R::Value as SceneValue<R::Data>>⟧.places R.part_of R.columns) (take id kind.now) done
-        world.old world.new) }
-    ensures may { OnOk result (MayAct
-        (kinds_of ⟦<R::Value as SceneValue<R::Data>>⟧.places R.part_of R.columns) world.new) }
-    ensures elsewhere { OnOk result (StaysElsewhere
-        (kinds_of ⟦<R::Value as SceneValue<R::Data>>⟧.places R.part_of R.columns) world.old world.new) }
+    ensures acts { IfOk result
+        (λ done. Acts (kinds_by R.Rules R.Value.SceneValue) (take id kind.now) done world.old world.new) }
+    ensures may { OnOk result (MayAct (kinds_by R.Rules R.Value.SceneValue) world.new) }
+    ensures elsewhere { OnOk result (StaysElsewhere (kinds_by R.Rules R.Value.SceneValue) world.old world.new) }
 {
     let Some(entity) = entity_under::<R>(world, id) else {
         return Ok(false);

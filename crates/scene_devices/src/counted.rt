@@ -12,7 +12,7 @@ use std::io::{Read, Result, Write};
 ///
 /// ```text
 /// let mut reader = Counted::new(b"[1,2]".as_slice());
-/// let document = read_document(rt.alloc(), &mut reader)?;
+/// let document = read_bytes(rt.alloc(), &mut reader)?;
 /// assert_eq!(rt; document.as_slice(), b"[1,2]".as_slice());
 /// assert_eq!(rt; reader.faults(), 0);
 /// ```

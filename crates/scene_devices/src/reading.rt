@@ -30,7 +30,7 @@ pub enum ReadFailure {
 /// Errors: `Read`, if a read failed, whatever its error (a signal that came between is one too), or if
 /// the reader gave bytes `MOST_READS` times and its end wasn't seen; `Memory`, if there was no room for
 /// what it gave. Both drop what was read, and the reader stands after it.
-pub fn read_document<R: CountedRead>(alloc: Global, reader: &mut R) -> Result<Vec<u8>, ReadFailure>
+pub fn read_bytes<R: CountedRead>(alloc: Global, reader: &mut R) -> Result<Vec<u8>, ReadFailure>
     // All that the reader had left, and no failure.
     ensures whole { IfOk result (λ document. IfSome (R.remaining reader.old)
         (λ bytes. document.items ≡ bytes)) }
@@ -54,9 +54,9 @@ pub fn read_document<R: CountedRead>(alloc: Global, reader: &mut R) -> Result<Ve
     read_within(alloc, reader, MOST_READS)
 }
 
-/// Reads to the end as `read_document` does, from a reader that may give bytes fewer than `reads` times.
+/// Reads to the end as `read_bytes` does, from a reader that may give bytes fewer than `reads` times.
 ///
-/// Errors: those of `read_document`, with `reads` in the place of `MOST_READS`.
+/// Errors: those of `read_bytes`, with `reads` in the place of `MOST_READS`.
 pub fn read_within<R: CountedRead>(
     alloc: Global,
     reader: &mut R,

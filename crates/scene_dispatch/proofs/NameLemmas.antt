@@ -3,7 +3,7 @@ use Rattle.std.proofs.Common.{◌≡◌, ℕ, suc, Bool, true, false, not, ◌||
 use Rattle.std.specs.Prelude.{is_none, if◌then◌else◌}
 use Rattle.std.specs.List.{All, AllByRecursion, filter_map, cons_option, list_any}
 use Rattle.std.specs.Str.{bytes_eq}
-use Rattle.std.proofs.lemmas.Bool.{or_parts}
+use Rattle.std.proofs.lemmas.Bool.{or_parts, not-false}
 use Rattle.std.proofs.lemmas.List.Elements.{All-head, All-tail}
 use Rattle.std.proofs.lemmas.Slice.Eq.{bytes_eq-Decides}
 use Rattle.scene_model.specs.Parts.{Name, is_among}
@@ -33,11 +33,7 @@ follows-all earlier [] none = tt
 follows-all earlier (name ∷ after) none =
     let both = or_parts (bytes_eq name [] || not (is_among name earlier)) (list_any (λ name. bytes_eq name [] || not (is_among name earlier)) after) none in
     let here = or_parts (bytes_eq name []) (not (is_among name earlier)) both.0 in
-    ((here.0, by (is_among name earlier) here.1), follows-all earlier after both.1)
-  where
-    by : (b : Bool) → not b ≡ false → b ≡ true
-    by true e = refl
-    by false e = cc
+    ((here.0, not-false (is_among name earlier) here.1), follows-all earlier after both.1)
 
 -- systems whose kinds are known, that have no name if they are local, and come after earlier ones are fit
 fit-all : (earlier : List Name) (systems : List DraftSystem) → list_any (λ one. is_none one.facts) systems ≡ false → All (λ one. one.local ≡ true → one.name ≡ []) systems → has_unknown_dependency earlier systems ≡ false → AreFit earlier systems

@@ -1,12 +1,13 @@
 -- What a builder of a dispatcher is asked for a document's entries, and what it is then.
-use Rattle.std.specs.Prelude.{◌≡◌, ℕ, suc, Bool, true, false, List, [], ◌∷◌, ◌++◌, map, Option, Some, None}
+use Rattle.std.specs.Prelude.{◌≡◌, ℕ, suc, Bool, true, false, List, [], ◌∷◌, ◌++◌, length, map, Option, Some, None}
 use Rattle.shred_world.specs.declared.resource_id.ResourceId.{ResourceId}
+use Rattle.scene_model.specs.Parts.{Name}
 use Rattle.scene_model.specs.Rulebook.{Facts}
 use Rattle.scene_model.specs.Scenes.{PlainSystem}
 use Rattle.scene_document.specs.Drafts.{DraftEntry, DraftSystem, barrier, system}
 use Rattle.scene_world.specs.Standing.{Kinds}
-use Rattle.shred.specs.Building.{Building, nothing_built}
-use Rattle.shred.specs.Dispatchers.{Drafting}
+use Rattle.shred.specs.Building.{Building, Declared, nothing_built, built_with, fenced}
+use Rattle.shred.specs.Dispatchers.{Drafting, with_building}
 use Rattle.shred.specs.Histories.{Asked, built_from}
 use Rattle.shred.specs.Histories as asked
 use Rattle.scene_dispatch.specs.Entries.{plain_system, local_list}
@@ -41,3 +42,25 @@ module _ {V : Type 0} (kinds : Kinds V) where
   pub record IsDraftedOf {S L : Type 0} (same : ResourceId → ResourceId → Bool) (plain : S → PlainSystem) (plain_local : L → PlainSystem) (entries : List DraftEntry) (draft : Drafting S L) : Type 0 where
     pub building : IsBuiltOf same plain entries draft.building
     pub locals : map plain_local draft.locals ≡ local_list 1 entries
+
+  module _ {S L : Type 0} (same : ResourceId → ResourceId → Bool) (plain : S → PlainSystem) (plain_local : L → PlainSystem) where
+    -- a builder goes on from entries to a barrier
+    abbrev pub GoesOnToBarriers : Type 0
+    GoesOnToBarriers =
+        (early : List DraftEntry) (draft : Drafting S L) → IsDraftedOf same plain plain_local early draft
+        → IsDraftedOf same plain plain_local (early ++ barrier ∷ []) (with_building draft (record { staging = fenced same draft.building.staging; names = draft.building.names }))
+
+    -- to a staged system that is the one of the next entry, and declares what that says
+    abbrev pub GoesOnToStaged : Type 0
+    GoesOnToStaged =
+        (early : List DraftEntry) (draft : Drafting S L) (one : DraftSystem) (facts : Facts) (taken : S) (declared : Declared) (name : Name) (after : List Name)
+        → IsDraftedOf same plain plain_local early draft → one.local ≡ false → one.facts ≡ Some facts → plain taken ≡ plain_system (suc (length early)) one facts
+        → declared ≡ declared_of kinds (suc (length early)) facts → name ≡ one.name → after ≡ one.after
+        → IsDraftedOf same plain plain_local (early ++ system one ∷ []) (with_building draft (built_with same draft.building taken declared name after))
+
+    -- to a local system that is the one of the next entry
+    abbrev pub GoesOnToLocals : Type 0
+    GoesOnToLocals =
+        (early : List DraftEntry) (draft : Drafting S L) (one : DraftSystem) (facts : Facts) (taken : L)
+        → IsDraftedOf same plain plain_local early draft → one.local ≡ true → one.facts ≡ Some facts → plain_local taken ≡ plain_system (suc (length early)) one facts
+        → IsDraftedOf same plain plain_local (early ++ system one ∷ []) (record { building = draft.building; locals = draft.locals ++ taken ∷ []; workers = draft.workers })

@@ -1,14 +1,16 @@
 -- The systems of a document's entries: how they are named, which are staged, and their numbers.
-use Rattle.std.specs.Prelude.{◌≡◌, ℕ, suc, Bool, true, false, not, List, [], ◌∷◌, Option, Some, None, is_none, slice_get, unwrap_or, if◌then◌else◌}
+use Rattle.std.specs.Prelude.{◌≡◌, ℕ, suc, Bool, true, false, not, List, [], ◌∷◌, ◌++◌, map, Option, Some, None, is_none, slice_get, unwrap_or, if◌then◌else◌}
 use Rattle.std.specs.List.{All, filter_map, list_any}
 use Rattle.std.specs.Str.{bytes_eq}
 use Rattle.serde_json.specs.Data.{null}
+use Rattle.shred.specs.Dispatchers.{Drafting, dispatcher_of}
 use Rattle.scene_model.specs.Parts.{Name}
 use Rattle.scene_model.specs.Rulebook.{Book, Facts, known}
 use Rattle.scene_model.specs.Scenes.{PlainSystem}
 use Rattle.scene_document.specs.Drafts.{DraftEntry, DraftSystem, barrier, system, system_of_entry}
 use Rattle.scene_document.specs.Documents.{has_taken_name, has_unknown_dependency}
 use Rattle.scene_document.specs.Openings.{systems_at}
+use Rattle.scene_world.specs.Chains.{plan_order}
 
 -- the systems among entries
 abbrev pub systems_among : List DraftEntry → List DraftSystem
@@ -64,3 +66,7 @@ nobody = record { position = 0; kind = []; config = null; access = record { read
 -- the staged system of a number
 abbrev pub meant_at : List DraftEntry → ℕ → PlainSystem
 meant_at entries number = unwrap_or (slice_get (staged_list 1 entries) number) nobody
+
+-- the systems that a builder's dispatcher runs, in the order of its plan, and then the local ones
+abbrev pub dispatched_order : {S L : Type 0} → (L → PlainSystem) → List DraftEntry → Drafting S L → List PlainSystem
+dispatched_order plain_local entries draft = plan_order (meant_at entries) (dispatcher_of draft).staging.planning.stages ++ map plain_local (dispatcher_of draft).locals

@@ -18,3 +18,4 @@ pub mod Asked
 pub use Rattle.scene_document.specs.DraftViews
 pub mod Staged
 pub mod Opened
+pub mod Members

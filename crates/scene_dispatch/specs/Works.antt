@@ -4,6 +4,7 @@ use Rattle.shred.specs.declared.work.Work.{Work}
 use Rattle.shred.specs.declared.work.Work.TheVariants.{System, Batch}
 use Rattle.shred.specs.Building.{Building}
 use Rattle.shred_stages.specs.Staging.{Staging}
+use Rattle.shred_stages.specs.Runs.{State}
 
 -- the systems, without the batches
 abbrev pub systems_in : {P B : Type 0} → List (Work P B) → List P
@@ -23,3 +24,7 @@ staging_in staging = record { planning = staging.planning; systems = systems_in 
 
 abbrev pub building_in : {P B : Type 0} → Building (Work P B) → Building P
 building_in building = record { staging = staging_in building.staging; names = building.names }
+
+-- and of systems with what is held
+abbrev pub without_batches : {V P B : Type 0} → State V (Work P B) → State V P
+without_batches state = record { systems = systems_in state.systems; held = state.held }

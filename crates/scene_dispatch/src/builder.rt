@@ -1,11 +1,11 @@
 //! The builder of the dispatcher of a scene's systems.
 ghost use Rattle.std.specs.Prelude.{◌≡◌, ◌++◌, ◌∷◌, [], None, length, OnOk, OnErr, IfOk, IfErr};
 ghost use Rattle.shred.specs.Names.{texts};
-ghost use Rattle.shred.specs.Building.{nothing_built, refusal, built_with, fenced};
+ghost use Rattle.shred.specs.Building.{nothing_built, refusal, fenced};
 ghost use Rattle.shred.specs.Dispatchers.{with_building, dispatcher_of};
 ghost use Rattle.scene_world.specs.Lent.{AreKnown};
-ghost use Rattle.scene_world.specs.Places.{kinds_of};
-ghost use Rattle.scene_dispatch.specs.Building.{RefusesOrWants};
+ghost use Rattle.scene_world.specs.Members.{kinds_by};
+ghost use Rattle.scene_dispatch.specs.Building.{RefusesOrWants, with_placed};
 
 use crate::dispatcher::SceneDispatcher;
 use crate::local::PlacedLocal;
@@ -74,20 +74,14 @@ where
         name: &str,
         after: &[&str],
     ) -> Result<SystemId, (AddError, R::System)>
-        requires known { AreKnown (kinds_of ⟦<R::Value as SceneValue<R::Data>>⟧.places R.part_of R.columns)
-            (R.declared system) }
+        requires known { AreKnown (kinds_by R.Rules R.Value.SceneValue) (R.declared system) }
         ensures taken { OnOk result (refusal self.old.building name.now (texts after.now) ≡ None) }
         ensures refused { IfErr result (λ refused.
             RefusesOrWants (refusal self.old.building name.now (texts after.now)) refused.0) }
         ensures number { IfOk result (λ id. id.0 ≡ length self.old.building.staging.systems) }
-        ensures ok { OnOk result (self.new ≡ with_building self.old
-            (built_with ⟦<ResourceId as PartialEq>⟧.eq self.old.building
-            (record { position = position; system = system })
-            (record {
-              reads = ⟦<Placed<R> as System<R::Value>>⟧.read_list (record { position = position; system = system });
-              writes = ⟦<Placed<R> as System<R::Value>>⟧.write_list (record { position = position; system = system });
-              time = R.said_time system;
-            }) name.now (texts after.now))) }
+        ensures ok { OnOk result (self.new ≡ with_placed ⟦<ResourceId as PartialEq>⟧.eq
+            ⟦<Placed<R> as System<R::Value>>⟧.read_list ⟦<Placed<R> as System<R::Value>>⟧.write_list self.old
+            (record { position = position; system = system }) (R.said_time system) name.now (texts after.now)) }
         ensures err { OnErr result (self.new ≡ self.old) }
         ensures handed_back { IfErr result (λ refused. refused.1 ≡ system) }
     {
@@ -117,8 +111,7 @@ where
         position: u32,
         system: R::System,
     ) -> Result<(), AllocFailed<R::System>>
-        requires known { AreKnown (kinds_of ⟦<R::Value as SceneValue<R::Data>>⟧.places R.part_of R.columns)
-            (R.declared system) }
+        requires known { AreKnown (kinds_by R.Rules R.Value.SceneValue) (R.declared system) }
         ensures ok { OnOk result (self.new ≡ record {
           building = self.old.building;
           locals = self.old.locals ++ record { position = position; system = system } ∷ [];

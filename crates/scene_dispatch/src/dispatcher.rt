@@ -2,11 +2,10 @@
 ghost use Rattle.std.specs.Prelude.{◌≡◌, ◌<◌, map, IfErr};
 ghost use Rattle.shred_world.specs.Bundles.{holding_of};
 ghost use Rattle.shred_stages.specs.Views.{Leaves};
-ghost use Rattle.scene_world.specs.Places.{kinds_of};
-ghost use Rattle.scene_world.specs.Turns.{placed_as};
 ghost use Rattle.scene_dispatch.specs.Orders.{turn_order};
 ghost use Rattle.scene_dispatch.specs.Held.{dispatching_in, AreHeld};
 ghost use Rattle.scene_dispatch.specs.Frames.{AreReady, Come, WantsThread};
+ghost use Rattle.scene_world.specs.Members.{kinds_by, placed_by};
 
 use crate::cause::cause_of;
 use crate::local::PlacedLocal;
@@ -59,10 +58,9 @@ where
         positions: Vec<u32>,
         local_positions: Vec<u32>,
     ) -> SceneDispatcher<R>
-        requires held { AreHeld (kinds_of ⟦<R::Value as SceneValue<R::Data>>⟧.places R.part_of R.columns)
-            (placed_as (λ placed. placed.position) (λ placed. placed.system) R.kind_of R.config_of R.declared R.sense
-            R.does).plain dispatcher.staging (map (λ local. local.placed) dispatcher.locals) positions.items
-            local_positions.items }
+        requires held { AreHeld
+            (kinds_by R.Rules R.Value.SceneValue) (placed_by R.Rules).plain dispatcher.staging
+            (map (λ local. local.placed) dispatcher.locals) positions.items local_positions.items }
         ensures { result ≡ dispatching_in (λ local. local.placed) dispatcher }
     {
         SceneDispatcher {
@@ -95,17 +93,11 @@ where
         rules: &R,
         world: &mut World<R::Value>,
     ) -> Result<(), FrameRefusal>
-        ensures comes { AreReady (kinds_of ⟦<R::Value as SceneValue<R::Data>>⟧.places R.part_of R.columns)
-            (placed_as (λ placed. placed.position) (λ placed. placed.system) R.kind_of R.config_of R.declared R.sense
-            R.does) (R.book rules.now) self.old (holding_of world.old)
-            → Come (kinds_of ⟦<R::Value as SceneValue<R::Data>>⟧.places R.part_of R.columns)
-            (placed_as (λ placed. placed.position) (λ placed. placed.system) R.kind_of R.config_of R.declared R.sense
-            R.does) (R.book rules.now) self.old (holding_of world.old) result self.new
-            (holding_of world.new) }
-        ensures order { turn_order (placed_as (λ placed. placed.position) (λ placed. placed.system) R.kind_of
-            R.config_of R.declared R.sense R.does).plain self.new
-            ≡ turn_order (placed_as (λ placed. placed.position) (λ placed. placed.system) R.kind_of
-            R.config_of R.declared R.sense R.does).plain self.old }
+        ensures comes { AreReady (kinds_by R.Rules R.Value.SceneValue) (placed_by R.Rules) (R.book rules.now)
+            self.old (holding_of world.old) → Come (kinds_by R.Rules R.Value.SceneValue) (placed_by R.Rules)
+            (R.book rules.now) self.old (holding_of world.old) result self.new (holding_of world.new) }
+        ensures order { turn_order (placed_by R.Rules).plain self.new ≡ turn_order
+            (placed_by R.Rules).plain self.old }
 
         ensures workers { self.new.workers ≡ self.old.workers }
         ensures threads { self.old.workers < 2 → IfErr result (λ cause. ¬ (WantsThread cause)) }

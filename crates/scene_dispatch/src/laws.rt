@@ -1,5 +1,5 @@
 //! Laws of systems at their positions, staged and local. The functions have no code; each contract is the law.
-ghost use Rattle.std.specs.Prelude.{◌≡◌, ℕ, List, Option, map, ◌≢◌, ◌≤◌, ◌++◌, ◌∷◌, [], suc, true, false, length, All};
+ghost use Rattle.std.specs.Prelude.{◌≡◌, ℕ, List, Option, map, ◌≢◌, ◌≤◌, ◌++◌, ◌∷◌, [], true, false, length, All};
 ghost use Rattle.std.specs.Prelude.{None, Some, Ok};
 ghost use Rattle.shred_world.specs.declared.resource_id.ResourceId.{ResourceId, ResourceId as Id};
 ghost use Rattle.shred_world.specs.Bundles.{Holding};
@@ -7,17 +7,13 @@ ghost use Rattle.shred_plan.specs.Plan.{Stage, Placing, conflict, plan, order};
 ghost use Rattle.shred_stages.specs.declared.stop.Stop.{Stop};
 ghost use Rattle.shred_stages.specs.Runs.{State, StagesRun};
 ghost use Rattle.shred.specs.Locals.{LocalsRun};
-ghost use Rattle.scene_world.specs.Places.{kinds_of};
-ghost use Rattle.scene_world.specs.Turns.{placed_as};
-ghost use Rattle.scene_world.specs.Chains.{IsReady, Comes, plan_order, PlanIsLent, EachAt};
-ghost use Rattle.scene_dispatch.specs.Works.{systems_in, HasNoBatch};
-ghost use Rattle.scene_dispatch.specs.Orders.{plain_at};
-ghost use Rattle.scene_dispatch.specs.Lent.{EachIsLent};
-ghost use Rattle.shred.specs.Building.{Declared, nothing_built, built_with, fenced, refusal};
-ghost use Rattle.shred.specs.Dispatchers.{Drafting, with_building, dispatcher_of};
+ghost use Rattle.scene_world.specs.Chains.{plan_order, PlanIsLent, EachAt};
+ghost use Rattle.scene_dispatch.specs.Works.{HasNoBatch, without_batches};
+ghost use Rattle.shred.specs.Building.{nothing_built, refusal};
+ghost use Rattle.shred.specs.Dispatchers.{Drafting, dispatcher_of};
 ghost use Rattle.shred.specs.Histories.{Asked, told};
-ghost use Rattle.scene_model.specs.Parts.{Json, Name};
-ghost use Rattle.scene_model.specs.Rulebook.{Access, Facts};
+ghost use Rattle.scene_model.specs.Parts.{Json};
+ghost use Rattle.scene_model.specs.Rulebook.{Access};
 ghost use Rattle.scene_model.specs.Scenes.{PlainSystem};
 ghost use Rattle.scene_document.specs.Drafts.{Draft, DraftEntry, DraftSystem, barrier, system};
 ghost use Rattle.scene_document.specs.Documents.{document_from};
@@ -26,24 +22,22 @@ ghost use Rattle.scene_world.specs.Standing.{Kinds};
 ghost use Rattle.scene_world.specs.Lent.{StandApart, AreKnown};
 ghost use Rattle.scene_dispatch.specs.Alike.{Beside, AreAlike, HaveOneShape, to_one, to_other};
 ghost use Rattle.scene_dispatch.specs.Declaring.{DeclareOne};
-ghost use Rattle.scene_dispatch.specs.Entries.{AreNamed, IsSaid, systems_among, plain_system, staged_list, meant_at};
-ghost use Rattle.scene_dispatch.specs.Told.{AllKnown, declared_of, told_entries};
+ghost use Rattle.scene_dispatch.specs.Entries.{AreNamed, IsSaid, systems_among, staged_list, meant_at};
+ghost use Rattle.scene_dispatch.specs.Told.{AllKnown, told_entries};
 ghost use Rattle.scene_dispatch.specs.Asked.{asked_entries, asked_as, IsDraftedOf};
+ghost use Rattle.scene_dispatch.specs.Asked.{GoesOnToBarriers, GoesOnToStaged, GoesOnToLocals};
+ghost use Rattle.scene_dispatch.specs.Entries.{dispatched_order};
+ghost use Rattle.scene_dispatch.specs.Members.{LocalsAreLent, LocalsStand, LocalsCome};
 
 use crate::PlacedLocal;
 use scene_model::DocumentRules;
-use scene_world::{Rules, SceneValue};
+use scene_world::Rules;
 use shred::{RunNow, System, Work};
 use shred_world::ResourceId;
 
 /// Where there is no batch, a plan's run of systems and batches is its run of the systems.
 pub fn without_batches_a_plan_is_its_systems<V, S: System<V>, B: System<V>>()
-    ensures { (stages : List (Stage ResourceId)) (before after : State V (Work S B)) (refused : Option (ℕ × Stop))
-        → HasNoBatch before.systems
-        → StagesRun ⟦<Work<S, B> as System<V>>⟧.meets stages before refused after
-        → HasNoBatch after.systems
-        × StagesRun S.meets stages (record { systems = systems_in before.systems; held = before.held }) refused
-        (record { systems = systems_in after.systems; held = after.held }) }
+    ensures { (stages : List (Stage ResourceId)) (before after : State V (Work S B)) (refused : Option (ℕ × Stop)) → HasNoBatch before.systems → StagesRun ⟦<Work<S, B> as System<V>>⟧.meets stages before refused after → HasNoBatch after.systems × StagesRun S.meets stages (without_batches before) refused (without_batches after) }
 {}
 
 /// Local systems that run over a world in which a scene stands are the chain of their turns over the scene, in their order.
@@ -52,25 +46,7 @@ pub fn local_systems_take_their_turns<R: Rules>(rules: &R)
 where
     R::Value: Drop,
     ensures { (locals left : List _) (before after : Holding R.Value) (refused : Option (ℕ × Stop))
-        → EachIsLent (kinds_of ⟦<R::Value as SceneValue<R::Data>>⟧.places R.part_of R.columns)
-        (map (placed_as (λ placed. placed.position) (λ placed. placed.system) R.kind_of R.config_of R.declared R.sense
-        R.does).plain (map (λ local. local.placed) locals))
-        → IsReady (kinds_of ⟦<R::Value as SceneValue<R::Data>>⟧.places R.part_of R.columns)
-        (placed_as (λ placed. placed.position) (λ placed. placed.system) R.kind_of R.config_of R.declared R.sense
-        R.does) (R.book rules.now)
-        (plain_at (map (placed_as (λ placed. placed.position) (λ placed. placed.system) R.kind_of R.config_of
-        R.declared R.sense R.does).plain (map (λ local. local.placed) locals)))
-        (record { systems = map (λ local. local.placed) locals; held = before })
-        → LocalsRun ⟦<PlacedLocal<R> as RunNow<R::Value>>⟧.meets 0 locals before refused left after
-        → Comes (kinds_of ⟦<R::Value as SceneValue<R::Data>>⟧.places R.part_of R.columns)
-        (placed_as (λ placed. placed.position) (λ placed. placed.system) R.kind_of R.config_of R.declared R.sense
-        R.does) (R.book rules.now)
-        (plain_at (map (placed_as (λ placed. placed.position) (λ placed. placed.system) R.kind_of R.config_of
-        R.declared R.sense R.does).plain (map (λ local. local.placed) locals)))
-        (map (placed_as (λ placed. placed.position) (λ placed. placed.system) R.kind_of R.config_of R.declared R.sense
-        R.does).plain (map (λ local. local.placed) locals))
-        (record { systems = map (λ local. local.placed) locals; held = before }) refused
-        (record { systems = map (λ local. local.placed) left; held = after }) }
+        → LocalsAreLent R.Rules R.Value.SceneValue locals → LocalsStand R.Rules R.Value.SceneValue locals rules.now before → LocalsRun ⟦<PlacedLocal<R> as RunNow<R::Value>>⟧.meets 0 locals before refused left after → LocalsCome R.Rules R.Value.SceneValue locals rules.now before refused left after }
 {}
 
 /// Two planners that are told alike, whatever their ids are, make plans of one shape: stage for stage and group for
@@ -117,32 +93,11 @@ pub fn a_builder_goes_on_with_entries<V, S, L>()
         → IsDraftedOf kinds ⟦<ResourceId as PartialEq>⟧.eq plain plain_local []
         (record { building = nothing_built; locals = []; workers = workers }) }
     ensures barrier { (kinds : Kinds V) (plain : S → PlainSystem) (plain_local : L → PlainSystem)
-        (early : List DraftEntry) (drafting : Drafting S L)
-        → IsDraftedOf kinds ⟦<ResourceId as PartialEq>⟧.eq plain plain_local early drafting
-        → IsDraftedOf kinds ⟦<ResourceId as PartialEq>⟧.eq plain plain_local (early ++ barrier ∷ [])
-        (with_building drafting (record {
-          staging = fenced ⟦<ResourceId as PartialEq>⟧.eq drafting.building.staging;
-          names = drafting.building.names;
-        })) }
+        → GoesOnToBarriers kinds ⟦<ResourceId as PartialEq>⟧.eq plain plain_local }
     ensures staged { (kinds : Kinds V) (plain : S → PlainSystem) (plain_local : L → PlainSystem)
-        (early : List DraftEntry) (drafting : Drafting S L)
-        (one : DraftSystem) (facts : Facts) (taken : S) (declared : Declared) (name : Name) (after : List Name)
-        → IsDraftedOf kinds ⟦<ResourceId as PartialEq>⟧.eq plain plain_local early drafting
-        → one.local ≡ false → one.facts ≡ Some facts → plain taken ≡ plain_system (suc (length early)) one facts
-        → declared ≡ declared_of kinds (suc (length early)) facts → name ≡ one.name → after ≡ one.after
-        → IsDraftedOf kinds ⟦<ResourceId as PartialEq>⟧.eq plain plain_local (early ++ system one ∷ [])
-        (with_building drafting
-        (built_with ⟦<ResourceId as PartialEq>⟧.eq drafting.building taken declared name after)) }
+        → GoesOnToStaged kinds ⟦<ResourceId as PartialEq>⟧.eq plain plain_local }
     ensures local { (kinds : Kinds V) (plain : S → PlainSystem) (plain_local : L → PlainSystem)
-        (early : List DraftEntry) (drafting : Drafting S L)
-        (one : DraftSystem) (facts : Facts) (taken : L)
-        → IsDraftedOf kinds ⟦<ResourceId as PartialEq>⟧.eq plain plain_local early drafting
-        → one.local ≡ true → one.facts ≡ Some facts → plain_local taken ≡ plain_system (suc (length early)) one facts
-        → IsDraftedOf kinds ⟦<ResourceId as PartialEq>⟧.eq plain plain_local (early ++ system one ∷ []) (record {
-          building = drafting.building;
-          locals = drafting.locals ++ taken ∷ [];
-          workers = drafting.workers;
-        }) }
+        → GoesOnToLocals kinds ⟦<ResourceId as PartialEq>⟧.eq plain plain_local }
 {}
 
 /// Nothing but want of memory stands against a system of a document, once a builder has the entries before it: its name
@@ -167,12 +122,10 @@ pub fn a_dispatcher_runs_as_the_document_says<V, S, L>()
         (entries : List DraftEntry) (drafting : Drafting S L)
         → IsDraftedOf kinds ⟦<ResourceId as PartialEq>⟧.eq plain plain_local entries drafting
         → EachAt (λ number one. plain one ≡ meant_at entries number) (dispatcher_of drafting).staging.systems }
-    ensures order { (kinds : Kinds V) (plain : S → PlainSystem) (plain_local : L → PlainSystem)
-        (draft : Draft) (drafting : Drafting S L) (frame : ℕ)
-        → StandApart kinds → AllKnown kinds draft.entries → AreNamed draft.entries
-        → IsDraftedOf kinds ⟦<ResourceId as PartialEq>⟧.eq plain plain_local draft.entries drafting
-        → plan_order (meant_at draft.entries) (dispatcher_of drafting).staging.planning.stages
-        ++ map plain_local (dispatcher_of drafting).locals ≡ (frames_of draft frame).order }
+    ensures order { (kinds : Kinds V) (plain : S → PlainSystem) (plain_local : L → PlainSystem) (draft : Draft)
+        (drafting : Drafting S L) (frame : ℕ) → StandApart kinds → AllKnown kinds draft.entries → AreNamed
+        draft.entries → IsDraftedOf kinds ⟦<ResourceId as PartialEq>⟧.eq plain plain_local draft.entries
+        drafting → dispatched_order plain_local draft.entries drafting ≡ (frames_of draft frame).order }
     ensures lent { (kinds : Kinds V) (plain : S → PlainSystem) (plain_local : L → PlainSystem)
         (draft : Draft) (drafting : Drafting S L)
         → StandApart kinds → AllKnown kinds draft.entries → AreNamed draft.entries

@@ -5,7 +5,7 @@ ghost use Rattle.scene_document.specs.Drafts.{Draft};
 ghost use Rattle.scene_document.specs.DraftViews.{plain_draft};
 ghost use Rattle.scene_document.specs.Openings.{all_systems, systems_at};
 ghost use Rattle.scene_world.specs.Standing.{seen_in, plain_of};
-ghost use Rattle.scene_world.specs.Places.{kinds_of};
+ghost use Rattle.scene_world.specs.Members.{kinds_by};
 ghost use Rattle.scene_dispatch.specs.Opened.{HasEmptyQueue, StandsElse};
 
 use scene_document::EntryDraft;
@@ -65,10 +65,8 @@ where
     ensures queues { OnOk result (All (HasEmptyQueue ⟦<R::Value as SceneValue<R::Data>>⟧.places world.new)
         positions.now) }
     ensures others { StandsElse ⟦<R::Value as SceneValue<R::Data>>⟧.places positions.now world.old world.new }
-    ensures scene { plain_of (kinds_of ⟦<R::Value as SceneValue<R::Data>>⟧.places R.part_of R.columns)
-        (seen_in (holding_of world.new))
-        ≡ plain_of (kinds_of ⟦<R::Value as SceneValue<R::Data>>⟧.places R.part_of R.columns)
-        (seen_in (holding_of world.old)) }
+    ensures scene { plain_of (kinds_by R.Rules R.Value.SceneValue) (seen_in (holding_of world.new)) ≡ plain_of
+        (kinds_by R.Rules R.Value.SceneValue) (seen_in (holding_of world.old)) }
 {
     for position in positions {
         open_queue::<R::Value, R::Data>(world, *position, alloc)?;

@@ -1,21 +1,20 @@
 //! The dispatcher of a document's systems.
 ghost use Rattle.std.specs.Prelude.{◌≡◌, ◌++◌, ◌∷◌, [], ℕ, suc, List, length, map, All, IfOk, OnOk, vec_len, ◌≤◌};
 ghost use Rattle.shred.specs.Names.{texts};
-ghost use Rattle.shred.specs.Building.{built_with};
-ghost use Rattle.shred.specs.Dispatchers.{with_building};
 ghost use Rattle.scene_document.specs.Drafts.{Draft, DraftEntry};
 ghost use Rattle.scene_document.specs.DraftViews.{plain_draft, AreMade};
 ghost use Rattle.scene_document.specs.DraftViews.{IsOfBook as IsSaidBy};
 ghost use Rattle.scene_document.specs.Openings.{frames_of};
 ghost use Rattle.scene_world.specs.Lent.{AreKnown};
-ghost use Rattle.scene_world.specs.Places.{kinds_of};
-ghost use Rattle.scene_world.specs.Turns.{placed_as, IsOfBook};
+ghost use Rattle.scene_world.specs.Turns.{IsOfBook};
+ghost use Rattle.scene_world.specs.Members.{kinds_by, placed_by};
 ghost use Rattle.scene_dispatch.specs.Orders.{turn_order};
 ghost use Rattle.scene_dispatch.specs.Staged.{AreOfDocument, IsFit, HasSystems};
+ghost use Rattle.scene_dispatch.specs.Building.{with_placed};
 
 use crate::{SceneDispatcher, SceneDispatcherBuilder};
 use scene_document::{EntryDraft, MadeDraft, SystemDraft};
-use scene_world::{Placed, Rules, SceneValue};
+use scene_world::{Placed, Rules};
 use shred_stages::System;
 use shred_world::ResourceId;
 use std::alloc::{AllocError, Global};
@@ -37,16 +36,12 @@ where
     requires document { AreOfDocument (R.book rules.now) (map plain_draft entries.items) }
     requires said { All (IsSaidBy R.kind_of R.config_of (R.book rules.now)) entries.items }
     requires made { AreMade R.declared R.said_time (R.made_by rules.now) entries.items }
-    ensures order { IfOk result (λ dispatcher. (plain : Draft) (frame : ℕ)
-        → plain.entries ≡ map plain_draft entries.entry.items
-        → turn_order (placed_as (λ placed. placed.position) (λ placed. placed.system) R.kind_of R.config_of
-        R.declared R.sense R.does).plain dispatcher ≡ (frames_of plain frame).order) }
-    ensures staged { IfOk result (λ dispatcher. All (IsOfBook (placed_as (λ placed. placed.position)
-        (λ placed. placed.system) R.kind_of R.config_of R.declared R.sense R.does) (R.book rules.now))
-        dispatcher.staging.systems) }
-    ensures locals { IfOk result (λ dispatcher. All (IsOfBook (placed_as (λ placed. placed.position)
-        (λ placed. placed.system) R.kind_of R.config_of R.declared R.sense R.does) (R.book rules.now))
-        dispatcher.locals) }
+    ensures order { IfOk result (λ dispatcher. (plain : Draft) (frame : ℕ) → plain.entries ≡ map plain_draft
+        entries.entry.items → turn_order (placed_by R.Rules).plain dispatcher ≡ (frames_of plain frame).order) }
+    ensures staged { IfOk result
+        (λ dispatcher. All (IsOfBook (placed_by R.Rules) (R.book rules.now)) dispatcher.staging.systems) }
+    ensures locals { IfOk result
+        (λ dispatcher. All (IsOfBook (placed_by R.Rules) (R.book rules.now)) dispatcher.locals) }
     ensures workers { IfOk result (λ dispatcher. dispatcher.workers ≡ workers) }
 {
     let mut builder = SceneDispatcherBuilder::new(alloc, workers);
@@ -67,15 +62,13 @@ fn add_entries<R: Rules>(
 ) -> Result<(), AllocError>
 where
     R::Value: Drop,
-    requires none { HasSystems (kinds_of ⟦<R::Value as SceneValue<R::Data>>⟧.places R.part_of R.columns)
-        ⟦<ResourceId as PartialEq>⟧.eq (placed_as (λ placed. placed.position) (λ placed. placed.system) R.kind_of
-        R.config_of R.declared R.sense R.does) (R.book rules.now) [] builder.old }
+    requires none { HasSystems (kinds_by R.Rules R.Value.SceneValue) ⟦<ResourceId as PartialEq>⟧.eq
+        (placed_by R.Rules) (R.book rules.now) [] builder.old }
     requires few { vec_len entries ≤ 4096 }
-    requires fit { All (IsFit (kinds_of ⟦<R::Value as SceneValue<R::Data>>⟧.places R.part_of R.columns) R.kind_of
-        R.config_of R.declared R.said_time (R.made_by rules.now) (R.book rules.now)) entries.items }
-    ensures has { OnOk result (HasSystems (kinds_of ⟦<R::Value as SceneValue<R::Data>>⟧.places R.part_of R.columns)
-        ⟦<ResourceId as PartialEq>⟧.eq (placed_as (λ placed. placed.position) (λ placed. placed.system) R.kind_of
-        R.config_of R.declared R.sense R.does) (R.book rules.now) (map plain_draft entries.entry.items) builder.new) }
+    requires fit { All (IsFit (kinds_by R.Rules R.Value.SceneValue) R.kind_of R.config_of R.declared R.said_time
+        (R.made_by rules.now) (R.book rules.now)) entries.items }
+    ensures has { OnOk result (HasSystems (kinds_by R.Rules R.Value.SceneValue) ⟦<ResourceId as PartialEq>⟧.eq
+        (placed_by R.Rules) (R.book rules.now) (map plain_draft entries.entry.items) builder.new) }
     ensures workers { OnOk result (builder.new.workers ≡ builder.old.workers) }
 {
     let mut place = 1;
@@ -98,15 +91,12 @@ fn add_entry<R: Rules>(
 ) -> Result<(), AllocError>
 where
     R::Value: Drop,
-    requires fit { IsFit (kinds_of ⟦<R::Value as SceneValue<R::Data>>⟧.places R.part_of R.columns) R.kind_of
-        R.config_of R.declared R.said_time (R.made_by rules.now) (R.book rules.now) entry }
-    ensures has { OnOk result ((early : List DraftEntry) → place ≡ suc (length early)
-        → HasSystems (kinds_of ⟦<R::Value as SceneValue<R::Data>>⟧.places R.part_of R.columns)
-        ⟦<ResourceId as PartialEq>⟧.eq (placed_as (λ placed. placed.position) (λ placed. placed.system) R.kind_of
-        R.config_of R.declared R.sense R.does) (R.book rules.now) early builder.old
-        → HasSystems (kinds_of ⟦<R::Value as SceneValue<R::Data>>⟧.places R.part_of R.columns)
-        ⟦<ResourceId as PartialEq>⟧.eq (placed_as (λ placed. placed.position) (λ placed. placed.system) R.kind_of
-        R.config_of R.declared R.sense R.does) (R.book rules.now) (early ++ plain_draft entry.entry ∷ []) builder.new) }
+    requires fit { IsFit (kinds_by R.Rules R.Value.SceneValue) R.kind_of R.config_of R.declared R.said_time
+        (R.made_by rules.now) (R.book rules.now) entry }
+    ensures has { OnOk result ((early : List DraftEntry) → place ≡ suc (length early) → HasSystems (kinds_by
+        R.Rules R.Value.SceneValue) ⟦<ResourceId as PartialEq>⟧.eq (placed_by R.Rules) (R.book rules.now) early
+        builder.old → HasSystems (kinds_by R.Rules R.Value.SceneValue) ⟦<ResourceId as PartialEq>⟧.eq
+        (placed_by R.Rules) (R.book rules.now) (early ++ plain_draft entry.entry ∷ []) builder.new) }
     ensures workers { OnOk result (builder.new.workers ≡ builder.old.workers) }
 {
     let EntryDraft::System(draft) = entry else {
@@ -139,8 +129,7 @@ fn add_local<R: Rules>(
 ) -> Result<(), AllocError>
 where
     R::Value: Drop,
-    requires known { AreKnown (kinds_of ⟦<R::Value as SceneValue<R::Data>>⟧.places R.part_of R.columns)
-        (R.declared made.system) }
+    requires known { AreKnown (kinds_by R.Rules R.Value.SceneValue) (R.declared made.system) }
     ensures { OnOk result (builder.new ≡ record {
       building = builder.old.building;
       locals = builder.old.locals ++ record { position = place; system = made.system } ∷ [];
@@ -165,16 +154,9 @@ fn add_staged<R: Rules>(
 ) -> Result<(), AllocError>
 where
     R::Value: Drop,
-    requires known { AreKnown (kinds_of ⟦<R::Value as SceneValue<R::Data>>⟧.places R.part_of R.columns)
-        (R.declared made.system) }
-    ensures { OnOk result (builder.new ≡ with_building builder.old
-        (built_with ⟦<ResourceId as PartialEq>⟧.eq builder.old.building
-        (record { position = place; system = made.system })
-        (record {
-          reads = ⟦<Placed<R> as System<R::Value>>⟧.read_list (record { position = place; system = made.system });
-          writes = ⟦<Placed<R> as System<R::Value>>⟧.write_list (record { position = place; system = made.system });
-          time = R.said_time made.system;
-        }) name.now (texts after.now))) }
+    requires known { AreKnown (kinds_by R.Rules R.Value.SceneValue) (R.declared made.system) }
+    ensures { OnOk result (builder.new ≡ with_placed ⟦<ResourceId as PartialEq>⟧.eq ⟦<Placed<R> as System<R::Value>>⟧.read_list ⟦<Placed<R> as System<R::Value>>⟧.write_list builder.old (record
+        { position = place; system = made.system }) (R.said_time made.system) name.now (texts after.now)) }
 {
     match builder.add(place, made.system, name, after) {
         Ok(_) => Ok(()),

@@ -20,7 +20,7 @@ use Rattle.scene_document.specs.declared.draft.CommandDraft.{CommandDraft}
 use Rattle.scene_document.specs.declared.draft.CommandDraft.TheVariants as asked
 use Rattle.std.specs.Global.{Vec}
 use Rattle.std.proofs.lemmas.Bool.{lt-ltb}
-use Rattle.scene_model.specs.declared.access.Accessor.{Accessor}
+use Rattle.scene_model.specs.declared.access.SystemAccess.{SystemAccess}
 use Rattle.scene_model.specs.Parts.{Json, Name, Ref, living, gone, Part, is_among, name_at}
 use Rattle.scene_model.specs.Rulebook.{Book, Access}
 use Rattle.scene_model.specs.Scenes.{lives}
@@ -157,7 +157,7 @@ that-plain {S} test (entry.System draft ∷ entries) = ap (λ b. b || list_any (
     that-made None = refl
     that-made (Some made) = refl
 
-that-same : {S : Type 0} (test other : Accessor → Bool) → ((accessor : Accessor) → test accessor ≡ other accessor) → (entries : List (EntryDraft S)) → list_any (entry_that test) entries ≡ list_any (entry_that other) entries
+that-same : {S : Type 0} (test other : SystemAccess → Bool) → ((accessor : SystemAccess) → test accessor ≡ other accessor) → (entries : List (EntryDraft S)) → list_any (entry_that test) entries ≡ list_any (entry_that other) entries
 that-same test other h [] = refl
 that-same test other h (entry.Barrier ∷ entries) = that-same test other h entries
 that-same {S} test other h (entry.System draft ∷ entries) = ap (λ b. b || list_any (entry_that test) entries) (same-made draft.made) ∙ ap (λ b. made_that other draft.made || b) (that-same test other h entries)

@@ -6,7 +6,7 @@ use Rattle.std.specs.Option.{option_or}
 use Rattle.std.specs.Str.{bytes_eq}
 use Rattle.scene_model.specs.declared.refusals.DocRefusal.{DocRefusal}
 use Rattle.scene_model.specs.declared.refusals.DocRefusal.TheVariants.{UnknownKind, DoubleId, IdNotBelowNext, Dangling, UnknownSystem, NameTaken, UnknownDependency, MissingGlobal, ReservedWrite, TooManyWorkers, TooManySystems, UnknownStore, TooManyEntities}
-use Rattle.scene_model.specs.declared.access.Accessor.{Accessor}
+use Rattle.scene_model.specs.declared.access.SystemAccess.{SystemAccess}
 use Rattle.scene_document.specs.declared.draft.EntityDraft.{EntityDraft}
 use Rattle.scene_document.specs.declared.draft.MadeDraft.{MadeDraft}
 use Rattle.scene_document.specs.declared.draft.EntryDraft.{EntryDraft}
@@ -57,11 +57,11 @@ is_unmade entry.Barrier = false
 is_unmade (entry.System draft) = is_none draft.made
 
 -- whether a test holds of what a made system declares
-abbrev pub made_that : {S : Type 0} → (Accessor → Bool) → Option (MadeDraft S) → Bool
+abbrev pub made_that : {S : Type 0} → (SystemAccess → Bool) → Option (MadeDraft S) → Bool
 made_that test None = false
 made_that test (Some made) = test made.accessor
 
-abbrev pub entry_that : {S : Type 0} → (Accessor → Bool) → EntryDraft S → Bool
+abbrev pub entry_that : {S : Type 0} → (SystemAccess → Bool) → EntryDraft S → Bool
 entry_that test entry.Barrier = false
 entry_that test (entry.System draft) = made_that test draft.made
 

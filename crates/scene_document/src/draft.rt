@@ -1,5 +1,5 @@
 //! A document as it reads, before it is tested: its shape is right, and the rules have read what is theirs.
-use scene_model::Accessor;
+use scene_model::SystemAccess;
 use serde_json::Value;
 use shred_plan::RunningTime;
 
@@ -15,7 +15,7 @@ pub struct EntityDraft<D> {
 #[derive(Drop)]
 pub struct MadeDraft<S> {
     pub system: S,
-    pub accessor: Accessor,
+    pub accessor: SystemAccess,
     pub time: RunningTime,
 }
 

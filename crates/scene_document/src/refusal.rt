@@ -17,7 +17,7 @@ use crate::ids::ids_of;
 use crate::loaded::Limits;
 use crate::names::{has_taken_name, has_unknown_dependency};
 use crate::{CommandDraft, DocumentDraft, EntityDraft, EntryDraft, is_store};
-use scene_model::{Accessor, DocRefusal, DocumentRules};
+use scene_model::{DocRefusal, DocumentRules, SystemAccess};
 use std::alloc::{AllocError, Global};
 use std::collections::BTreeSet;
 
@@ -169,7 +169,7 @@ fn lacks_one<G: Drop>(
 fn lacks_global<G: Drop>(
     names: &[&'static str],
     globals: &[Option<(usize, G)>],
-    accessor: &Accessor,
+    accessor: &SystemAccess,
 ) -> bool
     ensures { result ≡ lacks_declared (texts names.now) globals.now (access_of accessor.now) }
 {

@@ -56,7 +56,7 @@ under-live ids [] kind held test found = absurd (none-some held found)
 under-live ids (entry ∷ parts) kind held test found = let tests = and_parts (refs_live ids entry.1) (list_all (λ one. refs_live ids one.1) parts) test in here (under-live ids parts kind held tests.1) tests.0 (bytes_eq kind entry.0) found
   where
     here : (under kind parts ≡ Some held → refs_live ids held ≡ true) → refs_live ids entry.1 ≡ true → (b : Bool) → cond b (Some entry.1) (under kind parts) ≡ Some held → refs_live ids held ≡ true
-    here later first true e = subst (λ part. refs_live ids part ≡ true) (same_Some e) first
+    here later first true e = subst (λ part. refs_live ids part ≡ true) (same_Some _ _ e) first
     here later first false e = later e
 
 -- what lives in a list with one more, and is not the one, lives in the list
@@ -96,7 +96,7 @@ module _ (names : List Name) where
 
       part-stays : (other : ℕ) (kind : Name) (held : Part) → is_among kind names ≡ true → lives other scene.ids ≡ true → (o : Option Part) → scene.part other kind ≡ o → option_map (part_without id) o ≡ Some held → All (LivesOrGone (filter (λ other. not (eqb other id)) scene.ids)) held.refs
       part-stays other kind held known alive None is found = absurd (none-some held found)
-      part-stays other kind held known alive (Some old) is found = subst (λ part. All (LivesOrGone (filter (λ other. not (eqb other id)) scene.ids)) part.refs) (same_Some found) (All-over (LivesOrGone scene.ids) (LivesOrGone (filter (λ other. not (eqb other id)) scene.ids)) (without_ref id) old.refs ref-stays (good other kind old known alive is))
+      part-stays other kind held known alive (Some old) is found = subst (λ part. All (LivesOrGone (filter (λ other. not (eqb other id)) scene.ids)) part.refs) (same_Some _ _ found) (All-over (LivesOrGone scene.ids) (LivesOrGone (filter (λ other. not (eqb other id)) scene.ids)) (without_ref id) old.refs ref-stays (good other kind old known alive is))
 
       here : (other : ℕ) (kind : Name) (held : Part) → is_among kind names ≡ true → lives other scene.ids ≡ true → (b : Bool) → cond b None (option_map (part_without id) (scene.part other kind)) ≡ Some held → All (LivesOrGone (filter (λ other. not (eqb other id)) scene.ids)) held.refs
       here other kind held known alive true found = absurd (none-some held found)
@@ -104,7 +104,7 @@ module _ (names : List Name) where
   apply-live (put id kind part) scene after good e = let made = tested-makes (lives id scene.ids && refs_live scene.ids part) scene _ after e in subst (λ s. LiveOrGoneUnder names s.ids s.part) made.1 (λ other name held known alive found. here other name held known alive (and_parts (lives id scene.ids) (refs_live scene.ids part) made.0).1 (eqb other id && bytes_eq name kind) found)
     where
       here : (other : ℕ) (name : Name) (held : Part) → is_among name names ≡ true → lives other scene.ids ≡ true → refs_live scene.ids part ≡ true → (b : Bool) → cond b (Some part) (scene.part other name) ≡ Some held → All (LivesOrGone scene.ids) held.refs
-      here other name held known alive tested true found = subst (λ one. All (LivesOrGone scene.ids) one.refs) (same_Some found) (tested-live scene.ids scene.ids part.refs (λ _ t. t) tested)
+      here other name held known alive tested true found = subst (λ one. All (LivesOrGone scene.ids) one.refs) (same_Some _ _ found) (tested-live scene.ids scene.ids part.refs (λ _ t. t) tested)
       here other name held known alive tested false found = good other name held known alive found
   apply-live (take id kind) scene after good e = subst (λ s. LiveOrGoneUnder names s.ids s.part) (tested-makes (lives id scene.ids) scene _ after e).1 (λ other name held known alive found. here other name held known alive (eqb other id && bytes_eq name kind) found)
     where

@@ -1,5 +1,5 @@
 -- One outcome: what a system is lent determines what becomes of its turn.
-use Rattle.std.specs.Prelude.{◌≡◌, ℕ, true, MatchOption}
+use Rattle.std.specs.Prelude.{◌≡◌, ℕ, true, List, Ok, MatchOption}
 use Rattle.scene_model.specs.declared.refusals.FrameRefusal.{FrameRefusal}
 use Rattle.scene_model.specs.declared.refusals.FrameRefusal.TheVariants.{System, GoneReference, IdsSpent, IndicesSpent, GenerationsSpent, TooManyCommands, Memory, Threads}
 use Rattle.scene_model.specs.declared.refusals.Report.{Report}
@@ -7,6 +7,8 @@ use Rattle.scene_model.specs.Parts.{Json, Name, is_among}
 use Rattle.scene_model.specs.Rulebook.{Book, Access, Facts, known, Fragment, Outcome, leaves, refuses, fills}
 use Rattle.scene_model.specs.Scenes.{IdsAscend, PartsAdmitted, RefsLive, GlobalsReadable}
 use Rattle.scene_document.specs.Drafts.{Draft}
+use Rattle.scene_document.specs.Documents.{document_of}
+use Rattle.scene.specs.Outcomes.{Bounds}
 
 -- two fragments that a system may leave are one under what it writes
 pub record SameLeft (access : Access) (one other : Fragment) : Type 0 where
@@ -61,3 +63,7 @@ pub record SameButPlace (one other : Draft) : Type 0 where
   pub entries : one.entries ≡ other.entries
   pub frames : one.frames ≡ other.frames
   pub commands : one.commands ≡ other.commands
+
+-- an input is a document under rules and bounds, with this draft
+abbrev pub GivesDraft : Book → Bounds → List ℕ → Draft → Type 0
+GivesDraft book bounds input draft = document_of book bounds.indices input ≡ Ok draft

@@ -3,8 +3,9 @@ use Rattle.std.specs.Prelude.{◌≡◌, ◌+◌, ℕ, List, map, drop, ◌++◌
 use Rattle.scene_model.specs.declared.refusals.FrameRefusal.{FrameRefusal}
 use Rattle.scene_model.specs.declared.refusals.Report.{Report}
 use Rattle.scene_model.specs.declared.refusals.Skip.{Skip}
-use Rattle.scene_model.specs.Scenes.{PlainFrame}
+use Rattle.scene_model.specs.Scenes.{PlainScene, PlainFrame}
 use Rattle.scene_document.specs.Drafts.{Draft}
+use Rattle.scene_document.specs.Openings.{first_scene}
 
 -- the frames behind the first ones, by their numbers from 1
 abbrev pub frames_behind : ℕ → (ℕ → PlainFrame) → ℕ → PlainFrame
@@ -35,3 +36,7 @@ pub record IsInTwoParts (whole first second : Draft) : Type 0 where
   pub commands : whole.commands ≡ first.commands
   pub rest : second.commands ≡ drop first.frames first.commands
   pub frames : whole.frames ≡ first.frames + second.frames
+
+-- a document begins with a scene
+abbrev pub BeginsAt : Draft → PlainScene → Type 0
+BeginsAt draft scene = first_scene draft ≡ scene

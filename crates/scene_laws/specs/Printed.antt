@@ -5,9 +5,10 @@ use Rattle.serde_json.specs.Written.{has_float}
 use Rattle.scene_model.specs.Parts.{Json, Name, Part, is_among}
 use Rattle.scene_model.specs.Rulebook.{Book}
 use Rattle.scene_model.specs.Scenes.{PlainScene, IdsFit, RefsLive, PartsOwned}
-use Rattle.scene_document.specs.Drafts.{Draft, DraftEntry, DraftCommand}
+use Rattle.scene_document.specs.Drafts.{Draft, DraftEntry, DraftCommand, draft_from}
 use Rattle.scene_document.specs.Texts.{scene_json}
 use Rattle.scene_document.specs.Documents.{document_from}
+use Rattle.scene_document.specs.Openings.{first_scene}
 use Rattle.scene_laws.specs.References.{StandUnder}
 
 -- two sets of rules read the same documents, and refuse the others alike
@@ -52,3 +53,8 @@ pub record HasCourse (entries : List DraftEntry) (frames : ℕ) (commands : List
   pub same_entries : draft.entries ≡ entries
   pub same_frames : draft.frames ≡ frames
   pub same_commands : draft.commands ≡ commands
+
+-- a scene with the systems, frames and commands of a document is read as a draft of it and of what these say
+abbrev pub GivesDocument : Book → PlainScene → Json → Json → Json → List DraftEntry → ℕ → List (List DraftCommand) → Type 0
+GivesDocument book scene systems frames commands entries asked lists =
+    (draft : Draft) × (draft_from book (document_json book scene systems frames commands) ≡ Some draft) × (first_scene draft ≡ scene) × HasCourse entries asked lists draft

@@ -11,8 +11,7 @@ ghost use Rattle.scene_document.specs.Documents.{document_of};
 ghost use Rattle.scene_document.specs.Openings.{first_scene, frames_of};
 ghost use Rattle.scene_model.specs.Frames.{Reaches};
 ghost use Rattle.scene.specs.Outcomes.{Bounds, IsRunOf};
-ghost use Rattle.scene_laws.specs.Parts.{frames_behind};
-ghost use Rattle.scene_laws.specs.Ids.{IdsGoOn, Gives, TakesAway};
+ghost use Rattle.scene_laws.specs.Ids.{IdsGoOn, Gives, TakesAway, ReachesBehind};
 
 use scene_model::DocumentRules;
 
@@ -24,11 +23,11 @@ pub fn an_id_is_given_once<R: DocumentRules>(rules: &R)
     ensures go_on { (limit : ℕ) (frames : ℕ → PlainFrame) (count : ℕ) (scene after : PlainScene)
         (skips : List Skip) → IdsFit scene.next scene.ids
         → Reaches (R.book rules.now) limit frames count scene after skips → IdsGoOn scene after }
-    ensures document { (indices limit : ℕ) (input : List ℕ) (draft : Draft) (count more : ℕ) (mid after : PlainScene)
-        (skips rest : List Skip) → document_of (R.book rules.now) indices input ≡ Ok draft
-        → Reaches (R.book rules.now) limit (frames_of draft) count (first_scene draft) mid skips
-        → Reaches (R.book rules.now) limit (frames_behind count (frames_of draft)) more mid after rest
-        → IdsGoOn (first_scene draft) mid × IdsGoOn mid after }
+    ensures document { (indices limit : ℕ) (input : List ℕ) (draft : Draft) (count more : ℕ)
+        (mid end : PlainScene) (skips rest : List Skip) → let book = R.book rules.now in document_of book
+        indices input ≡ Ok draft → Reaches book limit (frames_of draft) count (first_scene draft) mid skips
+        → ReachesBehind book limit draft count more mid end rest → IdsGoOn (first_scene draft) mid
+        × IdsGoOn mid end }
     ensures run { (bounds : Bounds) (input : List ℕ) (report : Report) (text : List ℕ)
         → (ran : IsRunOf (R.book rules.now) bounds input report text) → IdsGoOn (first_scene ran.draft) ran.scene }
     ensures spawned { (parts : List (Name × Part)) (scene after : PlainScene) → IdsFit scene.next scene.ids

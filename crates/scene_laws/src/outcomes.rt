@@ -1,12 +1,11 @@
 //! A run has one outcome.
-ghost use Rattle.std.specs.Prelude.{◌≡◌, ℕ, List, Ok};
+ghost use Rattle.std.specs.Prelude.{◌≡◌, ℕ, List};
 ghost use Rattle.scene_model.specs.Scenes.{PlainScene};
 ghost use Rattle.scene_model.specs.declared.refusals.Report.{Report};
 ghost use Rattle.scene_document.specs.Drafts.{Draft};
-ghost use Rattle.scene_document.specs.Documents.{document_of};
 ghost use Rattle.scene.specs.Runs.{CanBegin, Ran};
 ghost use Rattle.scene.specs.Outcomes.{Bounds, IsRunOf};
-ghost use Rattle.scene_laws.specs.OneOutcome.{OneOutcome, HadMeans, SameButPlace};
+ghost use Rattle.scene_laws.specs.OneOutcome.{OneOutcome, HadMeans, SameButPlace, GivesDraft};
 
 use scene_model::DocumentRules;
 
@@ -29,15 +28,11 @@ pub fn one_outcome<R: DocumentRules>(rules: &R)
 /// or at a limit of the world's entities, have the same report and the same text.
 pub fn workers_and_store_change_nothing<R: DocumentRules>(rules: &R)
     ensures report { (bounds : Bounds) (input other : List ℕ) (one two : Draft) (first second : Report)
-        (text more : List ℕ) → OneOutcome (R.book rules.now) → HadMeans first → HadMeans second
-        → document_of (R.book rules.now) bounds.indices input ≡ Ok one
-        → document_of (R.book rules.now) bounds.indices other ≡ Ok two → SameButPlace one two
-        → IsRunOf (R.book rules.now) bounds input first text
-        → IsRunOf (R.book rules.now) bounds other second more → first ≡ second }
+        (text more : List ℕ) → let book = R.book rules.now in OneOutcome book → HadMeans first → HadMeans second
+        → GivesDraft book bounds input one → GivesDraft book bounds other two → SameButPlace one two
+        → IsRunOf book bounds input first text → IsRunOf book bounds other second more → first ≡ second }
     ensures text { (bounds : Bounds) (input other : List ℕ) (one two : Draft) (first second : Report)
-        (text more : List ℕ) → OneOutcome (R.book rules.now) → HadMeans first → HadMeans second
-        → document_of (R.book rules.now) bounds.indices input ≡ Ok one
-        → document_of (R.book rules.now) bounds.indices other ≡ Ok two → SameButPlace one two
-        → IsRunOf (R.book rules.now) bounds input first text
-        → IsRunOf (R.book rules.now) bounds other second more → text ≡ more }
+        (text more : List ℕ) → let book = R.book rules.now in OneOutcome book → HadMeans first → HadMeans second
+        → GivesDraft book bounds input one → GivesDraft book bounds other two → SameButPlace one two
+        → IsRunOf book bounds input first text → IsRunOf book bounds other second more → text ≡ more }
 {}

@@ -4,12 +4,11 @@ ghost use Rattle.scene_model.specs.Scenes.{PlainScene, PlainFrame};
 ghost use Rattle.scene_model.specs.declared.refusals.Report.{Report};
 ghost use Rattle.scene_model.specs.declared.refusals.Skip.{Skip};
 ghost use Rattle.scene_document.specs.Drafts.{Draft};
-ghost use Rattle.scene_document.specs.Openings.{first_scene};
 ghost use Rattle.scene_document.specs.Texts.{text_of};
 ghost use Rattle.scene_model.specs.Frames.{Reaches};
 ghost use Rattle.scene.specs.Runs.{CanBegin, Ran};
 ghost use Rattle.scene_laws.specs.OneOutcome.{OneOutcome, HadMeans};
-ghost use Rattle.scene_laws.specs.Parts.{frames_behind, later_skips, joined, IsInTwoParts};
+ghost use Rattle.scene_laws.specs.Parts.{frames_behind, later_skips, joined, IsInTwoParts, BeginsAt};
 
 use scene_model::DocumentRules;
 
@@ -21,16 +20,12 @@ pub fn frames_in_two_parts<R: DocumentRules>(rules: &R)
         (skips rest : List Skip) → Reaches (R.book rules.now) limit frames count scene mid skips
         → Reaches (R.book rules.now) limit (frames_behind count frames) more mid after rest
         → Reaches (R.book rules.now) limit frames (count + more) scene after (skips ++ later_skips count rest) }
-    ensures report { (limit : ℕ) (whole first second : Draft) (all one other : Report) (mid after end : PlainScene)
-        → OneOutcome (R.book rules.now) → CanBegin (R.book rules.now) whole → HadMeans all → HadMeans other
-        → IsInTwoParts whole first second
-        → Ran (R.book rules.now) limit first one mid → one.refused ≡ None → first_scene second ≡ mid
-        → Ran (R.book rules.now) limit second other after → Ran (R.book rules.now) limit whole all end
-        → all ≡ joined one other }
-    ensures text { (limit : ℕ) (whole first second : Draft) (all one other : Report) (mid after end : PlainScene)
-        → OneOutcome (R.book rules.now) → CanBegin (R.book rules.now) whole → HadMeans all → HadMeans other
-        → IsInTwoParts whole first second
-        → Ran (R.book rules.now) limit first one mid → one.refused ≡ None → first_scene second ≡ mid
-        → Ran (R.book rules.now) limit second other after → Ran (R.book rules.now) limit whole all end
-        → text_of (R.book rules.now) end ≡ text_of (R.book rules.now) after }
+    ensures report { (limit : ℕ) (all head rest : Draft) (sum one two : Report) (mid now end : PlainScene)
+        → let book = R.book rules.now in OneOutcome book → CanBegin book all → HadMeans sum → HadMeans two
+        → IsInTwoParts all head rest → Ran book limit head one mid → one.refused ≡ None → BeginsAt rest mid
+        → Ran book limit rest two now → Ran book limit all sum end → sum ≡ joined one two }
+    ensures text { (limit : ℕ) (all head rest : Draft) (sum one two : Report) (mid now end : PlainScene)
+        → let book = R.book rules.now in OneOutcome book → CanBegin book all → HadMeans sum → HadMeans two
+        → IsInTwoParts all head rest → Ran book limit head one mid → one.refused ≡ None → BeginsAt rest mid
+        → Ran book limit rest two now → Ran book limit all sum end → text_of book end ≡ text_of book now }
 {}

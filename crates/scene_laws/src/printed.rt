@@ -9,12 +9,11 @@ ghost use Rattle.scene_document.specs.Openings.{first_scene};
 ghost use Rattle.scene_document.specs.Texts.{scene_json, text_of, ReadsBack};
 ghost use Rattle.scene.specs.Limits.{AreLimits};
 ghost use Rattle.scene.specs.Outcomes.{IsNoDocument, bounds_of};
-ghost use Rattle.scene_world.specs.Places.{kinds_of};
-ghost use Rattle.scene_world.specs.Turns.{placed_as};
-ghost use Rattle.scene.specs.Running.{shown_of, rules_of, IsReady};
-ghost use Rattle.scene_laws.specs.Printed.{ReadsAlike, CanBeRead, CanBeLoaded, document_json, HasCourse};
+ghost use Rattle.scene.specs.Running.{rules_of};
+ghost use Rattle.scene.specs.Members.{shown_by, IsReadyBy};
+ghost use Rattle.scene_laws.specs.Printed.{ReadsAlike, CanBeRead, CanBeLoaded, GivesDocument};
 
-use scene::{DocumentRules, Limits, LoadError, Rules, Scene, SceneValue};
+use scene::{DocumentRules, Limits, LoadError, Rules, Scene};
 use std::alloc::Global;
 
 /// The JSON of a sound scene has the shape of a document, and the scene that this document gives is the scene; where no
@@ -28,12 +27,10 @@ pub fn a_printed_scene_is_read_again<R: DocumentRules>(rules: &R)
         → length scene.ids ≤ indices → (draft : Draft)
         × (document_from (R.book rules.now) indices (scene_json (R.book rules.now) scene) ≡ Ok draft)
         × (first_scene draft ≡ scene) }
-    ensures course { (scene : PlainScene) (systems frames commands : Json) (entries : List DraftEntry) (asked : ℕ)
-        (lists : List (List DraftCommand)) → CanBeRead (R.book rules.now) scene
-        → entries_from (R.book rules.now) systems ≡ Some entries → whole_32 frames ≡ Some asked
-        → commands_from (R.book rules.now) commands ≡ Some lists → (draft : Draft)
-        × (draft_from (R.book rules.now) (document_json (R.book rules.now) scene systems frames commands) ≡ Some draft)
-        × (first_scene draft ≡ scene) × HasCourse entries asked lists draft }
+    ensures course { (scene : PlainScene) (systems frames commands : Json) (entries : List DraftEntry)
+        (asked : ℕ) (lists : List (List DraftCommand)) → let book = R.book rules.now in CanBeRead book scene
+        → entries_from book systems ≡ Some entries → whole_32 frames ≡ Some asked → commands_from book commands
+        ≡ Some lists → GivesDocument book scene systems frames commands entries asked lists }
     ensures text { (indices : ℕ) (scene : PlainScene) (text : List ℕ) (draft : Draft)
         → CanBeRead (R.book rules.now) scene → ReadsBack text (scene_json (R.book rules.now) scene)
         → document_of (R.book rules.now) indices text ≡ Ok draft → first_scene draft ≡ scene }
@@ -43,13 +40,8 @@ pub fn a_printed_scene_is_read_again<R: DocumentRules>(rules: &R)
 pub fn a_ready_scene_can_be_read<R: Rules + Drop>(scene: &Scene<R>)
 where
     R::Value: Drop,
-    requires { IsReady (kinds_of ⟦<R::Value as SceneValue<R::Data>>⟧.places R.part_of R.columns)
-        R.part_of R.global_of (placed_as (λ placed. placed.position) (λ placed. placed.system) R.kind_of R.config_of
-        R.declared R.sense R.does) R.book scene.now }
-    ensures { CanBeRead (R.book (rules_of scene.now))
-        (shown_of (kinds_of ⟦<R::Value as SceneValue<R::Data>>⟧.places R.part_of R.columns)
-        R.part_of R.global_of (placed_as (λ placed. placed.position) (λ placed. placed.system) R.kind_of R.config_of
-        R.declared R.sense R.does) R.book scene.now).scene }
+    requires { IsReadyBy R.Rules R.Value.SceneValue scene.now }
+    ensures { CanBeRead (R.book (rules_of scene.now)) (shown_by R.Rules R.Value.SceneValue scene.now).scene }
 {}
 
 /// Prints a scene, reads the text and loads it under rules that read documents as the scene's do: what is loaded is the scene,
@@ -67,26 +59,15 @@ pub fn print_and_load<R: Rules + Drop>(
 ) -> Result<Scene<R>, LoadError>
 where
     R::Value: Drop,
-    requires ready { IsReady (kinds_of ⟦<R::Value as SceneValue<R::Data>>⟧.places R.part_of R.columns)
-        R.part_of R.global_of (placed_as (λ placed. placed.position) (λ placed. placed.system) R.kind_of R.config_of
-        R.declared R.sense R.does) R.book scene.now }
+    requires ready { IsReadyBy R.Rules R.Value.SceneValue scene.now }
     requires book { ReadsAlike (R.book rules) (R.book (rules_of scene.now)) }
     requires limits { AreLimits limits }
-    ensures same { IfOk result (λ again. (shown_of (kinds_of ⟦<R::Value as SceneValue<R::Data>>⟧.places R.part_of
-        R.columns) R.part_of R.global_of (placed_as (λ placed. placed.position) (λ placed. placed.system) R.kind_of R.config_of
-        R.declared R.sense R.does) R.book again).scene
-        ≡ (shown_of (kinds_of ⟦<R::Value as SceneValue<R::Data>>⟧.places R.part_of R.columns)
-        R.part_of R.global_of (placed_as (λ placed. placed.position) (λ placed. placed.system) R.kind_of R.config_of
-        R.declared R.sense R.does) R.book scene.now).scene) }
-    ensures ready { IfOk result (λ again. IsReady (kinds_of ⟦<R::Value as SceneValue<R::Data>>⟧.places R.part_of
-        R.columns) R.part_of R.global_of (placed_as (λ placed. placed.position) (λ placed. placed.system) R.kind_of R.config_of
-        R.declared R.sense R.does) R.book again) }
+    ensures same { IfOk result (λ again. (shown_by R.Rules R.Value.SceneValue again).scene ≡
+        (shown_by R.Rules R.Value.SceneValue scene.now).scene) }
+    ensures ready { IfOk result (λ again. IsReadyBy R.Rules R.Value.SceneValue again) }
     ensures rules { IfOk result (λ again. rules_of again ≡ rules) }
     ensures err { IfErr result (IsNoDocument (R.book (rules_of scene.now)) (bounds_of limits)
-        (text_of (R.book (rules_of scene.now))
-        (shown_of (kinds_of ⟦<R::Value as SceneValue<R::Data>>⟧.places R.part_of R.columns)
-        R.part_of R.global_of (placed_as (λ placed. placed.position) (λ placed. placed.system) R.kind_of R.config_of
-        R.declared R.sense R.does) R.book scene.now).scene)) }
+        (text_of (R.book (rules_of scene.now)) (shown_by R.Rules R.Value.SceneValue scene.now).scene)) }
 {
     let text = match scene.snapshot(alloc) {
         Ok(text) => text,

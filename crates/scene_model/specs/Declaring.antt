@@ -1,7 +1,7 @@
 -- What an accessor lists, as contracts see it.
 use Rattle.std.specs.Prelude.{ℕ, List, map}
 use denote.Ref.{Bor}
-use Rattle.scene_model.specs.declared.access.Accessor.{Accessor}
+use Rattle.scene_model.specs.declared.access.SystemAccess.{SystemAccess}
 use Rattle.scene_model.specs.Parts.{Name}
 use Rattle.scene_model.specs.Rulebook.{Access}
 
@@ -10,7 +10,7 @@ abbrev pub texts : List (Bor (List ℕ)) → List Name
 texts names = map (λ name. name.now) names
 
 -- the names that an accessor lists
-abbrev pub access_of : Accessor → Access
+abbrev pub access_of : SystemAccess → Access
 access_of accessor = record {
   reads = texts accessor.reads.items;
   writes = texts accessor.writes.items;

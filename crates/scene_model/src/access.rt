@@ -4,7 +4,7 @@
 ///
 /// Every system reads entities and markers; one that would write them is refused with its document.
 #[derive(Debug, Drop)]
-pub struct Accessor {
+pub struct SystemAccess {
     /// The kinds of parts that are read.
     pub reads: Vec<&'static str>,
     /// The kinds of parts that are written, and may be read.

@@ -5,7 +5,7 @@ ghost use Rattle.scene_model.specs.Rulebook.{Book, Facts, misshapen, known};
 ghost use Rattle.serde_json.specs.View.{view};
 ghost use Rattle.serde_json.specs.Written.{has_float};
 
-use crate::access::Accessor;
+use crate::access::SystemAccess;
 use crate::reading::ReadError;
 use serde_json::Value;
 use shred_plan::RunningTime;
@@ -117,7 +117,7 @@ pub trait DocumentRules: Sized {
     /// What a system declares.
     ///
     /// Errors: want of memory.
-    fn accessor(system: &Self::System, alloc: Global) -> Result<Accessor, AllocError>
+    fn accessor(system: &Self::System, alloc: Global) -> Result<SystemAccess, AllocError>
         ensures { IfOk result (λ accessor. access_of accessor ≡ declared system.now) };
 
     /// How long a system is said to run.

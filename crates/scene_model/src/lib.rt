@@ -12,7 +12,7 @@ mod plain;
 mod reading;
 mod refusals;
 
-pub use access::Accessor;
+pub use access::SystemAccess;
 pub use command::{Command, NotQueued, Queue};
 pub use documents::DocumentRules;
 pub use places::place_in;

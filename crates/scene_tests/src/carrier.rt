@@ -5,7 +5,7 @@ ghost use Rattle.scene_devices.specs.Faults.{HasFailed};
 ghost use Rattle.scene_devices.specs.Reading.{GivesAtLeast};
 
 use scene_devices::{
-    Counted, CountedRead, CountedWrite, MOST_READS, ReadFailure, read_document, write_text,
+    Counted, CountedRead, CountedWrite, MOST_READS, ReadFailure, read_bytes, write_text,
 };
 use std::alloc::Global;
 
@@ -46,7 +46,7 @@ pub fn carry<R: CountedRead, W: CountedWrite>(
     ensures write_within { (sent : ℕ) → result ≡ Err (CarryError.Write sent)
         → IfSome (R.remaining reader.old) (λ document. sent ≤ length document) }
 {
-    let document = match read_document(alloc, reader) {
+    let document = match read_bytes(alloc, reader) {
         Ok(document) => document,
         Err(ReadFailure::Read) => return Err(CarryError::Read),
         Err(ReadFailure::Memory) => return Err(CarryError::Memory),

@@ -1,7 +1,7 @@
 //! Reads to the end and writes of a whole text over devices that count their failures.
 use crate::carrier::{CarryError, carry, carry_in_memory};
 use crate::devices::{Buffered, Full, Narrow, Slow};
-use scene_devices::{Counted, Faults, ReadFailure, WriteFailure, read_document, read_within};
+use scene_devices::{Counted, Faults, ReadFailure, WriteFailure, read_bytes, read_within};
 use std::alloc::{AllocError, Global};
 use std::io::{self, ErrorKind, Read, Write};
 use std::test::Fail;
@@ -38,7 +38,7 @@ fn is_read_whole(alloc: Global, bytes: &[u8], step: usize) -> bool {
         calls: u32::MAX,
         failure: ErrorKind::Other,
     });
-    match read_document(alloc, &mut reader) {
+    match read_bytes(alloc, &mut reader) {
         Ok(document) => document.as_slice() == bytes && reader.faults() == 0,
         Err(_) => false,
     }
@@ -139,7 +139,7 @@ fn a_run_carries_the_document_over(rt: HostRuntime) -> Result<(), Fail> {
 /// Whether 20,000 bytes are read, or want of memory is told, with no failure of the device.
 fn is_read_or_told(alloc: Global) -> bool {
     let mut reader = Counted::new(io::repeat(7).take(20000));
-    let told = match read_document(alloc, &mut reader) {
+    let told = match read_bytes(alloc, &mut reader) {
         Ok(document) => document.len() == 20000,
         Err(error) => error == ReadFailure::Memory,
     };

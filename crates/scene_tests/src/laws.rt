@@ -1,10 +1,8 @@
 //! The laws of scenes at the program's rules, and what they say shown on documents.
 ghost use Rattle.std.specs.Prelude.{IfSome};
-ghost use Rattle.scene_world.specs.Places.{kinds_of};
-ghost use Rattle.scene_world.specs.Turns.{placed_as};
-ghost use Rattle.scene.specs.Running.{IsReady};
+ghost use Rattle.scene.specs.Members.{IsReadyBy};
 
-use scene::{Limits, Rules, Scene, SceneValue};
+use scene::{Limits, Rules, Scene};
 use scene_basics::Basics;
 use scene_basics::laws::{
     a_document_has_one_outcome, a_turn_has_one_outcome, a_turn_keeps_references,
@@ -57,9 +55,7 @@ where
     R::Data: Send + Sync,
     R::Global: Send + Sync,
     R::System: Send + Sync,
-    ensures { IfSome result (IsReady (kinds_of ⟦<R::Value as SceneValue<R::Data>>⟧.places R.part_of R.columns)
-        R.part_of R.global_of (placed_as (λ placed. placed.position) (λ placed. placed.system) R.kind_of R.config_of
-        R.declared R.sense R.does) R.book) }
+    ensures { IfSome result (IsReadyBy R.Rules R.Value.SceneValue) }
 {
     let mut scene = match Scene::open(rt.alloc(), rules, Limits::FULL, document.as_bytes()) {
         Ok(scene) => scene,

@@ -15,7 +15,7 @@ ghost use Rattle.scene_tests.specs.Leavers.{leavers, leave_kind, leaving, config
 ghost use Rattle.scene_tests.specs.LeaverLaws.{law-leaving_is_known};
 
 use crate::leaving::turn;
-use scene::{Accessor, DocumentRules, Queue, ReadError, Rules, RunningTime, Stop, Store};
+use scene::{DocumentRules, Queue, ReadError, Rules, RunningTime, Stop, Store, SystemAccess};
 use scene_basics::data::{Datum, G, HP};
 use scene_basics::{Basics, Value};
 use serde_json::Value as Json;
@@ -114,9 +114,9 @@ impl DocumentRules for Leavers {
         Ok(None)
     }
 
-    fn accessor(system: &Leave, alloc: Global) -> Result<Accessor, AllocError> {
+    fn accessor(system: &Leave, alloc: Global) -> Result<SystemAccess, AllocError> {
         if system.hp_goes {
-            Ok(Accessor {
+            Ok(SystemAccess {
                 reads: Vec::new(alloc),
                 writes: vec![in alloc; HP]?,
                 read_globals: Vec::new(alloc),
@@ -124,7 +124,7 @@ impl DocumentRules for Leavers {
                 writes_reserved: false,
             })
         } else {
-            Ok(Accessor {
+            Ok(SystemAccess {
                 reads: Vec::new(alloc),
                 writes: Vec::new(alloc),
                 read_globals: Vec::new(alloc),

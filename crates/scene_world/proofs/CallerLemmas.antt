@@ -1,5 +1,5 @@
 -- What proofs of the crates above cite, and nothing else of these lemmas.
-pub use Rattle.scene_world.proofs.RollLemmas.{is-id, living-lives, both-true, life-is, life-there, id-marks, id-at-index, lives-index, ids-ascend, index-of-id}
+pub use Rattle.scene_world.proofs.RollLemmas.{is-id, living-lives, life-is, life-there, id-marks, id-at-index, lives-index, ids-ascend, index-of-id}
 pub use Rattle.scene_world.proofs.StandingLemmas.{same-roll}
 pub use Rattle.scene_world.proofs.PlaceLemmas.{whole-world, lent-ids}
 pub use Rattle.scene_world.proofs.PartLemmas.{scene-set}

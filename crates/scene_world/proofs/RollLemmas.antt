@@ -4,7 +4,7 @@ use Rattle.std.specs.Prelude.{is_some, option_and_then, option_map}
 use Rattle.std.specs.List.{list_any}
 use Rattle.std.specs.Ordering.{nat_cmp, is_eq}
 use Rattle.std.specs.FinMap as map
-use Rattle.std.proofs.lemmas.Bool.{true≢false, false≢true, eqb-true, eq-eqb}
+use Rattle.std.proofs.lemmas.Bool.{true≢false, false≢true, eqb-true, eq-eqb, and_parts}
 use Rattle.std.specs.FinSet as set
 use Rattle.specs_entity.specs.Births.{Births, IsAlive, living, living_of, alive_of, persistent_at}
 use Rattle.specs_entity.specs.Life.{Life, LifeAt}
@@ -60,14 +60,10 @@ living-lives births index life = by (set.contains births.fresh index) (persisten
 pub same-life : (life : Life) → life.lives ≡ true → is_life life (Some life) ≡ true
 same-life life e = ap (λ b. b && eqb life.number life.number) e ∙ eq-eqb life.number life.number refl
 
-pub both-true : (a b : Bool) → (a && b) ≡ true → (a ≡ true) × (b ≡ true)
-both-true true b e = (refl, e)
-both-true false b e = absurd (false≢true e)
-
 -- what is of a life that lives is that life
 pub life-is : (life other : Life) → other.lives ≡ true → is_life life (Some other) ≡ true → other ≡ life
 life-is life other lives_it is =
-    let both = both-true life.lives (eqb other.number life.number) is in
+    let both = and_parts life.lives (eqb other.number life.number) is in
     ap (λ n. let x : Life = record { number = n; lives = other.lives } in x) (eqb-true other.number life.number both.1)
     ∙ ap (λ b. let x : Life = record { number = life.number; lives = b } in x) (lives_it ∙ sym both.0)
 
@@ -107,7 +103,7 @@ module _ (roll : Roll) where
       at : (entity : LifeAt) (b : Bool) → (is_life entity.generation (living roll.births entity.id) && is_id id (roll.marker entity.id)) ≡ b → cond b (Some entity.id) None ≡ Some index → id_at roll index ≡ Some id
       at entity true is e =
           let same : entity.id ≡ index = cc in
-          let both = both-true (is_life entity.generation (living roll.births entity.id)) (is_id id (roll.marker entity.id)) is in
+          let both = and_parts (is_life entity.generation (living roll.births entity.id)) (is_id id (roll.marker entity.id)) is in
           subst (λ i. id_at roll i ≡ Some id) same
           (ap (λ b. cond b (roll.marker entity.id) None) (life-there entity.generation (living roll.births entity.id) both.0) ∙ is-id id (roll.marker entity.id) both.1)
       at entity false is e = cc

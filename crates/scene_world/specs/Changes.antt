@@ -1,12 +1,15 @@
 -- What becomes of a world: a part is another, an entity dies with its parts, or one begins to live.
-use Rattle.std.specs.Prelude.{◌≡◌, ℕ, ◌==◌, true, false, Option, Some, None, if◌then◌else◌, All}
+use Rattle.std.specs.Prelude.{◌≡◌, ℕ, ◌==◌, ◌<◌, true, false, List, Option, Some, None, option_map, if◌then◌else◌, All}
+use Rattle.std.specs.List.{list_all}
 use Rattle.std.specs.Str.{bytes_eq}
 use Rattle.specs_entity.specs.Births.{living}
 use Rattle.specs_entity.specs.Life.{LifeAt}
 use Rattle.specs_markers.specs.Simple.{allocated, noted_under}
-use Rattle.scene_model.specs.Parts.{Name, is_among}
-use Rattle.scene_world.specs.Stored.{Stored}
-use Rattle.scene_world.specs.Rolls.{is_life}
+use Rattle.scene_model.specs.Parts.{Name, Part, is_among, under}
+use Rattle.scene_model.specs.Scenes.{PlainScene}
+use Rattle.scene_model.specs.Commands.{refs_live, last_next}
+use Rattle.scene_world.specs.Stored.{Stored, part_under}
+use Rattle.scene_world.specs.Rolls.{Roll, is_life, ids_in, ref_to}
 use Rattle.scene_world.specs.Standing.{Sight, Kinds, roll_of, column_of, value_of}
 
 -- what holds at one number, and elsewhere
@@ -52,3 +55,19 @@ module _ {V : Type 0} (kinds : Kinds V) where
     pub parts_so : (kind : Name) → is_among kind kinds.part_names ≡ true → (at : ℕ) → column_of kinds w2 kind at ≡ but_at entity.id (parts kind) (column_of kinds w kind) at
     pub unnamed : (kind : Name) → is_among kind kinds.part_names ≡ true → IsUnnamed entity (column_of kinds w2 kind)
     pub values : SameValues w w2
+
+-- all ids that are marked are below the next one
+abbrev pub AreBelow : Roll → Type 0
+AreBelow roll = All (λ id. id < roll.noting.next) (ids_in roll)
+
+-- the parts that an entity gets are these, by their kinds
+abbrev pub AreGiven : {V : Type 0} → Kinds V → Sight V → (Name → Option Stored) → List (Name × Part) → Type 0
+AreGiven kinds w parts given = (kind : Name) → under kind given ≡ (if is_among kind kinds.part_names then option_map (part_under (ref_to (roll_of kinds w))) (parts kind) else None)
+
+-- the references of all these parts are to ids of a scene that live
+abbrev pub HaveLiving : PlainScene → List (Name × Part) → Type 0
+HaveLiving scene given = list_all (λ entry. refs_live scene.ids entry.1) given ≡ true
+
+-- an id is left to be given
+abbrev pub HasNextId : Roll → Type 0
+HasNextId roll = (roll.noting.next == last_next) ≡ false

@@ -18,3 +18,4 @@ pub mod Turns
 pub mod Chains
 pub mod Writes
 pub mod Stops
+pub mod Members

@@ -1,7 +1,5 @@
 //! Laws of a scene that stands in a world. The functions have no code; each contract is the law.
-ghost use Rattle.std.specs.Prelude.{◌≡◌, ◌==◌, ◌<◌, ℕ, true, false, List, map, Option, Some, None, option_map, All};
-ghost use Rattle.std.specs.Prelude.{if◌then◌else◌};
-ghost use Rattle.std.specs.List.{list_all};
+ghost use Rattle.std.specs.Prelude.{◌≡◌, ℕ, true, List, map, Option, Some, None, option_map};
 ghost use Rattle.shred_world.specs.declared.resource_id.ResourceId.{ResourceId};
 ghost use Rattle.shred_world.specs.Bundles.{Holding};
 ghost use Rattle.shred_stages.specs.Views.{cut, Leaves, merged};
@@ -10,20 +8,19 @@ ghost use Rattle.specs_entity.specs.Life.{LifeAt};
 ghost use Rattle.scene_model.specs.Parts.{Name, Part, gone, is_among, living, under};
 ghost use Rattle.scene_model.specs.Rulebook.{Access, spawn, kill};
 ghost use Rattle.scene_model.specs.Scenes.{fragment, with_left, PlainSystem};
-ghost use Rattle.scene_model.specs.Commands.{apply, changed, with_part, refs_live, last_next};
+ghost use Rattle.scene_model.specs.Commands.{apply, changed, with_part};
 ghost use Rattle.scene_world.specs.Stored.{Stored, part_under};
-ghost use Rattle.scene_world.specs.Rolls.{Roll, id_at, ids_in, ref_to, IsRoll};
+ghost use Rattle.scene_world.specs.Rolls.{Roll, id_at, ref_to, IsRoll};
 ghost use Rattle.scene_world.specs.Standing.{Kinds, Sight, IsWhole, seen_in, roll_of, plain_of, fragment_of};
 ghost use Rattle.scene_world.specs.Lent.{StandApart, AreKnown, IsLent, id_of_place, read_places, written_places};
-ghost use Rattle.scene_world.specs.Changes.{SetsPart, Buries, Bears};
+ghost use Rattle.scene_world.specs.Changes.{SetsPart, Buries, Bears, AreBelow, AreGiven, HaveLiving, HasNextId};
 ghost use Rattle.shred_plan.specs.Plan.{Stage};
 ghost use Rattle.shred_stages.specs.declared.stop.Stop.{Stop};
 ghost use Rattle.shred_stages.specs.Runs.{State, StagesRun};
-ghost use Rattle.scene_world.specs.Places.{kinds_of};
-ghost use Rattle.scene_world.specs.Turns.{placed_as};
-ghost use Rattle.scene_world.specs.Chains.{PlanIsLent, IsReady, Comes, plan_order};
+ghost use Rattle.scene_world.specs.Chains.{PlanIsLent, plan_order};
+ghost use Rattle.scene_world.specs.Members.{kinds_by, StandBy, ComeBy};
 
-use crate::{Placed, Rules, SceneValue};
+use crate::{Placed, Rules};
 use shred_stages::System;
 
 /// A stored entity that is alive, by its index and its generation, is a reference to the id that is marked at its index;
@@ -58,13 +55,10 @@ pub fn what_comes_back_is_put_in<V>()
 /// A part that is another at one index, or none any more, is so at the id of that index, and the scene is else as it
 /// was.
 pub fn a_part_at_an_index_is_one_at_its_id<V>()
-    ensures { (kinds : Kinds V) (w later : Sight V) (kind : Name) (id index : ℕ) (part : Option Stored)
-        → IsRoll (roll_of kinds w) → is_among kind kinds.part_names ≡ true → id_at (roll_of kinds w) index ≡ Some id
-        → SetsPart kinds kind index part w later
-        → plain_of kinds later ≡ record (plain_of kinds w) {
-          part = with_part id kind
-              (option_map (part_under (ref_to (roll_of kinds w))) part) (plain_of kinds w).part;
-        } }
+    ensures { (kinds : Kinds V) (w now : Sight V) (kind : Name) (id index : ℕ) (part : Option Stored)
+        → let roll = roll_of kinds w in IsRoll roll → is_among kind kinds.part_names ≡ true → id_at roll index
+        ≡ Some id → SetsPart kinds kind index part w now → plain_of kinds now ≡ record (plain_of kinds w)
+        { part = with_part id kind (option_map (part_under (ref_to roll)) part) (plain_of kinds w).part } }
 {}
 
 /// The death of an entity with its parts is the kill of its id: references to it are gone, and so they stay.
@@ -80,31 +74,20 @@ pub fn a_death_is_a_kill<V>()
 /// before.
 pub fn a_birth_is_a_spawn<V>()
     ensures roll { (kinds : Kinds V) (w later : Sight V) (entity : LifeAt) (parts : Name → Option Stored)
-        → IsRoll (roll_of kinds w) → All (λ id. id < (roll_of kinds w).noting.next) (ids_in (roll_of kinds w))
-        → Bears kinds entity parts w later → IsRoll (roll_of kinds later) }
-    ensures scene { (kinds : Kinds V) (w later : Sight V) (entity : LifeAt) (parts : Name → Option Stored)
-        (given : List (Name × Part)) → IsRoll (roll_of kinds w)
-        → All (λ id. id < (roll_of kinds w).noting.next) (ids_in (roll_of kinds w))
-        → Bears kinds entity parts w later
-        → list_all (λ entry. refs_live (plain_of kinds w).ids entry.1) given ≡ true
-        → ((roll_of kinds w).noting.next == last_next) ≡ false
-        → ((kind : Name) → under kind given ≡ (if is_among kind kinds.part_names
-        then option_map (part_under (ref_to (roll_of kinds w))) (parts kind) else None))
-        → apply (spawn given) (plain_of kinds w) ≡ changed (plain_of kinds later) }
+        → IsRoll (roll_of kinds w) → AreBelow (roll_of kinds w) → Bears kinds entity parts w later
+        → IsRoll (roll_of kinds later) }
+    ensures scene { (kinds : Kinds V) (w now : Sight V) (entity : LifeAt) (parts : Name → Option Stored)
+        (given : List (Name × Part)) → IsRoll (roll_of kinds w) → AreBelow (roll_of kinds w)
+        → Bears kinds entity parts w now → HaveLiving (plain_of kinds w) given → HasNextId (roll_of kinds w)
+        → AreGiven kinds w parts given → apply (spawn given) (plain_of kinds w) ≡ changed (plain_of kinds now) }
 {}
 
 /// A plan of systems that runs over a world in which a scene stands is the chain of their turns over the scene, in the
 /// plan's order: the scene that stands in the world after is the one to which they lead, and the queue of each
 /// position has the commands of its system. Where one stops the plan, it is the first that does so in that order.
 pub fn a_plan_is_its_turns<R: Rules>(rules: &R)
-    ensures { (at : ℕ → PlainSystem) (stages : List (Stage ResourceId)) (before after : State R.Value _)
-        (refused : Option (ℕ × Stop))
-        → PlanIsLent (kinds_of ⟦<R::Value as SceneValue<R::Data>>⟧.places R.part_of R.columns) at stages
-        → IsReady (kinds_of ⟦<R::Value as SceneValue<R::Data>>⟧.places R.part_of R.columns)
-        (placed_as (λ placed. placed.position) (λ placed. placed.system) R.kind_of R.config_of R.declared
-        R.sense R.does) (R.book rules.now) at before
-        → StagesRun ⟦<Placed<R> as System<R::Value>>⟧.meets stages before refused after
-        → Comes (kinds_of ⟦<R::Value as SceneValue<R::Data>>⟧.places R.part_of R.columns)
-        (placed_as (λ placed. placed.position) (λ placed. placed.system) R.kind_of R.config_of R.declared
-        R.sense R.does) (R.book rules.now) at (plan_order at stages) before refused after }
+    ensures { (at : ℕ → PlainSystem) (stages : List (Stage ResourceId)) (old new : State R.Value _)
+        (stop : Option (ℕ × Stop)) → PlanIsLent (kinds_by R.Rules R.Value.SceneValue) at stages → StandBy
+        R.Rules R.Value.SceneValue rules.now at old → StagesRun ⟦<Placed<R> as System<R::Value>>⟧.meets stages
+        old stop new → ComeBy R.Rules R.Value.SceneValue rules.now at (plan_order at stages) old stop new }
 {}

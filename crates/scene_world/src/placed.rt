@@ -2,11 +2,12 @@
 ghost use Rattle.std.specs.Prelude.{◌≡◌, ◌++◌, true, None, map, IfOk, OnOk, IfSome, IfNone};
 ghost use Rattle.scene_model.specs.Declaring.{texts, access_of};
 ghost use Rattle.scene_world.specs.Lent.{id_of_place, read_places, written_places};
-ghost use Rattle.scene_world.specs.Places.{kinds_of, TakesQueue};
-ghost use Rattle.scene_world.specs.Turns.{placed_as, TakesTurn};
+ghost use Rattle.scene_world.specs.Places.{TakesQueue};
+ghost use Rattle.scene_world.specs.Turns.{TakesTurn};
+ghost use Rattle.scene_world.specs.Members.{kinds_by, placed_by};
 
 use crate::{Rules, SceneValue};
-use scene_model::{Accessor, Queue};
+use scene_model::{Queue, SystemAccess};
 use shred_plan::RunningTime;
 use shred_stages::{BatchAccessor, Stop, System};
 use shred_world::{Holder, ResourceId, World};
@@ -26,17 +27,13 @@ pub struct Placed<R: Rules> {
 }
 
 impl<R: Rules> System<R::Value> for Placed<R> {
-    ghost meets = { TakesTurn (kinds_of ⟦<R::Value as SceneValue<R::Data>>⟧.places R.part_of R.columns)
-        (placed_as (λ placed. placed.position) (λ placed. placed.system) R.kind_of R.config_of R.declared
-        R.sense R.does) };
+    ghost meets = { TakesTurn (kinds_by R.Rules R.Value.SceneValue) (placed_by R.Rules) };
 
-    ghost read_list = { λ placed. map
-        (id_of_place (kinds_of ⟦<R::Value as SceneValue<R::Data>>⟧.places R.part_of R.columns))
-        (read_places (R.declared placed.system)) };
+    ghost read_list = { λ placed. map (id_of_place (kinds_by R.Rules R.Value.SceneValue)) (read_places
+        (R.declared placed.system)) };
 
-    ghost write_list = { λ placed. map
-        (id_of_place (kinds_of ⟦<R::Value as SceneValue<R::Data>>⟧.places R.part_of R.columns))
-        (written_places (R.declared placed.system) placed.position) };
+    ghost write_list = { λ placed. map (id_of_place (kinds_by R.Rules R.Value.SceneValue)) (written_places
+        (R.declared placed.system) placed.position) };
 
     ghost said_time = { λ placed. R.said_time placed.system };
 
@@ -104,9 +101,8 @@ fn take_queue<V: SceneValue<D>, D: Drop, W: Holder<V>>(
 /// The ids of what is read where this is declared.
 ///
 /// Errors: want of memory.
-fn read_ids<R: Rules>(alloc: Global, declared: &Accessor) -> Result<Vec<ResourceId>, AllocError>
-    ensures { IfOk result (λ ids. ids.items ≡ map
-        (id_of_place (kinds_of ⟦<R::Value as SceneValue<R::Data>>⟧.places R.part_of R.columns))
+fn read_ids<R: Rules>(alloc: Global, declared: &SystemAccess) -> Result<Vec<ResourceId>, AllocError>
+    ensures { IfOk result (λ ids. ids.items ≡ map (id_of_place (kinds_by R.Rules R.Value.SceneValue))
         (read_places (access_of declared.now))) }
 {
     let mut ids = Vec::new(alloc);
@@ -123,11 +119,10 @@ fn read_ids<R: Rules>(alloc: Global, declared: &Accessor) -> Result<Vec<Resource
 /// Errors: want of memory.
 fn written_ids<R: Rules>(
     alloc: Global,
-    declared: &Accessor,
+    declared: &SystemAccess,
     position: u32,
 ) -> Result<Vec<ResourceId>, AllocError>
-    ensures { IfOk result (λ ids. ids.items ≡ map
-        (id_of_place (kinds_of ⟦<R::Value as SceneValue<R::Data>>⟧.places R.part_of R.columns))
+    ensures { IfOk result (λ ids. ids.items ≡ map (id_of_place (kinds_by R.Rules R.Value.SceneValue))
         (written_places (access_of declared.now) position)) }
 {
     let mut ids = Vec::new(alloc);

@@ -1,14 +1,16 @@
 -- Batches: stages of their own, run as often as a controller plans.
-use Rattle.std.specs.Prelude.{◌≡◌, ℕ, zero, suc, Bool, false, Option, None, Some, List}
+use Rattle.std.specs.Prelude.{◌≡◌, ℕ, zero, suc, Bool, false, Option, None, Some, List, ◌++◌}
 use Rattle.std.specs.Option.{MatchOption, option_map}
 use Rattle.shred_world.specs.declared.resource_id.ResourceId.{ResourceId}
 use Rattle.shred_world.specs.Worlds.{Slots}
 use Rattle.shred_world.specs.Bundles.{Holding}
 use Rattle.shred_plan.specs.Plan.{Stage}
 use Rattle.shred_stages.specs.declared.stop.Stop.{Stop}
+use Rattle.shred_stages.specs.Accesses.{all_reads, all_writes}
 use Rattle.shred_stages.specs.Runs.{State, StagesRun}
 use Rattle.shred_stages.specs.Setups.{WhenAccepted, SetsUpEach, DisposesEach}
 use Rattle.shred_stages.specs.Staging.{Staging}
+use Rattle.shred.specs.Building.{Declared}
 
 -- a controller, and the stages that it has
 pub record Batched (S C : Type 0) : Type 0 where
@@ -43,3 +45,11 @@ BatchSetsUp {V} {S} controller_sets_up sets_up before accepted w after w_after =
 abbrev pub BatchDisposes : {V S C : Type 0} → (S → Option Stop → Slots V → Slots V → Type 0) → Batched S C → Option Stop → Slots V → Slots V → Type 0
 BatchDisposes disposes batch refused w w_after =
     (first : Option (ℕ × Stop)) × DisposesEach disposes 0 batch.staging.systems first w w_after × (refused ≡ option_map (λ why. why.1) first)
+
+-- what a batch declares, by what its stages do and what its controller says of itself
+abbrev pub batch_declares : {S : Type 0} → Staging S → (reads writes : List ResourceId) → (time : ℕ) → Declared
+batch_declares stages reads writes time = record {
+  reads = all_reads stages.planning.stages ++ reads;
+  writes = all_writes stages.planning.stages ++ (reads ++ writes);
+  time = time;
+}

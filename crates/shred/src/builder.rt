@@ -4,7 +4,7 @@ ghost use Rattle.shred_plan.specs.PlanText.{plan_text};
 ghost use Rattle.shred.specs.declared.work.Work.TheVariants.{System as OfSystem, Batch as OfBatch};
 ghost use Rattle.shred.specs.Names.{texts};
 ghost use Rattle.shred.specs.Building.{Building, nothing_built, refusal, Refuses, built_with, fenced};
-ghost use Rattle.shred_stages.specs.Accesses.{all_reads, all_writes};
+ghost use Rattle.shred.specs.Batches.{batch_declares};
 ghost use Rattle.shred.specs.Dispatchers.{Drafting, with_building, dispatcher_of};
 ghost use Rattle.shred.specs.Asyncs.{here};
 
@@ -97,14 +97,10 @@ impl<
         ensures refused { IfErr result (λ refused. Refuses (refusal self.old.building name.now (texts after.now))
             refused.0) }
         ensures number { IfOk result (λ id. id.0 ≡ length self.old.building.staging.systems) }
-        ensures ok { OnOk result (self.new ≡ with_building self.old
-            (built_with ⟦<ResourceId as PartialEq>⟧.eq self.old.building
-            (OfBatch (record { controller = controller; staging = stages }))
-            (record {
-              reads = all_reads stages.planning.stages ++ C.read_list controller;
-              writes = all_writes stages.planning.stages ++ (C.read_list controller ++ C.write_list controller);
-              time = C.said_time controller;
-            }) name.now (texts after.now))) }
+        ensures ok { OnOk result (self.new ≡ with_building self.old (built_with ⟦<ResourceId as PartialEq>⟧.eq
+            self.old.building (OfBatch (record { controller = controller; staging = stages }))
+            (batch_declares stages (C.read_list controller) (C.write_list controller) (C.said_time controller))
+            name.now (texts after.now))) }
         ensures err { OnErr result (self.new ≡ self.old) }
         ensures controller_back { IfErr result (λ refused. refused.1 ≡ controller) }
         ensures stages_back { IfErr result (λ refused. refused.2 ≡ stages) }

@@ -3,7 +3,7 @@ ghost use Rattle.std.specs.Prelude.{◌≡◌, ◌++◌, ◌∷◌, [], OnOk, If
 ghost use Rattle.shred.specs.declared.work.Work.TheVariants.{System as OfSystem, Batch as OfBatch};
 ghost use Rattle.shred.specs.Names.{texts};
 ghost use Rattle.shred.specs.Building.{refusal, Refuses, built_with, fenced};
-ghost use Rattle.shred_stages.specs.Accesses.{all_reads, all_writes};
+ghost use Rattle.shred.specs.Batches.{batch_declares};
 ghost use Rattle.shred.specs.Dispatchers.{with_building};
 
 use crate::{AddError, BatchController, DispatcherBuilder, RunNow, StagesBuilder, System};
@@ -54,14 +54,10 @@ impl<
         ensures taken { OnOk result (refusal self.building name.now (texts after.now) ≡ None) }
         ensures refused { IfErr result (λ refused. Refuses (refusal self.building name.now (texts after.now))
             refused.0) }
-        ensures ok { IfOk result (λ builder. builder ≡ with_building self
-            (built_with ⟦<ResourceId as PartialEq>⟧.eq self.building
-            (OfBatch (record { controller = controller; staging = stages }))
-            (record {
-              reads = all_reads stages.planning.stages ++ C.read_list controller;
-              writes = all_writes stages.planning.stages ++ (C.read_list controller ++ C.write_list controller);
-              time = C.said_time controller;
-            }) name.now (texts after.now))) }
+        ensures ok { IfOk result
+            (λ builder. builder ≡ with_building self (built_with ⟦<ResourceId as PartialEq>⟧.eq self.building
+            (OfBatch (record { controller = controller; staging = stages })) (batch_declares stages (C.read_list
+            controller) (C.write_list controller) (C.said_time controller)) name.now (texts after.now))) }
         ensures builder_back { IfErr result (λ refused. refused.1 ≡ self) }
         ensures controller_back { IfErr result (λ refused. refused.2 ≡ controller) }
         ensures stages_back { IfErr result (λ refused. refused.3 ≡ stages) }

@@ -1,7 +1,7 @@
 //! Laws of builders, and of systems that run one after the other, on which callers rely.
 //!
 //! The functions have no code; each contract is the law.
-ghost use Rattle.std.specs.Prelude.{◌≡◌, ◌≢◌, ◌++◌, ◌∷◌, ℕ, false, List, [], length, Option, None, Some};
+ghost use Rattle.std.specs.Prelude.{◌≡◌, ◌≢◌, ◌++◌, ◌∷◌, ℕ, false, List, [], Option, None};
 ghost use Rattle.std.specs.List.{All, Contains, fold};
 ghost use Rattle.shred_world.specs.declared.resource_id.ResourceId.{ResourceId as Id};
 ghost use Rattle.shred_world.specs.ResourceIds.{same_id};
@@ -11,12 +11,11 @@ ghost use Rattle.shred_stages.specs.declared.stop.Stop.{Stop as Reason};
 ghost use Rattle.shred_stages.specs.Free.{AreFree};
 ghost use Rattle.shred_stages.specs.Orders.{ListRuns};
 ghost use Rattle.shred_stages.specs.Runs.{State, Turn};
-ghost use Rattle.shred.specs.Names.{Named, number_under, numbers_under};
+ghost use Rattle.shred.specs.Names.{Named, numbers_under};
 ghost use Rattle.shred.specs.Building.{Building, Declared, nothing_built, refusal};
-ghost use Rattle.shred.specs.Dispatchers.{Drafting, dispatcher_of};
+ghost use Rattle.shred.specs.Dispatchers.{Drafting, dispatcher_of, IsBuiltFrom, IsTaken, RunsBefore};
 ghost use Rattle.shred.specs.Histories.{Asked, system as adding, built_from, told, AreNumbersOf, IsPlannedIn};
 ghost use Rattle.shred.specs.Numbers.{IsUnder};
-ghost use Rattle.shred.specs.Waits.{RunsEarlier};
 
 use crate::System;
 use shred_world::ResourceId;
@@ -57,15 +56,11 @@ pub fn groups_of_a_stage_are_free<S, L>()
 /// In a dispatcher that was built, a system that comes after a name stands in a later stage than the system of that
 /// name, or later in its group.
 pub fn named_systems_run_earlier<S, L>()
-    ensures { (early late : List (Asked S)) (one : S) (declared : Declared) (name : List ℕ) (after : List (List ℕ))
-        (other : List ℕ) (draft : Drafting S L)
-        → draft.building ≡ built_from ⟦<ResourceId as PartialEq>⟧.eq nothing_built
-        (early ++ adding one declared name after ∷ late)
-        → refusal (built_from ⟦<ResourceId as PartialEq>⟧.eq nothing_built early) name after ≡ None
-        → Contains after other
-        → (number : ℕ) × (number_under draft.building.names other ≡ Some number)
-        × RunsEarlier number (length (built_from ⟦<ResourceId as PartialEq>⟧.eq nothing_built early).staging.systems)
-        (dispatcher_of draft).staging.planning.stages }
+    ensures { (early late : List (Asked S)) (one : S) (declared : Declared) (name : List ℕ)
+        (after : List (List ℕ)) (other : List ℕ) (draft : Drafting S L)
+        → IsBuiltFrom ⟦<ResourceId as PartialEq>⟧.eq (early ++ adding one declared name after ∷ late) draft
+        → IsTaken ⟦<ResourceId as PartialEq>⟧.eq early name after → Contains after other
+        → RunsBefore ⟦<ResourceId as PartialEq>⟧.eq early draft other }
 {}
 
 /// Two systems that don't conflict and run one after the other may as well run the other way round: each does what it

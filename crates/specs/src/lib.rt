@@ -40,10 +40,10 @@ pub mod storage {
     pub use specs_storage::{
         BuildWith, Drain, Entries, EntryCursor, EntryError, GenericReadStorage,
         GenericWriteStorage, ImmutableAliasing, ImmutableParallelRestriction, InsertResult,
-        LendError, MutableParallelRestriction, OccupiedEntry, PairCursor, PairedStorage,
-        PairedStorageMut, Place, ReadStorage, Restrict, RestrictMut, RestrictedStorage,
-        RestrictedStorageMut, SequentialRestriction, Storage, StorageEntry, VacantEntry,
-        WriteStorage, entry_at,
+        LendError, LentStorage, LentStorageMut, MutableParallelRestriction, OccupiedEntry,
+        PairCursor, PairedStorage, PairedStorageMut, Place, Restrict, RestrictMut,
+        RestrictedStorage, RestrictedStorageMut, SequentialRestriction, Storage, StorageEntry,
+        VacantEntry, entry_at,
     };
 }
 

@@ -142,6 +142,10 @@ module _ {A S M I : Type 0} (noted : A → I → Option LifeAt) (allocates : A �
       pub live_on : LivesOn births births'
       pub storage : IsUntold s had has
 
+    -- what is left where an entity isn't created with its marker
+    abbrev pub RefusesMaking : (A → Option I → Error → Type 0) → Error → Type 0
+    RefusesMaking refuses error = RefusesCreation error ⊎ RefusesMarked refuses error
+
     -- what is left where an entity is looked for by its marker
     abbrev pub Retrieves : LifeAt → Type 0
     Retrieves entity = FindsMarked entity ⊎ MakesMarked entity

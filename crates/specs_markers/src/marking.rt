@@ -7,7 +7,7 @@ ghost use Rattle.specs_layouts.specs.Parts.{told};
 ghost use Rattle.specs_layouts.specs.MaskedChanges.{KeepsParts, told_in, told_put};
 ghost use Rattle.specs_layouts.specs.declared.track.ComponentEvent.TheVariants as event;
 ghost use Rattle.specs_markers.specs.Marking.{IsGiven, IsKnown, IsUnknown, IsUntold, IsUpdated, Marks};
-ghost use Rattle.specs_markers.specs.Marking.{MakesMarked, RefusesCreation, RefusesGift, RefusesMark, RefusesMarked};
+ghost use Rattle.specs_markers.specs.Marking.{MakesMarked, RefusesMaking, RefusesGift, RefusesMark};
 
 use crate::allocator::MarkerAllocator;
 use crate::marker::Marker;
@@ -177,10 +177,8 @@ pub(crate) fn create_marked<M: Marker, A: MarkerAllocator<M>>(
     requires { IsUnknown A.noted M.Storage.part_at (M.id_of marker) entities.old allocator.old storage.old }
     ensures ok { IfOk result (MakesMarked A.noted A.allocates M.id_of M.Storage.UnprotectedStorage (M.id_of marker)
         entities.old entities.new allocator.old allocator.new storage.old storage.new) }
-    ensures refused { IfErr result (λ refused.
-        RefusesCreation A.noted A.allocates M.id_of M.Storage.UnprotectedStorage (M.id_of marker)
-        entities.old entities.new allocator.old allocator.new storage.old storage.new refused.0
-        ⊎ RefusesMarked A.noted A.allocates M.id_of M.Storage.UnprotectedStorage (M.id_of marker)
+    ensures refused { IfErr result
+        (λ refused. RefusesMaking A.noted A.allocates M.id_of M.Storage.UnprotectedStorage (M.id_of marker)
         entities.old entities.new allocator.old allocator.new storage.old storage.new A.refuses refused.0) }
     ensures handed_back { IfErr result (λ refused. refused.1 ≡ marker) }
 {

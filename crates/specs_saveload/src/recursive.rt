@@ -5,8 +5,8 @@ ghost use Rattle.specs_entity.specs.Births.{IsAlive};
 ghost use Rattle.specs_entity.specs.declared.ids.Entity.{Entity};
 ghost use Rattle.specs_entity.specs.declared.errors.Error.TheVariants as refusal;
 ghost use Rattle.specs_saveload.specs.Bearing.{IsAmong};
-ghost use Rattle.specs_saveload.specs.Orders.{AreAsked, IsSafe};
-ghost use Rattle.specs_saveload.specs.Reached.{IsOrder, IsReached, KeepsMarks, RefusesAsked, RefusesReached};
+ghost use Rattle.specs_saveload.specs.Orders.{ReachesAll};
+ghost use Rattle.specs_saveload.specs.Reached.{IsOrder, KeepsMarks, RefusesAsked, RefusesReached};
 ghost use Rattle.specs_saveload.specs.Reached.{Order, SavesReached, marked_first, named_entry};
 ghost use Rattle.specs_saveload.specs.Reached.{with_asked, with_all_asked};
 ghost use Rattle.specs_saveload.specs.Saved.{all_some};
@@ -137,13 +137,9 @@ fn reach<M: SavedMarker, S: SerializeComponents<M>, A: MarkerAllocator<M>>(
     markers: &mut MaskedStorage<M>,
     allocator: &mut A,
 ) -> Result<Vec<Entity>, Error>
-    ensures ok { IfOk result (λ list. (order : Order)
-        × IsReached (λ entity. S.refers_to (S.parts_at storages.now entity.id))
-        (marked_first entities.now (M.Storage.part_at markers.old.inner)) order (length order.entities)
-        × IsOrder order (M.Storage.part_at markers.new.inner) list.items
-        × IsSafe entities.now order
-        × AreAsked (λ entity. S.refers_to (S.parts_at storages.now entity.id)) entities.now order
-        (length order.entities)) }
+    ensures ok { IfOk result (λ list. ReachesAll (λ entity. S.refers_to (S.parts_at storages.now entity.id))
+        entities.now (marked_first entities.now (M.Storage.part_at markers.old.inner))
+        (M.Storage.part_at markers.new.inner) list.items) }
     ensures refused { IfErr result (RefusesReached A.refuses (λ entity. S.refers_to (S.parts_at storages.now entity.id))
         (marked_first entities.now (M.Storage.part_at markers.old.inner)) entities.now allocator.new) }
     ensures keeps { KeepsMarks (M.Storage.part_at markers.old.inner) (M.Storage.part_at markers.new.inner) }

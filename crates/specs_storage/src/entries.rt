@@ -142,17 +142,8 @@ impl<'a, T: Component, R: Join> EntryCursor<'a, T, R> {
     /// The place at the index.
     pub fn place(&mut self) -> Place<'_, T>
         requires { IsSome (index_of self.old) }
-        ensures* writes_back { sem 𝓛 (Lends
-            (the_row (record { mir = named 1; lft = [] }) T.row R.row T.Storage.row R.Type.row R.Shown.row
-            R.Value.row R.Mask.row
-            (record {
-              show = R.show;
-              joins = R.joins;
-              opens = R.opens;
-              unconstrained = R.unconstrained;
-              value_at = R.value_at;
-            })
-            (record { members = R.Mask.members; words = R.Mask.words; reads = R.Mask.reads })
+        ensures* writes_back { sem 𝓛 (Lends (the_row (record { mir = named 1; lft = [] }) T.row R.row
+            T.Storage.row R.Type.row R.Shown.row R.Value.row R.Mask.row R.Join R.Mask.BitSetLike
             (layout_ghosts T.Storage.UnprotectedStorage) (default_ghosts T.Storage.UnprotectedStorage))
             (masked_row T.row T.Storage.row T.Storage.UnprotectedStorage) self.entry result.store
             (with_store self.old)) }

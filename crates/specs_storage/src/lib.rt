@@ -23,4 +23,4 @@ pub use restrict::{
     ImmutableAliasing, ImmutableParallelRestriction, MutableParallelRestriction, Restrict,
     RestrictMut, RestrictedStorage, RestrictedStorageMut, SequentialRestriction,
 };
-pub use storage::{InsertResult, LendError, ReadStorage, Storage, WriteStorage};
+pub use storage::{InsertResult, LendError, LentStorage, LentStorageMut, Storage};

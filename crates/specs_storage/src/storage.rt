@@ -49,10 +49,10 @@ pub struct Storage<'e, T, D> {
 }
 
 /// Parts that are lent for reading.
-pub type ReadStorage<'e, T> = Storage<'e, T, &'e MaskedStorage<T>>;
+pub type LentStorage<'e, T> = Storage<'e, T, &'e MaskedStorage<T>>;
 
 /// Parts that are lent for writing.
-pub type WriteStorage<'e, T> = Storage<'e, T, &'e mut MaskedStorage<T>>;
+pub type LentStorageMut<'e, T> = Storage<'e, T, &'e mut MaskedStorage<T>>;
 
 impl<'e, T, D> Storage<'e, T, D> {
     /// The storage of these entities' parts.

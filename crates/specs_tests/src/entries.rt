@@ -6,7 +6,7 @@ use crate::parts::{Speed, made};
 use specs_entity::{EntitiesRes, Entity, WrongGeneration};
 use specs_join::Join;
 use specs_layouts::MaskedStorage;
-use specs_storage::{EntryCursor, Storage, StorageEntry, WriteStorage};
+use specs_storage::{EntryCursor, LentStorageMut, Storage, StorageEntry};
 use std::alloc::Global;
 
 /// What putting a part at a place answers.
@@ -48,7 +48,7 @@ fn not_found(refusal: &WrongGeneration) -> Placed {
     NotAlive(refusal.actual_gen.id())
 }
 
-fn replace(storage: &mut WriteStorage<'_, Speed>, entity: Entity, number: u32) -> Placed {
+fn replace(storage: &mut LentStorageMut<'_, Speed>, entity: Entity, number: u32) -> Placed {
     let place = match storage.entry(entity) {
         Ok(place) => place,
         Err(refusal) => return not_found(&refusal),
@@ -61,14 +61,14 @@ fn replace(storage: &mut WriteStorage<'_, Speed>, entity: Entity, number: u32) -
 }
 
 /// What an entity without a place answers, or none where it has one.
-fn missing(storage: &mut WriteStorage<'_, Speed>, entity: Entity) -> Option<Placed> {
+fn missing(storage: &mut LentStorageMut<'_, Speed>, entity: Entity) -> Option<Placed> {
     match storage.entry(entity) {
         Ok(_) => None,
         Err(refusal) => Some(not_found(&refusal)),
     }
 }
 
-fn settle(storage: &mut WriteStorage<'_, Speed>, entity: Entity, number: u32) -> Placed {
+fn settle(storage: &mut LentStorageMut<'_, Speed>, entity: Entity, number: u32) -> Placed {
     if let Some(placed) = missing(storage, entity) {
         return placed;
     }
@@ -85,7 +85,7 @@ fn settle(storage: &mut WriteStorage<'_, Speed>, entity: Entity, number: u32) ->
     }
 }
 
-fn double(storage: &mut WriteStorage<'_, Speed>, entity: Entity, number: u32) -> Option<u32> {
+fn double(storage: &mut LentStorageMut<'_, Speed>, entity: Entity, number: u32) -> Option<u32> {
     let Ok(place) = storage.entry(entity) else {
         return None;
     };
@@ -98,7 +98,7 @@ fn double(storage: &mut WriteStorage<'_, Speed>, entity: Entity, number: u32) ->
     }
 }
 
-fn fill(storage: &mut WriteStorage<'_, Speed>, entity: Entity, number: u32) -> Option<u32> {
+fn fill(storage: &mut LentStorageMut<'_, Speed>, entity: Entity, number: u32) -> Option<u32> {
     let Ok(place) = storage.entry(entity) else {
         return None;
     };
@@ -108,7 +108,7 @@ fn fill(storage: &mut WriteStorage<'_, Speed>, entity: Entity, number: u32) -> O
     }
 }
 
-fn raise(storage: &mut WriteStorage<'_, Speed>, entity: Entity) -> Option<u32> {
+fn raise(storage: &mut LentStorageMut<'_, Speed>, entity: Entity) -> Option<u32> {
     match storage.entry(entity) {
         Ok(StorageEntry::Occupied(mut place)) => {
             if let Ok(part) = place.get_mut() {
@@ -127,7 +127,7 @@ fn raise(storage: &mut WriteStorage<'_, Speed>, entity: Entity) -> Option<u32> {
     }
 }
 
-fn lose(storage: &mut WriteStorage<'_, Speed>, entity: Entity) -> Option<u32> {
+fn lose(storage: &mut LentStorageMut<'_, Speed>, entity: Entity) -> Option<u32> {
     if let Ok(StorageEntry::Occupied(place)) = storage.entry(entity) {
         if let Ok(part) = place.into_mut() {
             part.0 = part.0.wrapping_mul(2);
@@ -143,7 +143,7 @@ fn lose(storage: &mut WriteStorage<'_, Speed>, entity: Entity) -> Option<u32> {
 }
 
 /// Whether a call answers what it has to.
-fn answers(storage: &mut WriteStorage<'_, Speed>, entity: Entity, call: &Call) -> bool {
+fn answers(storage: &mut LentStorageMut<'_, Speed>, entity: Entity, call: &Call) -> bool {
     match call {
         Replaces(number, wanted) => replace(storage, entity, *number) == *wanted,
         Settles(number, wanted) => settle(storage, entity, *number) == *wanted,
@@ -254,7 +254,7 @@ fn number<R: Join>(cursor: &mut EntryCursor<'_, Speed, R>) -> Option<u32>
 }
 
 /// The sum of the numbers at the indices of a join, each put as 2 where none was there.
-fn sum<R: Join>(storage: &mut WriteStorage<'_, Speed>, read: R) -> u32 {
+fn sum<R: Join>(storage: &mut LentStorageMut<'_, Speed>, read: R) -> u32 {
     let mut sum: u32 = 0;
     let mut cursor = storage.entries().cursor(read);
     while cursor.advance().is_some() {

@@ -6,8 +6,8 @@ use specs_entity::{EntitiesRes, Entity, Error, WrongGeneration};
 use specs_join::{AntiStorage, Join};
 use specs_layouts::MaskedStorage;
 use specs_storage::{
-    BuildWith, Drain, GenericReadStorage, GenericWriteStorage, LendError, ReadStorage, Storage,
-    WriteStorage,
+    BuildWith, Drain, GenericReadStorage, GenericWriteStorage, LendError, LentStorage,
+    LentStorageMut, Storage,
 };
 use std::alloc::Global;
 
@@ -116,7 +116,7 @@ fn refused<C: Numbered>(error: &Error, entity: Entity, part: &C, number: u32) ->
     }
 }
 
-fn put<C: Numbered>(storage: &mut WriteStorage<'_, C>, entity: Entity, number: u32) -> Placed {
+fn put<C: Numbered>(storage: &mut LentStorageMut<'_, C>, entity: Entity, number: u32) -> Placed {
     match storage.insert(entity, C::made(number)) {
         Ok(Some(old)) => Over(old.number()),
         Ok(None) => New,
@@ -126,7 +126,7 @@ fn put<C: Numbered>(storage: &mut WriteStorage<'_, C>, entity: Entity, number: u
 
 /// Whether putting a part answers this, and the part is there where it was put.
 fn puts<C: Numbered>(
-    storage: &mut WriteStorage<'_, C>,
+    storage: &mut LentStorageMut<'_, C>,
     entity: Entity,
     part: u32,
     wanted: Placed,
@@ -140,12 +140,12 @@ fn puts<C: Numbered>(
 }
 
 /// The number at an entity.
-fn number<C: Numbered>(storage: &WriteStorage<'_, C>, entity: Entity) -> Option<u32> {
+fn number<C: Numbered>(storage: &LentStorageMut<'_, C>, entity: Entity) -> Option<u32> {
     storage.get(entity).map(|part: &C| part.number())
 }
 
 fn raise<C: Numbered>(
-    storage: &mut WriteStorage<'_, C>,
+    storage: &mut LentStorageMut<'_, C>,
     entity: Entity,
     more: u32,
 ) -> Option<LendError> {
@@ -159,7 +159,7 @@ fn raise<C: Numbered>(
 }
 
 /// The number of the part that is taken out.
-fn lose<C: Numbered>(storage: &mut WriteStorage<'_, C>, entity: Entity) -> Option<u32> {
+fn lose<C: Numbered>(storage: &mut LentStorageMut<'_, C>, entity: Entity) -> Option<u32> {
     match storage.remove(entity) {
         Ok(Some(part)) => Some(part.number()),
         _ => None,
@@ -196,7 +196,7 @@ fn after(number: Option<u32>, step: u32) -> Option<u32> {
 
 /// Whether a call answers what it has to.
 fn answers<C: Numbered>(
-    storage: &mut WriteStorage<'_, C>,
+    storage: &mut LentStorageMut<'_, C>,
     entity: Entity,
     call: Call,
     step: u32,
@@ -472,7 +472,7 @@ fn joins(entities: &EntitiesRes, parts: &MaskedStorage<Speed>, wanted: &[u32]) -
 }
 
 /// Whether a storage has parts of these numbers.
-fn shows(storage: &ReadStorage<'_, Speed>, wanted: &[u32]) -> bool {
+fn shows(storage: &LentStorage<'_, Speed>, wanted: &[u32]) -> bool {
     walks(storage, |part: &Speed| part.0, wanted)
 }
 

@@ -10,7 +10,7 @@ ghost use Rattle.specs_layouts.specs.MaskedChanges.{PutsIn, KeepsParts};
 use hibitset::Index;
 use specs_entity::Entity;
 use specs_layouts::{Component, DenseVecStorage, MaskedStorage};
-use specs_storage::{Drain, GenericWriteStorage, WriteStorage, entry_at};
+use specs_storage::{Drain, GenericWriteStorage, LentStorageMut, entry_at};
 
 /// Points that an entity has.
 #[derive(Default, Drop)]
@@ -35,7 +35,7 @@ pub fn settle(store: &mut MaskedStorage<Score>, id: Index, points: u32) -> bool
 }
 
 /// The same at an entity of a storage that is lent with its entities: an entity that isn't alive has no place.
-pub fn settle_living(storage: &mut WriteStorage<'_, Score>, entity: Entity, points: u32) -> bool
+pub fn settle_living(storage: &mut LentStorageMut<'_, Score>, entity: Entity, points: u32) -> bool
     ensures alive { result ≡ true → IsAlive storage.old.entities.now entity }
     ensures done { result ≡ true → PutsIn dense_part storage.old.store.now entity.id
         (Some (unwrap_or (dense_part storage.old.store.now.inner entity.id) (record { 0 = points })))
@@ -49,7 +49,7 @@ pub fn settle_living(storage: &mut WriteStorage<'_, Score>, entity: Entity, poin
 }
 
 /// Gives an entity so many points, whether it has a score or not, and answers whether it could be given them.
-pub fn set_points(storage: &mut WriteStorage<'_, Score>, entity: Entity, points: u32) -> bool
+pub fn set_points(storage: &mut LentStorageMut<'_, Score>, entity: Entity, points: u32) -> bool
     ensures done { result ≡ true → PutsIn dense_part storage.old.store.now entity.id (Some (record { 0 = points }))
         storage.new.store.now }
     ensures refused { result ≡ false → KeepsParts dense_part storage.old.store.now storage.new.store.now }
@@ -80,7 +80,7 @@ pub fn take_first(store: &mut MaskedStorage<Score>) -> Option<Index>
 }
 
 /// The same of a storage that is lent with its entities.
-pub fn take_first_lent(storage: &mut WriteStorage<'_, Score>) -> Option<Index>
+pub fn take_first_lent(storage: &mut LentStorageMut<'_, Score>) -> Option<Index>
     ensures taken { IfSome result
         (λ index. PutsIn dense_part storage.old.store.now index None storage.new.store.now) }
     ensures kept { IfNone result (storage.new.store.now ≡ storage.old.store.now) }

@@ -12,8 +12,8 @@ use specs_entity::{EntitiesRes, Entity};
 use specs_join::Join;
 use specs_layouts::{DenseVecStorage, MaskedStorage, TryDefault};
 use specs_storage::{
-    ImmutableParallelRestriction, PairCursor, PairedStorage, ReadStorage, Restrict, RestrictMut,
-    Storage, WriteStorage,
+    ImmutableParallelRestriction, LentStorage, LentStorageMut, PairCursor, PairedStorage, Restrict,
+    RestrictMut, Storage,
 };
 use std::alloc::Global;
 
@@ -75,7 +75,7 @@ fn raise_each<R: Join>(entities: &EntitiesRes, parts: &mut MaskedStorage<Speed>,
 }
 
 /// The same over a storage that is lent with its entities.
-fn raise_all<R: Join>(storage: &mut WriteStorage<'_, Speed>, read: R) -> u32
+fn raise_all<R: Join>(storage: &mut LentStorageMut<'_, Speed>, read: R) -> u32
     ensures loans { KeepsLoans storage.old storage.new }
     ensures parts { AreChanged (λ (part : Speed) item. Some (record { 0 = (part.0 + 1) % 4294967296 }))
         (dense_part storage.old.store.now.inner) (R.joins read) (dense_part storage.new.store.now.inner) }
@@ -101,7 +101,7 @@ fn add_to<R: Join>(cursor: &mut PairCursor<'_, Speed, R>, sum: Entity) -> bool
 }
 
 /// Adds each part at an index of the join to that of an entity, and answers what that has then.
-fn add_all<R: Join>(storage: &mut WriteStorage<'_, Speed>, read: R, sum: Entity) -> Option<u32> {
+fn add_all<R: Join>(storage: &mut LentStorageMut<'_, Speed>, read: R, sum: Entity) -> Option<u32> {
     let mut cursor = storage.restrict_mut().cursor(read);
     while cursor.advance() {
         if !add_to(&mut cursor, sum) {
@@ -113,7 +113,7 @@ fn add_all<R: Join>(storage: &mut WriteStorage<'_, Speed>, read: R, sum: Entity)
 
 /// What the first two pairs show, each with the part of one entity.
 fn shown(
-    storage: &ReadStorage<'_, Speed>,
+    storage: &LentStorage<'_, Speed>,
     entity: Entity,
 ) -> Option<((u32, Option<u32>), (u32, Option<u32>))> {
     let restricted = storage.restrict();
@@ -136,7 +136,7 @@ fn both(
 }
 
 /// The first two parts that pairs for many callers show.
-fn listed(storage: &mut WriteStorage<'_, Speed>) -> Option<(u32, u32)> {
+fn listed(storage: &mut LentStorageMut<'_, Speed>) -> Option<(u32, u32)> {
     let restricted = storage.par_restrict_mut();
     let mut walk = (&restricted).join();
     let first = walk.next()?;
@@ -147,7 +147,7 @@ fn listed(storage: &mut WriteStorage<'_, Speed>) -> Option<(u32, u32)> {
 /// Adds 5 to the part at the first index and sets that of an entity to 9, both by the pair there; answers its own part and that of
 /// the entity.
 fn set_from_the_first<R: Join>(
-    storage: &mut WriteStorage<'_, Speed>,
+    storage: &mut LentStorageMut<'_, Speed>,
     read: R,
     entity: Entity,
 ) -> Option<(u32, Option<u32>)> {

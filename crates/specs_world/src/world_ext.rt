@@ -25,7 +25,7 @@ use crate::taking::{put_in, take_out};
 use shred_world::{MetaTable, Resource, SystemData, World};
 use specs_entity::{CreateIter, EntitiesRes, Entity, Error};
 use specs_layouts::{AnyStorage, Component, MaskedStorage, TryDefault, UnprotectedStorage};
-use specs_storage::ReadStorage as LentStorage;
+use specs_storage::LentStorage;
 use std::alloc::Global;
 use std::marker::PhantomData;
 

@@ -12,7 +12,7 @@ ghost use Rattle.scene_tests.specs.Watched.{configured};
 ghost use Rattle.scene_tests.specs.Gated.{place_access, place_name, gated_book, Passes, IsAlone, law-passes};
 ghost use Rattle.scene_tests.specs.GatedLaws.{law-gates_known};
 
-use scene::{Accessor, DocumentRules, Queue, ReadError, Rules, RunningTime, Stop, Store};
+use scene::{DocumentRules, Queue, ReadError, Rules, RunningTime, Stop, Store, SystemAccess};
 use scene_world_tests::turns::{Drifting, Value};
 use serde_json::Value as Json;
 use shred_world::{Holder, ResourceId, World};
@@ -176,12 +176,12 @@ impl DocumentRules for Gated {
         Ok(None)
     }
 
-    fn accessor(gate: &Gate, alloc: Global) -> Result<Accessor, AllocError> {
+    fn accessor(gate: &Gate, alloc: Global) -> Result<SystemAccess, AllocError> {
         let reads = match gate.place {
             Place::First => vec![in alloc; "pos"]?,
             Place::Second => vec![in alloc; "vel"]?,
         };
-        Ok(Accessor {
+        Ok(SystemAccess {
             reads,
             writes: Vec::new(alloc),
             read_globals: Vec::new(alloc),

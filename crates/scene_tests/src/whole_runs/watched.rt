@@ -11,7 +11,7 @@ ghost use Rattle.scene_world_tests.specs.DriftingLaws.{law-kinds_ascend, law-glo
 ghost use Rattle.scene_tests.specs.Watched.{configured, mover_access, mover_does, mover_name, watched_book, law-does, IsHalt};
 ghost use Rattle.scene_tests.specs.WatchedLaws.{law-declares_known};
 
-use scene_model::{Accessor, DocumentRules, Queue, ReadError, RunningTime};
+use scene_model::{DocumentRules, Queue, ReadError, RunningTime, SystemAccess};
 use scene_world::{Rules, Store};
 use scene_world_tests::turns::{Drift, Drifting, Value};
 use serde_json::Value as Json;
@@ -133,13 +133,13 @@ impl DocumentRules for Watched {
         Ok(None)
     }
 
-    fn accessor(system: &Mover, alloc: Global) -> Result<Accessor, AllocError> {
+    fn accessor(system: &Mover, alloc: Global) -> Result<SystemAccess, AllocError> {
         let (reads, writes, writes_reserved) = match system {
             Mover::Drift => (vec![in alloc; "vel"]?, vec![in alloc; "pos"]?, false),
             Mover::Watch | Mover::Halt => (vec![in alloc; "vel"]?, Vec::new(alloc), false),
             Mover::Found => (Vec::new(alloc), Vec::new(alloc), true),
         };
-        Ok(Accessor {
+        Ok(SystemAccess {
             reads,
             writes,
             read_globals: Vec::new(alloc),

@@ -9,7 +9,7 @@ ghost use Rattle.scene_world_tests.specs.OwningLaws.{law-kinds_ascend, law-globa
 
 use crate::commands::datum::Datum;
 use crate::commands::rules::{Idle, Owning};
-use scene_model::{Accessor, DocumentRules, ReadError, RunningTime};
+use scene_model::{DocumentRules, ReadError, RunningTime, SystemAccess};
 use serde_json::Value as Json;
 use std::alloc::{AllocError, Global};
 
@@ -93,8 +93,8 @@ impl DocumentRules for Owning {
         Ok(None)
     }
 
-    fn accessor(_system: &Idle, alloc: Global) -> Result<Accessor, AllocError> {
-        Ok(Accessor {
+    fn accessor(_system: &Idle, alloc: Global) -> Result<SystemAccess, AllocError> {
+        Ok(SystemAccess {
             reads: Vec::new(alloc),
             writes: Vec::new(alloc),
             read_globals: Vec::new(alloc),

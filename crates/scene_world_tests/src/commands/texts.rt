@@ -6,12 +6,12 @@ ghost use Rattle.scene_document.specs.Documents.{document_from};
 ghost use Rattle.scene_document.specs.Loading.{IsNotLoaded};
 ghost use Rattle.scene_document.specs.Openings.{first_scene};
 ghost use Rattle.scene_world.specs.Standing.{StandsFor};
-ghost use Rattle.scene_world.specs.Places.{kinds_of};
+ghost use Rattle.scene_world.specs.Members.{kinds_by};
 ghost use Rattle.scene_commands.specs.Acts.{seen_of, MayAct};
 
 use scene_commands::load_world;
 use scene_document::{Limits, LoadError, read_document};
-use scene_world::{Rules, SceneValue, Store};
+use scene_world::{Rules, Store};
 use serde_json::Value as Json;
 use shred_world::World;
 use std::alloc::Global;
@@ -28,12 +28,10 @@ pub fn world_of<R: Rules>(
 ) -> Result<World<R::Value>, LoadError>
 where
     R::Value: Drop,
-    ensures may { IfOk result (MayAct (kinds_of ⟦<R::Value as SceneValue<R::Data>>⟧.places R.part_of R.columns)) }
-    ensures stands { MatchResult result
-        (λ world. (plain : Draft)
-        × (document_from (R.book rules.now) limits.indices (view json.now) ≡ Ok plain)
-        × StandsFor (kinds_of ⟦<R::Value as SceneValue<R::Data>>⟧.places R.part_of R.columns) (R.book rules.now)
-        (seen_of world) (first_scene plain))
+    ensures may { IfOk result (MayAct (kinds_by R.Rules R.Value.SceneValue)) }
+    ensures stands { MatchResult result (λ world. (plain : Draft)
+        × (document_from (R.book rules.now) limits.indices (view json.now) ≡ Ok plain) × StandsFor
+        (kinds_by R.Rules R.Value.SceneValue) (R.book rules.now) (seen_of world) (first_scene plain))
         (IsNotLoaded (R.book rules.now) limits.indices (view json.now)) }
 {
     let draft = match read_document(alloc, rules, limits, json) {

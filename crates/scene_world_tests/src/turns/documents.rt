@@ -9,7 +9,7 @@ ghost use Rattle.scene_world_tests.specs.Drifting.{configured, counting, drift_a
 ghost use Rattle.scene_world_tests.specs.DriftingLaws.{law-kinds_ascend, law-globals_ascend, law-reads_admitted, law-reads_back, law-no_float, law-declares_known};
 
 use crate::turns::rules::{Drift, Drifting};
-use scene_model::{Accessor, DocumentRules, ReadError, RunningTime};
+use scene_model::{DocumentRules, ReadError, RunningTime, SystemAccess};
 use serde_json::Value as Json;
 use std::alloc::{AllocError, Global};
 
@@ -93,8 +93,8 @@ impl DocumentRules for Drifting {
         Ok(None)
     }
 
-    fn accessor(_system: &Drift, alloc: Global) -> Result<Accessor, AllocError> {
-        Ok(Accessor {
+    fn accessor(_system: &Drift, alloc: Global) -> Result<SystemAccess, AllocError> {
+        Ok(SystemAccess {
             reads: vec![in alloc; "vel"]?,
             writes: vec![in alloc; "pos"]?,
             read_globals: Vec::new(alloc),

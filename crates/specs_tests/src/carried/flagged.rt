@@ -3,7 +3,7 @@ use crate::flags::Armor;
 use crate::parts::made;
 use specs_entity::{EntitiesRes, Entity};
 use specs_layouts::{ComponentEvent, ReaderId};
-use specs_storage::{Storage, WriteStorage};
+use specs_storage::{LentStorageMut, Storage};
 use std::alloc::{AllocError, Global};
 
 /// What is done to each part.
@@ -25,7 +25,7 @@ impl Kind {
     }
 
     /// Does it to the part of an entity, and answers whether it was done.
-    fn done(self, storage: &mut WriteStorage<'_, Armor>, entity: Entity) -> bool {
+    fn done(self, storage: &mut LentStorageMut<'_, Armor>, entity: Entity) -> bool {
         match self {
             Kind::Put => matches!(storage.insert(entity, Armor(entity.id())), Ok(None)),
             Kind::Written => match storage.get_mut(entity) {
@@ -43,7 +43,7 @@ impl Kind {
 /// Does it to the part of each entity, and answers the events that tell of it, or none where it wasn't done.
 fn done_to_all(
     alloc: Global,
-    storage: &mut WriteStorage<'_, Armor>,
+    storage: &mut LentStorageMut<'_, Armor>,
     entities: &[Entity],
     kind: Kind,
 ) -> Result<Vec<ComponentEvent>, AllocError> {
@@ -59,7 +59,7 @@ fn done_to_all(
 /// Whether it is done to the part of each entity, and the reader reads of it, once an entity and of nothing else.
 fn tells(
     alloc: Global,
-    storage: &mut WriteStorage<'_, Armor>,
+    storage: &mut LentStorageMut<'_, Armor>,
     reader: &ReaderId,
     entities: &[Entity],
     kind: Kind,
@@ -85,7 +85,7 @@ fn fifteen(alloc: Global, entities: &mut EntitiesRes) -> Result<Vec<Entity>, All
 /// Whether all that is done to the parts of these entities is told.
 fn all_is_told(
     alloc: Global,
-    storage: &mut WriteStorage<'_, Armor>,
+    storage: &mut LentStorageMut<'_, Armor>,
     entities: &[Entity],
 ) -> Result<bool, AllocError> {
     let reader = storage.register_reader()?;

@@ -7,7 +7,7 @@ use crate::lent::{FIVE, Row, Who, wrong};
 use crate::parts::{Heat, Layout, Level, Numbered, made};
 use specs_entity::EntitiesRes;
 use specs_layouts::{MaskedStorage, SliceAccess};
-use specs_storage::{ReadStorage, Storage, WriteStorage};
+use specs_storage::{LentStorage, LentStorageMut, Storage};
 use std::alloc::Global;
 
 /// A thousand entities, and those that are born at their indices for the second time.
@@ -155,7 +155,7 @@ fn fills<C: Numbered>(parts: &mut MaskedStorage<C>) -> bool {
 }
 
 /// Whether each slot of a slice has the part of its index.
-fn has_slots(storage: &WriteStorage<'_, Level>) -> bool {
+fn has_slots(storage: &LentStorageMut<'_, Level>) -> bool {
     let mut number: u32 = 0;
     for slot in storage.as_slice() {
         if !matches!(slot, Some(part) if part.0 == number) {
@@ -167,7 +167,7 @@ fn has_slots(storage: &WriteStorage<'_, Level>) -> bool {
 }
 
 /// The same where a slot always has a part.
-fn has_places(storage: &ReadStorage<'_, Heat>) -> bool {
+fn has_places(storage: &LentStorage<'_, Heat>) -> bool {
     let mut number: u32 = 0;
     for part in storage.as_slice() {
         if part.0 != number {

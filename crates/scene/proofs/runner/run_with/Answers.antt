@@ -10,6 +10,6 @@ any-some (Some x) P each = each x
 pub returns-in-Err-Read : goal.returns-in-Err-Read
 returns-in-Err-Read g c = record {
   reports = tt;
-  error = record { failed = c.read_document.ensures.read (c.in-Err-Read.is ∙ ap (λ error. Err error) c.in-Err-Read.field-0-is); untouched = refl };
+  error = record { failed = c.read_bytes.ensures.read (c.in-Err-Read.is ∙ ap (λ error. Err error) c.in-Err-Read.field-0-is); untouched = refl };
   only_that = any-some (g.I.Read.remaining c.args.reader.now) _ (λ input refusal is. tt);
 }

@@ -2,7 +2,7 @@ use Rattle.std.proofs.Common.{sym, subst}
 use Rattle.std.proofs.lemmas.Result.{MatchResult-weaker}
 use Rattle.serde_json.specs.View.{view}
 use Rattle.scene_document.specs.Loading.{IsNotLoaded}
-use Rattle.scene.proofs.frame.Scene.load_out_of.Goals as goal
+use Rattle.scene.proofs.frame.Scene.load_owned.Goals as goal
 
 pub place_document-requires : goal.place_document-requires
 place_document-requires g c = record { limits = c.requires; prepared = (view c.args.value, c.in-Ok.ensures) }
