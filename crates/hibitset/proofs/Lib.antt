@@ -2,3 +2,10 @@ pub mod CutLemmas
 pub mod FoldLemmas
 pub mod FreshLemmas
 pub mod CallerLemmas
+pub mod AtomicWordLemmas
+pub mod AtomicStepLemmas
+pub mod AtomicRunLemmas
+pub mod AtomicRestLemmas
+pub mod RowLemmas
+pub mod SharedLemmas
+pub mod BlockLemmas

@@ -5,3 +5,9 @@ pub mod Standing
 pub mod Folds
 pub mod Atomic
 pub mod Shared
+pub mod AtomicCore
+pub mod AtomicRuns
+pub mod Rows
+pub mod SeatViews
+pub mod SharedRule
+pub mod SharedSets

@@ -1,7 +1,11 @@
-//! `AtomicBitSet` of the Rust crate, held by one owner: no two threads set bits in it at once.
+//! `AtomicBitSet` of the Rust crate, held by one owner; `share` gives it to threads.
 ghost use Rattle.std.specs.Prelude.{◌≡◌, ℕ, ◌<◌, ◌≤◌, IsTrue, ◌↔◌, IsOk, IfOk, OnOk, OnErr, true, map, List};
 ghost use Rattle.std.specs.FinSet as set;
+ghost use Rattle.hibitset_sets.specs.BitSet.{has_member};
+ghost use Rattle.hibitset.specs.AtomicCore.{AreWordsOf};
+ghost use Rattle.hibitset.specs.Rows.{sizes_for};
 
+use crate::rows::layers_in_row;
 use hibitset_sets::count::Counter;
 use hibitset_sets::{BitSet, BitSetLike, DrainableBitSet, Index};
 use std::alloc::{AllocError, Global};
@@ -13,7 +17,7 @@ use std::marker::Model;
 /// summaries, whatever its members are.
 #[derive(Drop)]
 pub struct AtomicBitSet {
-    bits: BitSet,
+    pub(crate) bits: BitSet,
 }
 
 impl Model for AtomicBitSet {
@@ -100,6 +104,18 @@ impl AtomicBitSet {
         ensures { IsTrue result ↔ (self.now.members ≡ set.empty) }
     {
         self.bits.is_empty()
+    }
+
+    /// The words of the four layers that reach over the indices below `count`, in one row, the lowest
+    /// layer first.
+    ///
+    /// Errors: `AllocError`.
+    pub fn layers_in_row(&self, count: usize) -> Result<Vec<u64>, AllocError>
+        requires few { count ≤ 16777216 }
+        requires within { (index : ℕ) → has_member self.now index ≡ true → index < count }
+        ensures { IfOk result (λ words. AreWordsOf (sizes_for count) (has_member self.now) words.items) }
+    {
+        layers_in_row(self.bits.allocator(), &self.bits, count)
     }
 }
 

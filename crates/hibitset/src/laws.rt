@@ -1,8 +1,13 @@
 //! Laws on which callers rely. The functions have no code; each contract is the law.
 
+ghost use Rattle.std.specs.Prelude.{ℕ, Bool, List};
 ghost use Rattle.hibitset_sets.specs.BitSet.{has_member};
 ghost use Rattle.hibitset_sets.specs.Words.{word_of};
+ghost use Rattle.hibitset.specs.AtomicCore.{Sizes, Fits, AreWordsOf};
+ghost use Rattle.hibitset.specs.AtomicRuns.{start, after_all, IsSoundRun, IsAtRest, AreMembers};
 ghost use Rattle.hibitset.specs.Cut.{IsExact};
+ghost use Rattle.hibitset.specs.declared.atomic_core.Run.{Run};
+ghost use Rattle.hibitset.specs.declared.atomic_core.Step.{Step};
 
 use crate::atomic::AtomicBitSet;
 use hibitset_sets::BitSet;
@@ -21,4 +26,21 @@ pub fn summaries_of_a_bit_set_are_exact(set: &BitSet)
 /// The same of an `AtomicBitSet` held alone.
 pub fn summaries_of_an_atomic_bit_set_are_exact(set: &AtomicBitSet)
     ensures { IsExact (word_of (has_member set.now)) }
+{}
+
+/// Whatever the steps of however many callers, over layers of any sizes: no index is reported new
+/// twice, nor an old member at all; layer 0 holds exactly the old members and the indices of all calls
+/// that began; a summary bit is missing only over a word that a call in flight wrote, and is set over
+/// no zero word; an ended call has its four bits; and what a load found set stays set.
+pub fn every_interleaving_of_a_shared_set()
+    ensures { (sizes : Sizes) (old : ℕ → Bool) (words : List ℕ) (callers : ℕ) (steps : List Step)
+        → Fits sizes → AreWordsOf sizes old words
+        → IsSoundRun sizes old (after_all sizes steps (start words callers)) }
+{}
+
+/// Once no call is in flight, layer 0 holds exactly the old members and the indices of the ended calls,
+/// and a summary bit is set exactly over the words that aren't zero.
+pub fn a_shared_set_at_rest_has_what_its_callers_list()
+    ensures { (sizes : Sizes) (old : ℕ → Bool) (run : Run) → IsSoundRun sizes old run
+        → IsAtRest run.callers → AreMembers sizes old run }
 {}

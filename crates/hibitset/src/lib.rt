@@ -1,16 +1,20 @@
 //! Sets of indices in four layers of words, their splits, and work over them in several threads.
 //!
 //! Sets, operators and walks are those of `hibitset_sets`, under the same names. This crate adds
-//! producers, which can be split, parallel walks, and `AtomicBitSet`, held by one owner.
+//! producers, which can be split, parallel walks, and `AtomicBitSet`, held by one owner or shared by threads.
 #![tactic(auto)]
 
 pub mod atomic;
+pub mod atomic_core;
 pub mod atomic_ops;
 pub mod flat;
 pub mod laws;
 pub mod par_iter;
 pub mod parallel;
 pub mod producer;
+mod rows;
+pub mod shared;
+pub mod shared_rule;
 
 pub use atomic::AtomicBitSet;
 pub use atomic_ops::AtomicBitSetIter;
@@ -25,3 +29,4 @@ pub use hibitset_sets::{
 pub use par_iter::BitParIter;
 pub use parallel::ParBitSetLike;
 pub use producer::BitProducer;
+pub use shared::{BitSeat, SeatsOut, SharedBitSet};

@@ -9,6 +9,10 @@ use Rattle.hibitset_sets.specs.Walk.{walk, is_pending}
 abbrev pub Without : (ℕ → Bool) → ℕ → (ℕ → Bool) → Type 0
 Without members i members' = (j : ℕ) → members' j ≡ (not (j == i) && members j)
 
+-- without that index where it was taken, else the members are the same
+abbrev pub LosesIf : Bool → (ℕ → Bool) → ℕ → (ℕ → Bool) → Type 0
+LosesIf taken members i members' = (j : ℕ) → members' j ≡ (not (taken && (j == i)) && members j)
+
 -- without the indices of a list the members are the same
 abbrev pub WithoutAll : (ℕ → Bool) → List ℕ → (ℕ → Bool) → Type 0
 WithoutAll members gone members' = (j : ℕ) → members' j ≡ (not (list_any (λ i. j == i) gone) && members j)

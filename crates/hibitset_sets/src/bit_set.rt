@@ -195,8 +195,9 @@ impl BitSet {
         self.layer3 &= !(1 << number3);
     }
 
-    /// Replaces a word of layer 0.
-    pub(crate) fn put_word(&mut self, place: usize, word: u64)
+    /// Replaces a word of layer 0 that there is room for: bit `i` of `word` says whether
+    /// `64 * place + i` is a member from now on, and no other index comes or goes.
+    pub fn put_word(&mut self, place: usize, word: u64)
         requires { 64 * place < self.old.room }
         ensures members { PutsWord (has_member self.old) place word (has_member self.new) }
         ensures room { self.new.room ≡ self.old.room }
@@ -249,6 +250,11 @@ impl BitSet {
     {
         let place = id.offset(SHIFT1);
         place < self.layer0.len() && self.layer0[place] & id.mask(SHIFT0) != 0
+    }
+
+    /// The allocator that the set takes its memory from.
+    pub fn allocator(&self) -> Global {
+        *self.layer0.allocator()
     }
 
     /// Takes all members out, and gives up the room.

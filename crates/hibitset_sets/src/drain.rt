@@ -105,7 +105,17 @@ impl<'b, T: DrainableBitSet> DrainableBitSet for &'b mut T {
 }
 
 impl<A: DrainableBitSet, B: DrainableBitSet> DrainableBitSet for BitSetAnd<A, B> {
-    fn remove(&mut self, i: Index) -> bool {
+    ghost use Rattle.hibitset_sets.specs.Drain.{LosesIf, Without};
+    ghost use Rattle.hibitset_sets.specs.Operators.{members_of_and};
+
+    /// Takes `i` out of both sets where both have it. Else both stay as they are.
+    fn remove(&mut self, i: Index) -> bool
+        ensures removed { result ≡ members_of_and (A.members self.old.0) (B.members self.old.1) i }
+        ensures members { Without (members_of_and (A.members self.old.0) (B.members self.old.1)) i
+            (members_of_and (A.members self.new.0) (B.members self.new.1)) }
+        ensures first { LosesIf result (A.members self.old.0) i (A.members self.new.0) }
+        ensures second { LosesIf result (B.members self.old.1) i (B.members self.new.1) }
+    {
         let was = self.contains(i);
         if was {
             let _ = self.0.remove(i);

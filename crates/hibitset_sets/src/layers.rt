@@ -13,7 +13,11 @@ pub(crate) fn extend_words(words: &mut Vec<u64>, len: usize) -> Result<(), Alloc
     ensures err { OnErr result (words.new.items ≡ words.old.items) }
 {
     if words.len() < len {
-        words.resize(len, 0)?;
+        if words.is_empty() {
+            *words = Vec::from_elem(*words.allocator(), 0, len)?;
+        } else {
+            words.resize(len, 0)?;
+        }
     }
     Ok(())
 }

@@ -8,9 +8,13 @@ mod cuts;
 #[cfg(test)]
 mod drains;
 #[cfg(test)]
+mod gates;
+#[cfg(test)]
 mod made;
 #[cfg(test)]
 mod operators;
+#[cfg(test)]
+mod shared;
 #[cfg(test)]
 mod threads;
 #[cfg(test)]

@@ -15,7 +15,11 @@ const CUTS: [u8; 3] = [1, 2, 3];
 const WORKERS: [usize; 4] = [0, 1, 2, 8];
 
 /// The first `members` multiples of `step`, from 0 on.
-fn multiples(alloc: Global, members: Index, step: Index) -> Result<Vec<Index>, AllocError> {
+pub(crate) fn multiples(
+    alloc: Global,
+    members: Index,
+    step: Index,
+) -> Result<Vec<Index>, AllocError> {
     let mut list = Vec::new(alloc);
     for k in 0..members {
         list.push(k.wrapping_mul(step))?;
