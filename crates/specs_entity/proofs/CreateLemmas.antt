@@ -78,6 +78,12 @@ AreMade-less before entities entity after made =
       },
     )
 
+-- the last birth of those that are left
+pub last-made : (before : Births) (items rest : List LifeAt) (entity : LifeAt) (id : _) (births : Births) → items ≡ rest ++ entity ∷ [] → id ≡ entity.id → AreMade before items births → AreMade before rest (all_created (length rest) before) × IsCreated (all_created (length rest) before) id births
+last-made before items rest entity id births split named made =
+    let less = AreMade-less before rest entity births (subst (λ xs. AreMade before xs births) split made) in
+    (less.0, subst (λ i. IsCreated (all_created (length rest) before) i births) (sym named) less.1)
+
 -- ---- the last birth undone
 
 remove-insert : (s : fin.FinSet nat_cmp) (index : ℕ) → fin.contains s index ≡ false → fin.remove (fin.insert s index) index ≡ s

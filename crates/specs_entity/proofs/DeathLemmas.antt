@@ -3,7 +3,7 @@ use Rattle.std.proofs.Common.{◌≡◌, ℕ, zero, suc, ◌+◌, ◌<◌, List,
 use Rattle.std.specs.Prelude.{IfSome}
 use Rattle.std.specs.FinSet as fin
 use Rattle.std.specs.Ordering.{nat_cmp}
-use Rattle.std.specs.List.{All, AllByRecursion, IsDistinct, list_any, range_with_len}
+use Rattle.std.specs.List.{AllByRecursion, IsDistinct, list_any, range_with_len}
 use Rattle.std.proofs.lemmas.List.Elements.{All-map, All-weaker}
 use Rattle.std.proofs.lemmas.List.Folds.{list_any_none}
 use Rattle.std.proofs.lemmas.Bool.{true≢false, cases_Bool}

@@ -6,3 +6,11 @@ pub mod LawLemmas
 pub mod NewLemmas
 pub mod AliveLemmas
 pub mod CallerLemmas
+pub mod PhaseCoreLemmas
+pub mod PhaseRestLemmas
+pub mod PhaseSeatLemmas
+pub mod PhaseTableLemmas
+pub mod PhaseReserveLemmas
+pub mod PhaseAliveLemmas
+pub mod AcceptLemmas
+pub mod PhaseCloseLemmas

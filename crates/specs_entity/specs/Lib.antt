@@ -4,3 +4,10 @@ pub mod Births
 pub mod Layout
 pub mod Building
 pub mod Emptied
+pub mod PhaseCore
+pub mod PhaseViews
+pub mod PhaseRule
+pub mod SharedPhase
+pub mod SharedSeats
+pub mod SharedLayout
+pub mod Accepting

@@ -92,7 +92,7 @@ impl EntitiesRes {
     }
 
     /// Creates so many entities, or none, as a list.
-    fn create_list(&mut self, count: usize) -> Result<Vec<Entity>, Error>
+    pub(crate) fn create_list(&mut self, count: usize) -> Result<Vec<Entity>, Error>
         ensures value { IfOk result (λ entities. entities.items ≡ newborns count self.old) }
         ensures ok { OnOk result (self.new ≡ all_created count self.old) }
         ensures new { IfOk result (λ entities. AreNew self.old entities.items self.new) }
@@ -151,7 +151,7 @@ impl EntitiesRes {
     }
 
     /// Undoes the last birth, which was by `create` and at that index.
-    fn uncreate(&mut self, id: Index)
+    pub(crate) fn uncreate(&mut self, id: Index)
         requires { (before : Births) × IsCreated before id self.old }
         ensures { (before : Births) → IsCreated before id self.old → self.new ≡ before }
     {

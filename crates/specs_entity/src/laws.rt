@@ -1,9 +1,17 @@
 //! Laws on which callers rely. Most functions have no code; each contract is the law.
-ghost use Rattle.std.specs.Prelude.{◌≡◌, ◌<◌, ◌≤◌, ℕ, ◌↔◌, IsTrue, IsSome, None, true};
+ghost use Rattle.std.specs.Prelude.{◌≡◌, ◌≢◌, ◌<◌, ◌≤◌, ℕ, ◌↔◌, IsTrue, IsSome, None, List, true};
+ghost use mathlib.Core.Option.{some};
+ghost use lib.ListN.{get_elem?};
+ghost use Rattle.hibitset.specs.AtomicCore.{Fits};
 ghost use Rattle.std.specs.FinSet as set;
 ghost use Rattle.std.specs.Ordering.{nat_cmp, int_cmp, ordering_then};
 ghost use Rattle.specs_entity.specs.Life.{id_of};
 ghost use Rattle.specs_entity.specs.Births.{Births, IsAlive, IsBorn, IsDead, IndicesAreSpent, Continues, living};
+ghost use Rattle.specs_entity.specs.PhaseCore.{Setting, IsOpening, IsPhase, IsPhaseAtRest, HasSettled};
+ghost use Rattle.specs_entity.specs.PhaseCore.{after_events, occurrences};
+ghost use Rattle.specs_entity.specs.declared.phase_core.Claimer.{Claimer};
+ghost use Rattle.specs_entity.specs.declared.phase_core.Event.{Event};
+ghost use Rattle.specs_entity.specs.declared.phase_core.Phase.{Phase};
 ghost use Rattle.specs_entity.specs.Births.{newborn, allocated, created, deleted, buried, settled};
 
 use crate::entities_res::EntitiesRes;
@@ -71,3 +79,29 @@ pub fn entities_are_ordered_as_pairs(one: &Entity, other: &Entity) -> Ordering
 {
     one.cmp(other)
 }
+
+/// Whatever the steps of however many callers, over layers of any sizes: the births of all callers are
+/// the first places of the reserve, as many as the claim word says, each once; allowances are at most
+/// what is left of the reserve; both sets are sound as `hibitset::laws` says of them; and each deletion
+/// is of an index where an entity lived at the opening or was raised since.
+pub fn every_interleaving_of_a_phase()
+    ensures { (setting : Setting) (phase : Phase) (events : List Event) → Fits setting.sizes
+        → IsOpening setting phase → IsPhase setting (after_events setting events phase) }
+{}
+
+/// No entity of the reserve is given twice: not to two callers, and not to one.
+pub fn no_entity_is_given_twice()
+    ensures two { (setting : Setting) (phase : Phase) (one other : ℕ) (claimer claimer' : Claimer)
+        → IsPhase setting phase → one ≢ other → get_elem? phase.claimers one ≡ some claimer
+        → get_elem? phase.claimers other ≡ some claimer' → (place : ℕ)
+        → 0 < occurrences place claimer.births → 0 < occurrences place claimer'.births → ⊥ }
+    ensures one { (setting : Setting) (phase : Phase) (one : ℕ) (claimer : Claimer) → IsPhase setting phase
+        → get_elem? phase.claimers one ≡ some claimer → (place : ℕ) → occurrences place claimer.births ≤ 1 }
+{}
+
+/// Once no call is in flight, the raised set holds exactly the old members and the births, the killed
+/// set exactly the old members and the accepted deletions, and the summaries of both are exact.
+pub fn a_phase_at_rest_has_settled()
+    ensures { (setting : Setting) (phase : Phase) → IsPhase setting phase → IsPhaseAtRest phase
+        → HasSettled setting phase }
+{}

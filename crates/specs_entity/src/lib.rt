@@ -11,10 +11,14 @@ pub mod errors;
 pub mod ids;
 pub mod laws;
 mod parts;
+pub mod phase_core;
+pub mod phase_rule;
+pub mod shared_entities;
 
 pub use builder::EntityResBuilder;
 pub use create_iter::{CreateIter, CreateIterAtomic};
 pub use entities_res::{Entities, EntitiesRes};
 pub use errors::{BoxedErr, Error, WrongGeneration};
-pub use hibitset::Index;
+pub use hibitset::{Index, SeatsOut};
 pub use ids::{Entity, Generation};
+pub use shared_entities::{AllowanceSpent, EntitySeat, SharedEntities};

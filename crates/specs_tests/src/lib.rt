@@ -36,4 +36,6 @@ mod restricted;
 #[cfg(test)]
 mod sets;
 #[cfg(test)]
+mod shared;
+#[cfg(test)]
 mod storages;

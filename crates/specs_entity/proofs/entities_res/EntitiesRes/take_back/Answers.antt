@@ -1,15 +1,9 @@
-use Rattle.std.proofs.Common.{◌≡◌, ◌++◌, ◌∷◌, [], List, length, ap, sym, subst}
+use Rattle.std.proofs.Common.{length, ap, sym, subst}
 use Rattle.specs_entity.specs.Life.{LifeAt}
 use Rattle.specs_entity.specs.Births.{Births, all_created}
-use Rattle.specs_entity.specs.Layout.{AreMade, IsCreated}
-use Rattle.specs_entity.proofs.CreateLemmas.{AreMade-less}
+use Rattle.specs_entity.specs.Layout.{AreMade}
+use Rattle.specs_entity.proofs.CreateLemmas.{last-made}
 use Rattle.specs_entity.proofs.entities_res.EntitiesRes.take_back.Goals as goal
-
--- the last birth of those that are left
-last-made : (before : Births) (items rest : List LifeAt) (entity : LifeAt) (id : _) (births : Births) → items ≡ rest ++ entity ∷ [] → id ≡ entity.id → AreMade before items births → AreMade before rest (all_created (length rest) before) × IsCreated (all_created (length rest) before) id births
-last-made before items rest entity id births split named made =
-    let less = AreMade-less before rest entity births (subst (λ xs. AreMade before xs births) split made) in
-    (less.0, subst (λ i. IsCreated (all_created (length rest) before) i births) (sym named) less.1)
 
 pub uncreate-requires : goal.uncreate-requires
 uncreate-requires c =
