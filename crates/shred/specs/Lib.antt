@@ -13,3 +13,4 @@ pub mod Multis
 pub mod Waits
 pub mod Numbers
 pub mod Nothing
+pub mod Standing

@@ -1,5 +1,5 @@
 //! Dispatchers: staged systems and local ones over a world.
-ghost use Rattle.std.specs.Prelude.{◌≡◌, is_ok};
+ghost use Rattle.std.specs.Prelude.{◌≡◌, ◌≢◌, Err, is_ok};
 ghost use Rattle.shred_world.specs.Bundles.{holding_of};
 ghost use Rattle.shred_plan.specs.Plan.{most_groups};
 ghost use Rattle.shred_stages.specs.Views.{Leaves};
@@ -9,10 +9,12 @@ ghost use Rattle.shred.specs.Dispatching.{DispatchesOnThreads, DispatchesStaged,
 ghost use Rattle.shred.specs.Dispatching.{TellsLocal, DispatcherSetsUp, DispatcherDisposes, TellsFirst, stop_in};
 ghost use Rattle.shred.specs.Dispatching.{MeetsAsLocal, DisposesAsLocal};
 ghost use Rattle.shred_stages.specs.Seats.{refusal_of};
+ghost use Rattle.shred_stages.specs.declared.error.DispatchError.TheVariants.{Threads};
 
 use crate::locals::{LocalRefusal, dispose_locals, run_locals, set_up_list};
 use crate::{DispatchError, RunNow, StagesBuilder, Stop, System};
-use shred_stages::Refusal;
+use shred_crew::Crew;
+use shred_stages::{Pack, Refusal};
 use shred_world::{Holder, World};
 use std::alloc::AllocError;
 use std::marker::Model;
@@ -136,6 +138,54 @@ impl<V: Drop, S: System<V> + Drop, L: RunNow<V> + Drop> Dispatcher<V, S, L> {
         ensures leaves { Leaves (holding_of world.old) (holding_of world.new) }
     {
         self.stages.execute(rt, self.workers, world)
+    }
+
+    /// Runs the staged systems and then the local ones, as `dispatch` does, by the workers of a crew that stands by: it starts
+    /// no thread.
+    ///
+    /// Errors: that of `dispatch_par_with`, after which no local system runs; that of `dispatch_thread_local`.
+    pub fn dispatch_with<R: AllocGlobal + Wait>(
+        &mut self,
+        rt: &R,
+        crew: &mut Crew<World<V>, Pack<V, S>>,
+        world: &mut World<V>,
+    ) -> Result<(), DispatchError>
+        ensures runs { DispatchesAll S.meets L.meets self.old (holding_of world.old) result self.new
+            (holding_of world.new) }
+        ensures any_order { DispatchesInAnyOrder S.meets L.meets self.old (holding_of world.old) result self.new
+            (holding_of world.new) }
+        ensures leaves { Leaves (holding_of world.old) (holding_of world.new) }
+        ensures threads { result ≢ Err Threads }
+    {
+        match self.dispatch_par_with(rt, crew, world) {
+            Ok(()) => self.dispatch_thread_local(rt, world),
+            Err(error) => Err(error),
+        }
+    }
+
+    /// Runs the staged systems, as `dispatch_par` does, by the workers of a crew that stands by: it starts no thread.
+    ///
+    /// Errors: `System`, with the first refusal in the order of the plan; `Memory`, where there was no memory for what the
+    /// stages are run with: no system ran, and all is as it was.
+    pub fn dispatch_par_with<R: AllocGlobal + Wait>(
+        &mut self,
+        rt: &R,
+        crew: &mut Crew<World<V>, Pack<V, S>>,
+        world: &mut World<V>,
+    ) -> Result<(), DispatchError>
+        ensures runs { DispatchesOnThreads S.meets L.meets self.old (holding_of world.old) result self.new
+            (holding_of world.new) }
+        ensures any_order { RunsInAnyOrder S.meets self.old.staging (holding_of world.old) result self.new.staging
+            (holding_of world.new) }
+        ensures leaves { Leaves (holding_of world.old) (holding_of world.new) }
+        ensures threads { result ≢ Err Threads }
+    {
+        self.stages.execute_with(rt, self.workers, crew, world)
+    }
+
+    /// How many workers run a stage with the most groups.
+    pub(crate) fn crew_size(&self) -> usize {
+        self.workers.min(self.stages.max_threads())
     }
 
     /// Runs the staged systems on the caller's thread: a chain of their relations in the order of the plan.

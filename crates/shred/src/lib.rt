@@ -15,6 +15,7 @@ mod names;
 mod nothing;
 mod pooled;
 mod run_now;
+mod standing;
 mod systems;
 mod work;
 
@@ -31,10 +32,10 @@ pub use shred_cells::{
     FetchError, InvalidBorrow, LoneMut, Ref, RefMut, SharedFetch, SharedFetchMut, SharedWorld,
     TrustCell, cell_core,
 };
-pub use shred_crew::cut;
+pub use shred_crew::{Crew, Shift, Unmanned, Want, cut, with_crew as stand_by};
 pub use shred_plan::{Adding, Group, Planner, RunningTime, Stage, Way};
 pub use shred_stages::{
-    BatchAccessor, DispatchError, StagesBuilder, Stop, System, SystemId, View, run_alone,
+    BatchAccessor, DispatchError, Pack, StagesBuilder, Stop, System, SystemId, View, run_alone,
 };
 pub use shred_trees::{Leaf, Nil, Par, ParError, ParSeq, RunWithPool, Seq, par, seq};
 pub use shred_world::{
@@ -43,5 +44,6 @@ pub use shred_world::{
     Resource, ResourceId, Resources, SetupHandler, SystemData, World, Write, WriteAccessor,
     WriteExpect, check_intersection,
 };
+pub use standing::{Dispatches, dispatch_times};
 pub use systems::{MAX_SYSTEMS, SystemsBuilder};
 pub use work::Work;

@@ -1,19 +1,21 @@
 //! Runs of stages on threads: the groups of a stage apart from one another.
-ghost use Rattle.std.specs.Prelude.{◌≡◌, ◌≤◌, [], None, length, vec_capacity, IfOk, OnOk, OnErr, IfNone, IfSome};
+ghost use Rattle.std.specs.Prelude.{◌≡◌, ◌≢◌, ◌≤◌, [], None, Err, length, vec_capacity, IfOk, OnOk, OnErr, IfNone, IfSome};
 ghost use Rattle.std.specs.List.{All};
 ghost use Rattle.shred_world.specs.Bundles.{holding_of};
 ghost use Rattle.shred_stages.specs.Runs.{StagesRun};
 ghost use Rattle.shred_stages.specs.Seats.{StagesAreSeated, SeatsKept, state_of, refusal_of};
 ghost use Rattle.shred_stages.specs.Staging.{Tells};
 ghost use Rattle.shred_stages.specs.Free.{AreFree};
+ghost use Rattle.shred_stages.specs.declared.error.DispatchError.TheVariants.{Threads};
 ghost use Rattle.shred_stages.specs.Ends.{EndsAs, IsWanting};
 
 use crate::berth::Berth;
+use crate::pack::Pack;
 use crate::slots::{empty_slots, fill_slots};
 use crate::tour::Tour;
 use crate::turn::Staged;
 use crate::{DispatchError, Refusal, System};
-use shred_crew::{Unmanned, Want, with_crew};
+use shred_crew::{Crew, Shift, Unmanned, Want, with_crew};
 use shred_world::World;
 use std::alloc::{AllocError, Global};
 use std::mem;
@@ -38,6 +40,7 @@ fn make_slots<A: Drop>(alloc: Global, count: usize) -> Result<(Vec<Option<A>>, V
 fn answer(outcome: Result<(), Refusal>, want: Option<Want>) -> Result<(), DispatchError>
     ensures told { IfNone want (Tells result (refusal_of outcome)) }
     ensures wanted { IfSome want (λ _. IsWanting result) }
+    ensures threads { IfNone want (result ≢ Err Threads) }
 {
     match want {
         Some(Want::Memory) => Err(DispatchError::Memory),
@@ -150,4 +153,46 @@ pub(crate) fn run_apart<
     let (tour, want) = tour_manned(rt, workers, tour);
     let outcome = disembark(tour, world, staged, berths);
     answer(outcome, want)
+}
+
+/// Makes a tour while a crew stands by.
+fn tour_standing<V: Drop, S: System<V> + Drop, R: AllocGlobal + Wait>(
+    rt: &R,
+    crew: &mut Crew<World<V>, Pack<V, S>>,
+    tour: Tour<V, S>,
+) -> Tour<V, S>
+    ensures stages { result.stages ≡ tour.stages }
+    ensures seats { SeatsKept tour.staged result.staged }
+    ensures count { length result.staged ≡ length tour.staged }
+    ensures ran { StagesRun S.meets tour.stages (state_of tour.staged (holding_of tour.world))
+        result.refused (state_of result.staged (holding_of result.world)) }
+{
+    let mut tour = tour;
+    tour.run(rt, crew);
+    tour
+}
+
+/// Runs some stages as `run_apart` does, by a crew that stands by.
+pub(crate) fn run_standing<V: Drop, S: System<V> + Drop, R: AllocGlobal + Wait>(
+    rt: &R,
+    crew: &mut Crew<World<V>, Pack<V, S>>,
+    world: &mut World<V>,
+    staged: &mut Vec<Staged<V, S>>,
+    berths: &mut Vec<Berth<V, S>>,
+) -> Result<(), DispatchError>
+    requires free { All AreFree berths.old.items }
+    requires seated { StagesAreSeated berths.old.items staged.old.items }
+    ensures ends { EndsAs S.meets berths.old.items (state_of staged.old.items (holding_of world.old)) result
+        (state_of staged.new.items (holding_of world.new)) }
+    ensures seats { SeatsKept staged.old.items staged.new.items }
+    ensures count { length staged.new.items ≡ length staged.old.items }
+    ensures berths { berths.new.items ≡ berths.old.items }
+    ensures threads { result ≢ Err Threads }
+{
+    let Ok(tour) = embark(rt.alloc(), world, staged, berths) else {
+        return Err(DispatchError::Memory);
+    };
+    let tour = tour_standing(rt, crew, tour);
+    let outcome = disembark(tour, world, staged, berths);
+    answer(outcome, None)
 }

@@ -34,6 +34,7 @@ pub use alone::run_alone;
 pub use away::Away;
 pub use errand::{Done, Errand, Unstarted};
 pub use error::DispatchError;
+pub use pack::Pack;
 pub use run::Refusal;
 pub use seating::{make_seat, move_values};
 pub use stages::StagesBuilder;

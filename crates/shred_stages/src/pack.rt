@@ -5,9 +5,9 @@ use shred_plan::Adding;
 use shred_world::{ResourceId, World};
 use std::marker::Model;
 
-/// The systems of a group at their places in it, the values that they write, and how their run ended.
+/// What a crew works on: the systems of a group at their places in it, the values that they write, and how their run ended.
 #[derive(Drop)]
-pub(crate) struct Pack<V, S> {
+pub struct Pack<V, S> {
     pub(crate) group: Vec<Adding<ResourceId>>,
     pub(crate) reads: Vec<ResourceId>,
     pub(crate) writes: Vec<ResourceId>,

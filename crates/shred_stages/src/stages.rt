@@ -1,5 +1,5 @@
 //! Systems that are planned as they are added, and run in the order of their plan.
-ghost use Rattle.std.specs.Prelude.{◌≡◌, ◌<◌, ◌++◌, ◌∷◌, [], length, string_bytes, OnOk, OnErr, IfOk, IfErr, is_ok};
+ghost use Rattle.std.specs.Prelude.{◌≡◌, ◌≢◌, Err, ◌<◌, ◌++◌, ◌∷◌, [], length, string_bytes, OnOk, OnErr, IfOk, IfErr, is_ok};
 ghost use Rattle.shred_plan.specs.Plan.{added, fence, placing, most_groups};
 ghost use Rattle.shred_plan.specs.PlanText.{plan_text};
 ghost use Rattle.shred_stages.specs.Views.{Leaves};
@@ -7,6 +7,7 @@ ghost use Rattle.shred_stages.specs.Moves.{IsSeat};
 ghost use Rattle.shred_stages.specs.Runs.{StagesRun};
 ghost use Rattle.shred_world.specs.Bundles.{holding_of};
 ghost use Rattle.shred_stages.specs.Staging.{Runs, Tells, DisposesAll};
+ghost use Rattle.shred_stages.specs.declared.error.DispatchError.TheVariants.{Threads};
 ghost use Rattle.shred_stages.specs.Ends.{RunsApart};
 ghost use Rattle.shred_stages.specs.Orders.{RunsInAnyOrder};
 ghost use Rattle.shred_stages.specs.Seats.{StagesAreSeated, refusal_of};
@@ -14,13 +15,15 @@ ghost use Rattle.shred_stages.specs.Setups.{SetsUpEach, DisposesEach};
 ghost use Rattle.shred_stages.specs.Accesses.{all_reads, all_writes};
 
 use crate::access::{Access, ids_in_stages};
-use crate::apart::run_apart;
+use crate::apart::{run_apart, run_standing};
 use crate::berth::{Berth, make_ready};
+use crate::pack::Pack;
 use crate::run::{Refusal, run_stages};
 use crate::seat::seat_for;
 use crate::setup::{dispose_staged, set_up_staged};
 use crate::turn::Staged;
 use crate::{DispatchError, System, SystemId};
+use shred_crew::Crew;
 use shred_plan::{Adding, Planner};
 use shred_world::{Holder, ResourceId, World};
 use smallvec::SmallVec;
@@ -275,6 +278,48 @@ impl<V: Drop, S: System<V> + Drop> StagesBuilder<V, S> {
             return Err(DispatchError::Memory);
         };
         run_apart(rt, workers, world, &mut self.staged, &mut self.berths)
+    }
+
+    /// Runs the systems as `execute` does, by the workers of a crew that stands by: it starts no thread and needs no leave to.
+    ///
+    /// The groups of a stage are dealt to so many workers, of whom the caller's thread is one; what a crew of fewer has not
+    /// begun by then, the caller's thread runs.
+    ///
+    /// Errors: as `execute_seq`; `Memory`, where there was no memory for what the groups are run with: no system ran, and
+    /// all is as it was.
+    pub fn execute_with<R: AllocGlobal + Wait>(
+        &mut self,
+        rt: &R,
+        workers: usize,
+        crew: &mut Crew<World<V>, Pack<V, S>>,
+        world: &mut World<V>,
+    ) -> Result<(), DispatchError>
+        ensures plan { self.new.planning ≡ self.old.planning }
+        ensures runs { RunsApart S.meets self.old (holding_of world.old) result self.new (holding_of world.new) }
+        ensures alone { workers < 2 → Runs S.meets self.old (holding_of world.old) result self.new
+            (holding_of world.new) }
+        ensures any_order { RunsInAnyOrder S.meets self.old (holding_of world.old) result self.new
+            (holding_of world.new) }
+
+        // The same ids have values as before.
+        ensures leaves { Leaves (holding_of world.old) (holding_of world.new) }
+        ensures threads { result ≢ Err Threads }
+    {
+        let workers = workers.min(self.planner.max_groups());
+        if workers < 2 {
+            return self.execute_seq(rt, world);
+        }
+        let stages = self.planner.stages();
+        let Ok(()) = make_ready(
+            rt.alloc(),
+            stages,
+            workers,
+            &mut self.cut_for,
+            &mut self.berths,
+        ) else {
+            return Err(DispatchError::Memory);
+        };
+        run_standing(rt, crew, world, &mut self.staged, &mut self.berths)
     }
 
     /// Runs the systems on the caller's thread as `execute_seq` does, and tells the first refusal in the order of the plan.

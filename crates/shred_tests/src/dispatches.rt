@@ -218,7 +218,7 @@ pub(crate) fn end_by(error: &DispatchError) -> End {
 }
 
 /// How a dispatch ends.
-fn end_of(outcome: Result<(), DispatchError>) -> End {
+pub(crate) fn end_of(outcome: Result<(), DispatchError>) -> End {
     match outcome {
         Ok(()) => End::Fine,
         Err(error) => end_by(&error),

@@ -16,11 +16,15 @@ pub mod chores;
 mod crews;
 #[cfg(test)]
 mod dispatches;
+#[cfg(test)]
+mod meetings;
 pub mod ones;
 #[cfg(test)]
 mod plans;
 #[cfg(test)]
 mod shared;
+#[cfg(test)]
+mod standing;
 #[cfg(test)]
 mod tables;
 #[cfg(test)]

@@ -45,7 +45,7 @@ const MISSING: Answer = Err(FetchError::Missing(Missing { id: NUMBER }));
 const BORROWED: Answer = Err(FetchError::Borrowed(InvalidBorrow));
 
 /// The calls in their order, with their answers.
-static CALLS: [(Call, Answer); 33] = [
+static CALLS: [(Call, Answer); 36] = [
     (Call::Has, Ok(None)),
     (Call::Fetch(Ask::Read), MISSING),
     (Call::Fetch(Ask::Write(4)), MISSING),
@@ -62,6 +62,9 @@ static CALLS: [(Call, Answer); 33] = [
     (Call::TryFetch(Ask::Write(7)), Ok(Some(6))),
     (Call::Fetch(Ask::Write(8)), Ok(Some(7))),
     (Call::Fetch(Ask::Read), Ok(Some(8))),
+    (Call::Insert(2), Ok(Some(1))),
+    (Call::Fetch(Ask::Read), Ok(Some(2))),
+    (Call::TryFetch(Ask::Write(8)), Ok(Some(2))),
     (Call::InsertUnder(3, 9), Ok(Some(1))),
     (Call::HasUnder(3), Ok(Some(1))),
     (Call::HasUnder(4), Ok(None)),

@@ -188,3 +188,41 @@ fn readers_that_meet<R: Threads + Wait + Sync>(rt: &R) -> u64 {
 fn readers_stand_together(rt: HostRuntime) {
     assert_eq!(rt; readers_that_meet(&rt), 2);
 }
+
+/// How often a thread reads.
+const READS: u64 = 50_000;
+
+/// Reads often, and counts how often it is refused.
+fn read_often(rt: &impl Wait, cell: &TrustCell<u64>, refused: &AtomicU64) {
+    for _ in 0..READS {
+        if cell.try_borrow(rt).is_err() {
+            refused.fetch_add(1, SeqCst);
+        }
+    }
+}
+
+/// How often readers of some threads are refused, beside whom nobody writes.
+fn refused_readers<R: Threads + Wait + Sync>(rt: &R, workers: u64) -> u64 {
+    let cell = TrustCell::new(1u64);
+    let count = AtomicU64::new(0);
+    let (shared, refused) = (&cell, &count);
+    thread::scope(thread::scope_env(), rt, |scope| {
+        for _ in 0..workers {
+            if scope
+                .spawn(move || read_often(rt, shared, refused))
+                .is_err()
+            {
+                read_often(rt, shared, refused);
+            }
+        }
+    });
+    count.load(SeqCst)
+}
+
+// A borrow that is refused where another thread moved the cell meanwhile, in place of trying again, is caught here.
+#[test]
+fn readers_of_threads_are_never_refused(rt: HostRuntime) {
+    for workers in [2, 4, 8] {
+        assert_eq!(rt; refused_readers(&rt, workers), 0, "{workers} threads");
+    }
+}
