@@ -70,8 +70,8 @@ pub trait Join {
         requires { IsSome (value_at values.now id) }
         ensures { value_at values.now id ≡ Some (show result) };
 
-    /// Whether every join of this type has an item at every index: true of `MaybeJoin`, and of tuples
-    /// of such joins alone. A walk over one goes through 16,777,216 indices.
+    /// Whether every join of this type has an item at every index: true of `MaybeJoin`, `()` and
+    /// tuples of these alone. A walk over one goes through 16,777,216 indices.
     fn is_unconstrained() -> bool
     where
         Self: Sized,

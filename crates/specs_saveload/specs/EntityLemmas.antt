@@ -1,4 +1,4 @@
--- What is saved of entities with one form is the same.
+-- What is saved of entities with one form is the same, and what is the same has one.
 use Rattle.std.proofs.Common.{◌≡◌, List, [], ◌∷◌, ◌++◌, refl, sym, ap, ◌∙◌}
 use Rattle.serde_json.specs.Data.{Data, null, array, Items}
 use Rattle.serde_json.specs.View.{items_of}
@@ -14,6 +14,9 @@ members-apart a b c d alike = (cc, cc)
 
 lists-apart : (ds es : Items) → array ds ≡ array es → ds ≡ es
 lists-apart ds es alike = cc
+
+pub entities-alike : (parts parts' : List Data) (marker marker' : Data) → parts ≡ parts' → marker ≡ marker' → entity_json (array (items_of parts)) marker ≡ entity_json (array (items_of parts')) marker'
+entities-alike parts parts' marker marker' same same' = cc
 
 pub entity-some : (components marker : Data) → entity_json components marker ≡ null → ⊥
 entity-some components marker is = cc

@@ -1,8 +1,17 @@
--- Parts with one form are the same.
-use Rattle.std.proofs.Common.{◌≡◌, List, ◌∷◌, ◌++◌, Option, Some, None, sym, ◌∙◌, append_assoc}
+-- Parts with one form are the same, and those that are the same have one.
+use Rattle.std.proofs.Common.{◌≡◌, List, [], ◌∷◌, ◌++◌, Option, Some, None, refl, ap, sym, ◌∙◌, append_assoc}
 use Rattle.serde_json.specs.Data.{Data, null}
 use Rattle.specs_saveload.specs.Plain.{same_option, OptionAll}
 use Rattle.specs_saveload.specs.Parts.{part_form}
+
+pub both-alike : (a b a' b' : List Data) → a ≡ a' → b ≡ b' → a ++ b ≡ a' ++ b'
+both-alike a b a' b' same same' = cc
+
+pub part-alike : {T : Type 0} (form : T → Data) (same : T → T → Type 0) → ((one other : T) → same one other → form one ≡ form other) → (one other : Option T) → same_option same one other → part_form form one ≡ part_form form other
+part-alike form same alike None None is = refl
+part-alike form same alike None (Some other) is = absurd is
+part-alike form same alike (Some one) None is = absurd is
+part-alike form same alike (Some one) (Some other) is = ap (λ d. d ∷ []) (alike one other is)
 
 heads : (one other : Data) (rest left : List Data) → one ∷ rest ≡ other ∷ left → (one ≡ other) × (rest ≡ left)
 heads one other rest left is = (cc, cc)

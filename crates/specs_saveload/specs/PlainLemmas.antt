@@ -1,8 +1,26 @@
--- Values with one form are the same.
-use Rattle.std.proofs.Common.{◌≡◌, ℕ, ℤ, pos, negsuc, Bool, List, Option, Some, None}
+-- Values with one form are the same, and those that are the same have one.
+use Rattle.std.proofs.Common.{◌≡◌, ℕ, ℤ, pos, negsuc, Bool, List, Option, Some, None, refl, ap}
 use Rattle.serde_json.specs.Data.{Num, unsigned, Data, null, boolean, number, string, array, Items, no_items, item}
 use Rattle.serde_json.specs.Find.{of_integer}
 use Rattle.specs_saveload.specs.Plain.{option_form, same_option, pair_form, triple_form, quadruple_form, OptionAll}
+
+pub forms-alike : {T : Type 0} (form : T → Data) (one other : T) → one ≡ other → form one ≡ form other
+forms-alike form one other same = ap form same
+
+pub pairs-alike : (a b a' b' : Data) → a ≡ a' → b ≡ b' → pair_form a b ≡ pair_form a' b'
+pairs-alike a b a' b' same same' = cc
+
+pub triples-alike : (a b c a' b' c' : Data) → a ≡ a' → b ≡ b' → c ≡ c' → triple_form a b c ≡ triple_form a' b' c'
+triples-alike a b c a' b' c' same same' same'' = cc
+
+pub quadruples-alike : (a b c d a' b' c' d' : Data) → a ≡ a' → b ≡ b' → c ≡ c' → d ≡ d' → quadruple_form a b c d ≡ quadruple_form a' b' c' d'
+quadruples-alike a b c d a' b' c' d' same same' same'' last = cc
+
+pub options-alike : {T : Type 0} (form : T → Data) (same : T → T → Type 0) → ((one other : T) → same one other → form one ≡ form other) → (one other : Option T) → same_option same one other → option_form form one ≡ option_form form other
+options-alike form same alike None None is = refl
+options-alike form same alike None (Some other) is = absurd is
+options-alike form same alike (Some one) None is = absurd is
+options-alike form same alike (Some one) (Some other) is = ap (λ d. array (item d no_items)) (alike one other is)
 
 pub numbers-apart : (one other : ℕ) → number (unsigned one) ≡ number (unsigned other) → one ≡ other
 numbers-apart one other alike = cc

@@ -7,7 +7,7 @@ use std::alloc::{AllocError, Global};
 /// The list of none, or of one. `null` is no form, so that an absent part can be told from a part that is none.
 impl<T: JsonForm> JsonForm for Option<T> {
     ghost use Rattle.specs_saveload.specs.Plain.{is_list, is_option, option_form, same_option, OptionAll};
-    ghost use Rattle.specs_saveload.specs.PlainLemmas.{options-apart, option-some};
+    ghost use Rattle.specs_saveload.specs.PlainLemmas.{options-apart, options-alike, option-some};
 
     ghost form = { option_form T.form };
 
@@ -36,6 +36,8 @@ impl<T: JsonForm> JsonForm for Option<T> {
 
     ghost told_apart = { options-apart T.form T.is_value T.same T.told_apart };
 
+    ghost has_one_form = { options-alike T.form T.same T.has_one_form };
+
     ghost never_null = { option-some T.form };
 }
 
@@ -43,7 +45,7 @@ impl<T: JsonForm> JsonForm for Option<T> {
 impl<A: JsonForm, B: JsonForm> JsonForm for (A, B) {
     ghost use Rattle.specs_saveload.specs.Plain.{is_list, is_pair, pair_form};
     ghost use Rattle.serde_json.specs.Data.{item, no_items};
-    ghost use Rattle.specs_saveload.specs.PlainLemmas.{pairs-apart, array-some};
+    ghost use Rattle.specs_saveload.specs.PlainLemmas.{pairs-apart, pairs-alike, array-some};
 
     ghost form = { λ both. pair_form (A.form both.0) (B.form both.1) };
 
@@ -72,6 +74,9 @@ impl<A: JsonForm, B: JsonForm> JsonForm for (A, B) {
 
     ghost told_apart = { pairs-apart A.form B.form A.is_value B.is_value A.same B.same A.told_apart B.told_apart };
 
+    ghost has_one_form = { λ one other same. pairs-alike _ _ _ _ (A.has_one_form one.0 other.0 same.0)
+        (B.has_one_form one.1 other.1 same.1) };
+
     ghost never_null = { λ both. array-some (item (A.form both.0) (item (B.form both.1) no_items)) };
 }
 
@@ -79,7 +84,7 @@ impl<A: JsonForm, B: JsonForm> JsonForm for (A, B) {
 impl<A: JsonForm, B: JsonForm, C: JsonForm> JsonForm for (A, B, C) {
     ghost use Rattle.specs_saveload.specs.Plain.{is_list, is_triple, triple_form};
     ghost use Rattle.serde_json.specs.Data.{item, no_items};
-    ghost use Rattle.specs_saveload.specs.PlainLemmas.{triples-apart, array-some};
+    ghost use Rattle.specs_saveload.specs.PlainLemmas.{triples-apart, triples-alike, array-some};
 
     ghost form = { λ all. triple_form (A.form all.0) (B.form all.1) (C.form all.2) };
 
@@ -111,6 +116,9 @@ impl<A: JsonForm, B: JsonForm, C: JsonForm> JsonForm for (A, B, C) {
     ghost told_apart = { triples-apart A.form B.form C.form A.is_value B.is_value C.is_value A.same B.same C.same
         A.told_apart B.told_apart C.told_apart };
 
+    ghost has_one_form = { λ one other same. triples-alike _ _ _ _ _ _ (A.has_one_form one.0 other.0 same.0)
+        (B.has_one_form one.1 other.1 same.1) (C.has_one_form one.2 other.2 same.2) };
+
     ghost never_null = { λ all. array-some
         (item (A.form all.0) (item (B.form all.1) (item (C.form all.2) no_items))) };
 }
@@ -119,7 +127,7 @@ impl<A: JsonForm, B: JsonForm, C: JsonForm> JsonForm for (A, B, C) {
 impl<A: JsonForm, B: JsonForm, C: JsonForm, D: JsonForm> JsonForm for (A, B, C, D) {
     ghost use Rattle.specs_saveload.specs.Plain.{is_list, is_quadruple, quadruple_form};
     ghost use Rattle.serde_json.specs.Data.{item, no_items};
-    ghost use Rattle.specs_saveload.specs.PlainLemmas.{quadruples-apart, array-some};
+    ghost use Rattle.specs_saveload.specs.PlainLemmas.{quadruples-apart, quadruples-alike, array-some};
 
     ghost form = { λ all. quadruple_form (A.form all.0) (B.form all.1) (C.form all.2) (D.form all.3) };
 
@@ -153,6 +161,10 @@ impl<A: JsonForm, B: JsonForm, C: JsonForm, D: JsonForm> JsonForm for (A, B, C, 
 
     ghost told_apart = { quadruples-apart A.form B.form C.form A.is_value B.is_value C.is_value A.same B.same C.same
         A.told_apart B.told_apart C.told_apart D.form D.is_value D.same D.told_apart };
+
+    ghost has_one_form = { λ one other same. quadruples-alike _ _ _ _ _ _ _ _
+        (A.has_one_form one.0 other.0 same.0) (B.has_one_form one.1 other.1 same.1)
+        (C.has_one_form one.2 other.2 same.2) (D.has_one_form one.3 other.3 same.3) };
 
     ghost never_null = { λ all. array-some
         (item (A.form all.0) (item (B.form all.1) (item (C.form all.2) (item (D.form all.3) no_items)))) };

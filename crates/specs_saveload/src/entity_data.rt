@@ -84,7 +84,7 @@ impl<M: JsonForm, D: PartForms> JsonForm for EntityData<M, D> {
     ghost use Rattle.serde_json.specs.View.{items_of};
     ghost use Rattle.specs_saveload.specs.Plain.{is_list};
     ghost use Rattle.specs_saveload.specs.Entities.{are_parts, entity_json, is_entity};
-    ghost use Rattle.specs_saveload.specs.EntityLemmas.{entities-apart, entity-some};
+    ghost use Rattle.specs_saveload.specs.EntityLemmas.{entities-apart, entities-alike, entity-some};
 
     ghost form = { λ saved. entity_json (array (items_of (D.forms saved.components))) (M.form saved.marker) };
 
@@ -111,6 +111,9 @@ impl<M: JsonForm, D: PartForms> JsonForm for EntityData<M, D> {
 
     ghost told_apart = { λ one other. entities-apart M.form D.forms M.is_value D.is_value M.same D.same
         M.told_apart D.told_apart one.marker other.marker one.components other.components };
+
+    ghost has_one_form = { λ one other same. entities-alike _ _ _ _
+        (D.has_one_form one.components other.components same.1) (M.has_one_form one.marker other.marker same.0) };
 
     ghost never_null = { λ saved. entity-some (array (items_of (D.forms saved.components))) (M.form saved.marker) };
 }

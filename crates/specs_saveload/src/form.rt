@@ -65,6 +65,9 @@ pub trait JsonForm: Drop + Sized {
     /// Values with one form are the same.
     ghost told_apart: { (one other : Self) → is_value one → is_value other → form one ≡ form other → same one other };
 
+    /// Values that are the same have one form.
+    ghost has_one_form: { (one other : Self) → same one other → form one ≡ form other };
+
     /// No form is `null`.
     ghost never_null: { (value : Self) → form value ≡ null → ⊥ };
 }

@@ -7,7 +7,7 @@ ghost use Rattle.specs_entity.specs.Births.{IsAlive};
 ghost use Rattle.specs_entity.specs.declared.ids.Entity.{Entity};
 ghost use Rattle.specs_saveload.specs.Images.{IsImage, MarkersDiffer, NamesOwn, NamesUnmarked};
 ghost use Rattle.specs_saveload.specs.Bearing.{IsAmong};
-ghost use Rattle.specs_saveload.specs.Saved.{saved};
+ghost use Rattle.specs_saveload.specs.Saved.{name_of, saved};
 ghost use Rattle.specs_entity.specs.declared.errors.Error.TheVariants as error;
 ghost use Rattle.specs_saveload.specs.declared.entity_data.EntityData.{EntityData};
 ghost use Rattle.specs_saveload.specs.Known.{bearer_in};
@@ -103,7 +103,7 @@ pub fn an_unmarked_refusal_names_one<M: SavedMarker, S: SerializeComponents<M>>(
     storages.serialize(alloc, entities, markers)
 }
 
-/// What is saved of one entity is the entry that the whole list has for it.
+/// What is saved of one entity, with its marker, is the entry that the whole list has for it.
 pub fn one_entity_is_saved_as_in_the_whole<M: SavedMarker, S: DeserializeComponents<M>>(
     storages: &S,
     alloc: Global,
@@ -111,7 +111,9 @@ pub fn one_entity_is_saved_as_in_the_whole<M: SavedMarker, S: DeserializeCompone
     entities: &EntitiesRes,
     markers: &MaskedStorage<M>,
 ) -> Result<Option<EntityData<M, S::Data>>, Error>
-    ensures { IfOk result (λ found. IfSome found (λ entry. (list : List (EntityData M S.Data))
+    ensures own { IfOk result (λ found. IfSome found (λ entry. name_of entities.now
+        (M.Storage.part_at markers.now.inner) entity ≡ Some entry.marker)) }
+    ensures whole { IfOk result (λ found. IfSome found (λ entry. (list : List (EntityData M S.Data))
         → saved S.plain (S.parts_at storages.now) entities.now (M.Storage.part_at markers.now.inner) ≡ Some list
         → IsAmong entry list)) }
 {

@@ -10,7 +10,7 @@ impl<T> JsonForm for SimpleMarker<T> {
     ghost use Rattle.std.specs.Prelude.{◌≡◌, ◌^◌};
     ghost use Rattle.serde_json.specs.Data.{number, unsigned};
     ghost use Rattle.specs_saveload.specs.Plain.{is_number, is_below};
-    ghost use Rattle.specs_saveload.specs.PlainLemmas.{numbers-apart, number-some};
+    ghost use Rattle.specs_saveload.specs.PlainLemmas.{forms-alike, numbers-apart, number-some};
 
     ghost form = { λ marker. number (unsigned marker) };
 
@@ -31,6 +31,8 @@ impl<T> JsonForm for SimpleMarker<T> {
 
     ghost told_apart = { λ one other _ _. numbers-apart one other };
 
+    ghost has_one_form = { λ one other same. forms-alike (λ marker. number (unsigned marker)) one other same };
+
     ghost never_null = { λ marker. number-some (unsigned marker) };
 }
 
@@ -41,7 +43,7 @@ impl<R> JsonForm for UuidMarker<R> {
     ghost use Rattle.uuid.specs.Text.{hyphenated_text, lower, parsed};
     ghost use Rattle.specs_saveload.specs.Uuids.{is_text_of, is_uuid_text};
     ghost use Rattle.specs_saveload.specs.UuidLemmas.{uuids-apart};
-    ghost use Rattle.specs_saveload.specs.PlainLemmas.{text-some};
+    ghost use Rattle.specs_saveload.specs.PlainLemmas.{forms-alike, text-some};
 
     ghost form = { λ marker. string (hyphenated_text lower marker) };
 
@@ -73,6 +75,9 @@ impl<R> JsonForm for UuidMarker<R> {
     }
 
     ghost told_apart = { uuids-apart };
+
+    ghost has_one_form = { λ one other same. forms-alike (λ marker. string (hyphenated_text lower marker)) one
+        other same };
 
     ghost never_null = { λ marker. text-some (hyphenated_text lower marker) };
 }

@@ -45,13 +45,16 @@ pub trait PartForms: Drop + Sized {
     /// Parts with one form are the same, whatever follows them.
     ghost told_apart: { (one other : Self) (rest left : List Data) → is_value one → is_value other
         → forms one ++ rest ≡ forms other ++ left → same one other × (rest ≡ left) };
+
+    /// Parts that are the same have one form.
+    ghost has_one_form: { (one other : Self) → same one other → forms one ≡ forms other };
 }
 
 /// The part's form, or `null`.
 impl<T: JsonForm> PartForms for Option<T> {
     ghost use Rattle.specs_saveload.specs.Plain.{same_option, OptionAll};
     ghost use Rattle.specs_saveload.specs.Parts.{part_form, part_rest};
-    ghost use Rattle.specs_saveload.specs.PartLemmas.{part-apart};
+    ghost use Rattle.specs_saveload.specs.PartLemmas.{part-apart, part-alike};
 
     ghost forms = { part_form T.form };
 
@@ -81,12 +84,14 @@ impl<T: JsonForm> PartForms for Option<T> {
     }
 
     ghost told_apart = { part-apart T.form T.is_value T.same T.told_apart T.never_null };
+
+    ghost has_one_form = { part-alike T.form T.same T.has_one_form };
 }
 
 /// First the one's, then the other's.
 impl<P: PartForms, Q: PartForms> PartForms for (P, Q) {
     ghost use Rattle.std.specs.Prelude.{◌++◌, option_and_then};
-    ghost use Rattle.specs_saveload.specs.PartLemmas.{both-apart};
+    ghost use Rattle.specs_saveload.specs.PartLemmas.{both-apart, both-alike};
 
     ghost forms = { λ both. P.forms both.0 ++ Q.forms both.1 };
 
@@ -108,12 +113,15 @@ impl<P: PartForms, Q: PartForms> PartForms for (P, Q) {
     }
 
     ghost told_apart = { both-apart P.forms Q.forms P.is_value Q.is_value P.same Q.same P.told_apart Q.told_apart };
+
+    ghost has_one_form = { λ one other same. both-alike _ _ _ _ (P.has_one_form one.0 other.0 same.0)
+        (Q.has_one_form one.1 other.1 same.1) };
 }
 
 /// First the first one's, then the second one's, then the third one's.
 impl<P: PartForms, Q: PartForms, R: PartForms> PartForms for (P, Q, R) {
     ghost use Rattle.std.specs.Prelude.{◌++◌, option_and_then};
-    ghost use Rattle.specs_saveload.specs.PartLemmas.{three-apart};
+    ghost use Rattle.specs_saveload.specs.PartLemmas.{three-apart, both-alike};
 
     ghost forms = { λ all. P.forms all.0 ++ (Q.forms all.1 ++ R.forms all.2) };
 
@@ -138,4 +146,7 @@ impl<P: PartForms, Q: PartForms, R: PartForms> PartForms for (P, Q, R) {
 
     ghost told_apart = { three-apart P.forms Q.forms R.forms P.is_value Q.is_value R.is_value P.same Q.same R.same
         P.told_apart Q.told_apart R.told_apart };
+
+    ghost has_one_form = { λ one other same. both-alike _ _ _ _ (P.has_one_form one.0 other.0 same.0)
+        (both-alike _ _ _ _ (Q.has_one_form one.1 other.1 same.1) (R.has_one_form one.2 other.2 same.2)) };
 }

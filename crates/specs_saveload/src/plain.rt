@@ -23,7 +23,7 @@ impl JsonForm for u8 {
     ghost use Rattle.std.specs.Prelude.{◌^◌};
     ghost use Rattle.serde_json.specs.Data.{number, unsigned};
     ghost use Rattle.specs_saveload.specs.Plain.{is_number, is_below};
-    ghost use Rattle.specs_saveload.specs.PlainLemmas.{numbers-apart, number-some};
+    ghost use Rattle.specs_saveload.specs.PlainLemmas.{forms-alike, numbers-apart, number-some};
 
     ghost form = { λ n. number (unsigned n) };
 
@@ -44,6 +44,8 @@ impl JsonForm for u8 {
 
     ghost told_apart = { λ one other _ _. numbers-apart one other };
 
+    ghost has_one_form = { λ one other same. forms-alike (λ n. number (unsigned n)) one other same };
+
     ghost never_null = { λ n. number-some (unsigned n) };
 }
 
@@ -51,7 +53,7 @@ impl JsonForm for u16 {
     ghost use Rattle.std.specs.Prelude.{◌^◌};
     ghost use Rattle.serde_json.specs.Data.{number, unsigned};
     ghost use Rattle.specs_saveload.specs.Plain.{is_number, is_below};
-    ghost use Rattle.specs_saveload.specs.PlainLemmas.{numbers-apart, number-some};
+    ghost use Rattle.specs_saveload.specs.PlainLemmas.{forms-alike, numbers-apart, number-some};
 
     ghost form = { λ n. number (unsigned n) };
 
@@ -72,6 +74,8 @@ impl JsonForm for u16 {
 
     ghost told_apart = { λ one other _ _. numbers-apart one other };
 
+    ghost has_one_form = { λ one other same. forms-alike (λ n. number (unsigned n)) one other same };
+
     ghost never_null = { λ n. number-some (unsigned n) };
 }
 
@@ -79,7 +83,7 @@ impl JsonForm for u32 {
     ghost use Rattle.std.specs.Prelude.{◌^◌};
     ghost use Rattle.serde_json.specs.Data.{number, unsigned};
     ghost use Rattle.specs_saveload.specs.Plain.{is_number, is_below};
-    ghost use Rattle.specs_saveload.specs.PlainLemmas.{numbers-apart, number-some};
+    ghost use Rattle.specs_saveload.specs.PlainLemmas.{forms-alike, numbers-apart, number-some};
 
     ghost form = { λ n. number (unsigned n) };
 
@@ -100,6 +104,8 @@ impl JsonForm for u32 {
 
     ghost told_apart = { λ one other _ _. numbers-apart one other };
 
+    ghost has_one_form = { λ one other same. forms-alike (λ n. number (unsigned n)) one other same };
+
     ghost never_null = { λ n. number-some (unsigned n) };
 }
 
@@ -107,7 +113,7 @@ impl JsonForm for u64 {
     ghost use Rattle.std.specs.Prelude.{◌^◌};
     ghost use Rattle.serde_json.specs.Data.{number, unsigned};
     ghost use Rattle.specs_saveload.specs.Plain.{is_number, is_below};
-    ghost use Rattle.specs_saveload.specs.PlainLemmas.{numbers-apart, number-some};
+    ghost use Rattle.specs_saveload.specs.PlainLemmas.{forms-alike, numbers-apart, number-some};
 
     ghost form = { λ n. number (unsigned n) };
 
@@ -128,6 +134,8 @@ impl JsonForm for u64 {
 
     ghost told_apart = { λ one other _ _. numbers-apart one other };
 
+    ghost has_one_form = { λ one other same. forms-alike (λ n. number (unsigned n)) one other same };
+
     ghost never_null = { λ n. number-some (unsigned n) };
 }
 
@@ -135,7 +143,7 @@ impl JsonForm for usize {
     ghost use Rattle.std.specs.Prelude.{◌^◌};
     ghost use Rattle.serde_json.specs.Data.{number, unsigned};
     ghost use Rattle.specs_saveload.specs.Plain.{is_number, is_below};
-    ghost use Rattle.specs_saveload.specs.PlainLemmas.{numbers-apart, number-some};
+    ghost use Rattle.specs_saveload.specs.PlainLemmas.{forms-alike, numbers-apart, number-some};
 
     ghost form = { λ n. number (unsigned n) };
 
@@ -156,6 +164,8 @@ impl JsonForm for usize {
 
     ghost told_apart = { λ one other _ _. numbers-apart one other };
 
+    ghost has_one_form = { λ one other same. forms-alike (λ n. number (unsigned n)) one other same };
+
     ghost never_null = { λ n. number-some (unsigned n) };
 }
 
@@ -164,7 +174,7 @@ impl JsonForm for i8 {
     ghost use Rattle.serde_json.specs.Data.{number};
     ghost use Rattle.serde_json.specs.Find.{of_integer};
     ghost use Rattle.specs_saveload.specs.Plain.{is_number, is_between};
-    ghost use Rattle.specs_saveload.specs.PlainLemmas.{integers-apart, number-some};
+    ghost use Rattle.specs_saveload.specs.PlainLemmas.{forms-alike, integers-apart, number-some};
 
     ghost form = { λ n. number (of_integer n) };
 
@@ -188,6 +198,8 @@ impl JsonForm for i8 {
 
     ghost told_apart = { λ one other _ _. integers-apart one other };
 
+    ghost has_one_form = { λ one other same. forms-alike (λ n. number (of_integer n)) one other same };
+
     ghost never_null = { λ n. number-some (of_integer n) };
 }
 
@@ -196,7 +208,7 @@ impl JsonForm for i16 {
     ghost use Rattle.serde_json.specs.Data.{number};
     ghost use Rattle.serde_json.specs.Find.{of_integer};
     ghost use Rattle.specs_saveload.specs.Plain.{is_number, is_between};
-    ghost use Rattle.specs_saveload.specs.PlainLemmas.{integers-apart, number-some};
+    ghost use Rattle.specs_saveload.specs.PlainLemmas.{forms-alike, integers-apart, number-some};
 
     ghost form = { λ n. number (of_integer n) };
 
@@ -220,6 +232,8 @@ impl JsonForm for i16 {
 
     ghost told_apart = { λ one other _ _. integers-apart one other };
 
+    ghost has_one_form = { λ one other same. forms-alike (λ n. number (of_integer n)) one other same };
+
     ghost never_null = { λ n. number-some (of_integer n) };
 }
 
@@ -228,7 +242,7 @@ impl JsonForm for i32 {
     ghost use Rattle.serde_json.specs.Data.{number};
     ghost use Rattle.serde_json.specs.Find.{of_integer};
     ghost use Rattle.specs_saveload.specs.Plain.{is_number, is_between};
-    ghost use Rattle.specs_saveload.specs.PlainLemmas.{integers-apart, number-some};
+    ghost use Rattle.specs_saveload.specs.PlainLemmas.{forms-alike, integers-apart, number-some};
 
     ghost form = { λ n. number (of_integer n) };
 
@@ -252,6 +266,8 @@ impl JsonForm for i32 {
 
     ghost told_apart = { λ one other _ _. integers-apart one other };
 
+    ghost has_one_form = { λ one other same. forms-alike (λ n. number (of_integer n)) one other same };
+
     ghost never_null = { λ n. number-some (of_integer n) };
 }
 
@@ -260,7 +276,7 @@ impl JsonForm for i64 {
     ghost use Rattle.serde_json.specs.Data.{number};
     ghost use Rattle.serde_json.specs.Find.{of_integer};
     ghost use Rattle.specs_saveload.specs.Plain.{is_number, is_between};
-    ghost use Rattle.specs_saveload.specs.PlainLemmas.{integers-apart, number-some};
+    ghost use Rattle.specs_saveload.specs.PlainLemmas.{forms-alike, integers-apart, number-some};
 
     ghost form = { λ n. number (of_integer n) };
 
@@ -284,6 +300,8 @@ impl JsonForm for i64 {
 
     ghost told_apart = { λ one other _ _. integers-apart one other };
 
+    ghost has_one_form = { λ one other same. forms-alike (λ n. number (of_integer n)) one other same };
+
     ghost never_null = { λ n. number-some (of_integer n) };
 }
 
@@ -292,7 +310,7 @@ impl JsonForm for isize {
     ghost use Rattle.serde_json.specs.Data.{number};
     ghost use Rattle.serde_json.specs.Find.{of_integer};
     ghost use Rattle.specs_saveload.specs.Plain.{is_number, is_between};
-    ghost use Rattle.specs_saveload.specs.PlainLemmas.{integers-apart, number-some};
+    ghost use Rattle.specs_saveload.specs.PlainLemmas.{forms-alike, integers-apart, number-some};
 
     ghost form = { λ n. number (of_integer n) };
 
@@ -316,11 +334,13 @@ impl JsonForm for isize {
 
     ghost told_apart = { λ one other _ _. integers-apart one other };
 
+    ghost has_one_form = { λ one other same. forms-alike (λ n. number (of_integer n)) one other same };
+
     ghost never_null = { λ n. number-some (of_integer n) };
 }
 
 impl JsonForm for bool {
-    ghost use Rattle.specs_saveload.specs.PlainLemmas.{booleans-apart, boolean-some};
+    ghost use Rattle.specs_saveload.specs.PlainLemmas.{forms-alike, booleans-apart, boolean-some};
     ghost use Rattle.serde_json.specs.Data.{boolean};
     ghost use Rattle.specs_saveload.specs.Plain.{is_boolean};
 
@@ -340,11 +360,13 @@ impl JsonForm for bool {
 
     ghost told_apart = { λ one other _ _. booleans-apart one other };
 
+    ghost has_one_form = { λ one other same. forms-alike boolean one other same };
+
     ghost never_null = { boolean-some };
 }
 
 impl JsonForm for String {
-    ghost use Rattle.specs_saveload.specs.PlainLemmas.{texts-apart, text-some};
+    ghost use Rattle.specs_saveload.specs.PlainLemmas.{forms-alike, texts-apart, text-some};
     ghost use Rattle.std.specs.Prelude.{string_bytes};
     ghost use Rattle.serde_json.specs.Data.{string};
     ghost use Rattle.specs_saveload.specs.Plain.{is_text};
@@ -367,6 +389,8 @@ impl JsonForm for String {
     }
 
     ghost told_apart = { λ one other _ _. texts-apart (string_bytes one) (string_bytes other) };
+
+    ghost has_one_form = { λ one other same. forms-alike string (string_bytes one) (string_bytes other) same };
 
     ghost never_null = { λ text. text-some (string_bytes text) };
 }

@@ -1,12 +1,15 @@
 -- What a storage ends as, where a part of it, or the place of one, was lent.
 use mir.Syntax.{named}
-use Rattle.std.specs.Prelude.{◌≡◌, ℕ, [], Some, is_some, if◌then◌else◌, Result}
+use Rattle.std.specs.Prelude.{◌≡◌, ℕ, Bool, Option, [], Some, is_some, if◌then◌else◌, Result}
 use Rattle.std.specs.Borrow.{Fml, RattleType, MutBor, LendsIfOk, LendsSoOk, RestsIfErr, follows_if, name_if_ok}
 use Rattle.specs_layouts.specs.Masked.{Masked}
 use Rattle.specs_layouts.specs.MaskedLends.{StorageMembers, layout_ghosts, default_ghosts, masked_row}
 use Rattle.specs_layouts.specs.declared.unprotected.UnprotectedStorage as unprotected
 use Rattle.specs_layouts.specs.declared.unprotected.TryDefault as try_default
+use Rattle.specs_entity.specs.Births.{Births}
 use Rattle.specs_layouts.specs.Parts.{Puts, SameParts, told}
+use Rattle.specs_layouts.specs.Channels.{Log}
+use Rattle.specs_layouts.specs.declared.track.ComponentEvent.{ComponentEvent}
 use Rattle.specs_layouts.specs.declared.track.ComponentEvent.TheVariants as event
 use Rattle.specs_storage.specs.declared.storage.Storage.{Storage}
 use Rattle.specs_storage.specs.declared.entry.OccupiedEntry.{OccupiedEntry}
@@ -68,6 +71,10 @@ pub record StaysAt {T S : Type 0} {g : unprotected.Ghosts S T} {d : try_default.
 abbrev pub lends_there : (T S : RattleType) {g : unprotected.Ghosts S.Denot T.Denot} {d : try_default.Ghosts S.Denot} → MutBor (OccupiedEntry T.Denot S.Denot g d) → {E : Type 0} → Result (MutBor T.Denot) E → Fml
 lends_there T S {g} {d} m r = LendsSoOk (occupied.the_row (record { mir = named 1; lft = [] }) T S g d) T m r (λ after part. WritesAt m.now part after) (StaysAt m.now)
 
+-- the events after the part at an index was lent, which was put first where none was there
+abbrev pub told_settled : {T : Type 0} → Bool → Log ComponentEvent → Option T → ℕ → Log ComponentEvent
+told_settled emits events part index = told emits (if is_some part then events else told emits events (event.Inserted index)) (event.Modified index)
+
 module _ {S T : Type 0} (g : StorageMembers S T) (before : Masked S) (index : ℕ) where
   -- a part was put at an index that had none, and then lent
   pub record IsFilled (part : T) (after : Masked S) : Type 0 where
@@ -78,7 +85,7 @@ module _ {S T : Type 0} (g : StorageMembers S T) (before : Masked S) (index : �
   -- an index has the part that was lent last, which was put first where none was there
   pub record IsSettled (part : T) (after : Masked S) : Type 0 where
     pub parts : Puts (g.part_at before.inner) index (Some part) (g.part_at after.inner)
-    pub events : g.events after.inner ≡ told (g.emits before.inner) (if is_some (g.part_at before.inner index) then g.events before.inner else told (g.emits before.inner) (g.events before.inner) (event.Inserted index)) (event.Modified index)
+    pub events : g.events after.inner ≡ told_settled (g.emits before.inner) (g.events before.inner) (g.part_at before.inner index) index
     pub emission : g.emits after.inner ≡ g.emits before.inner
 
 -- the storage has the last part that was written, and where none was lent each index has what it had
@@ -88,3 +95,18 @@ lends_put T S g m index r = LendsSoOk (masked_row T S g) T m r (λ after part. I
 -- the same of a storage that may have a part there
 abbrev pub lends_or : (T S : RattleType) → StorageMembers S.Denot T.Denot → MutBor (Masked S.Denot) → ℕ → {E : Type 0} → Result (MutBor T.Denot) E → Fml
 lends_or T S g m index r = LendsSoOk (masked_row T S g) T m r (λ after part. IsSettled g m.now index part after) (IsLeft g m.now)
+
+module _ {S T : Type 0} (births : S → Births) (parts : S → ℕ → Option T) (emits : S → Bool) (events : S → Log ComponentEvent) (before : S) where
+  -- an index of a storage, of which these are told, has the part that was lent last, which was put first where none was there
+  pub record SettlesAt (index : ℕ) (part : T) (after : S) : Type 0 where
+    pub parts_after : Puts (parts before) index (Some part) (parts after)
+    pub births_after : births after ≡ births before
+    pub emits_after : emits after ≡ emits before
+    pub events_after : events after ≡ told_settled (emits before) (events before) (parts before index) index
+
+  -- each index has what it had, and nothing was told
+  pub record IsLeftAs (after : S) : Type 0 where
+    pub parts_after : SameParts (parts before) (parts after)
+    pub births_after : births after ≡ births before
+    pub emits_after : emits after ≡ emits before
+    pub events_after : events after ≡ events before

@@ -39,6 +39,11 @@ pub trait BuildWith: Sized {
         ensures succeeds { IsAlive (births self) (entity self)
             → IsSome (T.Storage.part_at storage.old.inner (entity self).id)
             → T.Storage.emits storage.old.inner ≡ false → IsOk result }
+
+        // One event tells of it, and a refusal writes none.
+        ensures events { OnOk result (T.Storage.events storage.new.inner
+            ≡ told_put T.Storage.part_at T.Storage.emits T.Storage.events storage.old (entity self).id) }
+        ensures silent { OnErr result (T.Storage.events storage.new.inner ≡ T.Storage.events storage.old.inner) }
         ensures emission { T.Storage.emits storage.new.inner ≡ T.Storage.emits storage.old.inner };
 }
 

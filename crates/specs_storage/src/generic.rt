@@ -1,11 +1,14 @@
 //! Storages behind a trait, for callers that take any.
-ghost use Rattle.std.specs.Prelude.{◌≡◌, ◌↔◌, ◌<◌, ℕ, Bool, false, IsOk, Option, Some, None, IsSome, option_copied};
-ghost use Rattle.std.specs.Prelude.{IfOk, IfErr, IsErrOf, OnOk, OnErr};
+ghost use Rattle.std.specs.Prelude.{◌≡◌, ◌↔◌, ◌<◌, ℕ, Bool, false, IsOk, Option, Some, None, IsSome, is_some, option_copied};
+ghost use Rattle.std.specs.Prelude.{IfOk, IfErr, IsErrOf, OnOk, OnErr, if◌then◌else◌};
 ghost use Rattle.std.specs.Borrow.{sem, LendsIfOk, LendsSoOk};
 ghost use Rattle.std.specs.Option.{UnwrapsOrElse};
-ghost use Rattle.specs_layouts.specs.Parts.{Puts, SameParts};
+ghost use Rattle.specs_layouts.specs.Channels.{Log};
+ghost use Rattle.specs_layouts.specs.Parts.{Puts, SameParts, told};
+ghost use Rattle.specs_layouts.specs.declared.track.ComponentEvent.{ComponentEvent};
+ghost use Rattle.specs_layouts.specs.declared.track.ComponentEvent.TheVariants as event;
 ghost use Rattle.specs_entity.specs.Births.{Births, IsAlive};
-ghost use Rattle.specs_storage.specs.EntryLends.{lends_or};
+ghost use Rattle.specs_storage.specs.EntryLends.{lends_or, SettlesAt, IsLeftAs};
 ghost use Rattle.specs_storage.specs.Found.{Finds, HasPart, RefusesInsert};
 ghost use Rattle.specs_storage.specs.declared.storage.LendError.TheVariants as lending;
 
@@ -53,6 +56,9 @@ pub trait GenericWriteStorage: GenericReadStorage {
     /// Whether a change writes an event, for which memory may be wanting.
     ghost emits: { Self → Bool };
 
+    /// The events held, the oldest first, and how many of them each reader has read.
+    ghost events: { Self → Log ComponentEvent };
+
     /// The part of an entity for writing.
     ///
     /// Errors: those of `Storage::get_mut`.
@@ -72,10 +78,8 @@ pub trait GenericWriteStorage: GenericReadStorage {
     where
         Self::Component: Default,
         ensures* writes_back { sem 𝓛 (LendsSoOk Self.row Self.Component.row self.entry result
-            (λ after part. Puts (Self.parts self.old) entity.id (Some part) (Self.parts after)
-            × (Self.births after ≡ Self.births self.old))
-            (λ after. SameParts (Self.parts self.old) (Self.parts after)
-            × (Self.births after ≡ Self.births self.old))) }
+            (λ after part. SettlesAt Self.births Self.parts emits events self.old entity.id part after)
+            (IsLeftAs Self.births Self.parts emits events self.old)) }
         ensures value { IfOk result (λ part. UnwrapsOrElse
             (Self.parts self.old entity.id) Self.Component.is_default part.now) }
         ensures absent { IsErrOf result lending.Absent ↔ ¬ (IsAlive (Self.births self.old) entity) }
@@ -95,6 +99,11 @@ pub trait GenericWriteStorage: GenericReadStorage {
         ensures succeeds { HasPart (Self.births self.old) (Self.parts self.old) entity → emits self.old ≡ false
             → IsOk result }
         ensures births { Self.births self.new ≡ Self.births self.old }
+
+        // One event tells of it, and a refusal writes none.
+        ensures events { IfOk result (λ old. events self.new ≡ told (emits self.old) (events self.old)
+            (if is_some old then event.Modified entity.id else event.Inserted entity.id)) }
+        ensures silent { OnErr result (events self.new ≡ events self.old) }
         ensures emission { emits self.new ≡ emits self.old };
 
     /// Takes out the part of an entity, or answers none where the entity isn't alive or has none.
@@ -109,6 +118,11 @@ pub trait GenericWriteStorage: GenericReadStorage {
         ensures err { OnErr result (SameParts (Self.parts self.old) (Self.parts self.new)) }
         ensures succeeds { emits self.old ≡ false → IsOk result }
         ensures births { Self.births self.new ≡ Self.births self.old }
+
+        // One event tells of a part that was taken out, and a refusal writes none.
+        ensures events { IfOk result (λ part. events self.new ≡ (if is_some part
+            then told (emits self.old) (events self.old) (event.Removed entity.id) else events self.old)) }
+        ensures silent { OnErr result (events self.new ≡ events self.old) }
         ensures emission { emits self.new ≡ emits self.old };
 
     /// What was written is there, and no other part changed.
@@ -118,6 +132,10 @@ pub trait GenericWriteStorage: GenericReadStorage {
     /// Writing leaves the entities.
     ghost written_leaves: { (s : Self) (index : ℕ) (part : Self.Component)
         → Self.births (written s index part) ≡ Self.births s };
+
+    /// Writing is told.
+    ghost written_tells: { (s : Self) (index : ℕ) (part : Self.Component)
+        → events (written s index part) ≡ told (emits s) (events s) (event.Modified index) };
 
     /// Writing leaves the emission.
     ghost written_emits: { (s : Self) (index : ℕ) (part : Self.Component) → emits (written s index part) ≡ emits s };
@@ -130,6 +148,8 @@ impl<'e, T: Component> GenericWriteStorage for Storage<'e, T, &'e mut MaskedStor
     ghost written = { with_part T.Storage.written };
 
     ghost emits = { λ s. T.Storage.emits s.store.now.inner };
+
+    ghost events = { λ s. T.Storage.events s.store.now.inner };
 
     fn get_mut(&mut self, entity: Entity) -> Result<&mut T, LendError> {
         Storage::get_mut(self, entity)
@@ -156,6 +176,8 @@ impl<'e, T: Component> GenericWriteStorage for Storage<'e, T, &'e mut MaskedStor
     ghost written_puts = { λ s index part there. T.Storage.written_puts s.store.now.inner index part there };
 
     ghost written_leaves = { λ s index part. refl };
+
+    ghost written_tells = { λ s index part. T.Storage.written_tells s.store.now.inner index part };
 
     ghost written_emits = { λ s index part. T.Storage.written_emits s.store.now.inner index part };
 }
