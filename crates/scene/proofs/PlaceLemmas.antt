@@ -1,10 +1,9 @@
 -- The places of a document's systems ascend, and each system of a frame stands at one of them.
-use Rattle.std.proofs.Common.{◌≡◌, ◌<◌, ℕ, zero, suc, Bool, true, false, cond, eqb, ◌||◌, List, [], ◌∷◌, ◌++◌, map, Option, Some, None, refl, ap, sym, ◌∙◌, subst, arith, All, AllPairs}
-use Rattle.std.specs.List.{filter_map, find, cons_option}
+use Rattle.std.proofs.Common.{◌≡◌, ◌<◌, ℕ, zero, suc, Bool, true, false, not, cond, eqb, ◌||◌, List, [], ◌∷◌, ◌++◌, map, Option, Some, None, refl, ap, sym, ◌∙◌, subst, arith, All, AllPairs}
+use Rattle.std.specs.List.{filter_map, cons_option}
 use Rattle.std.specs.Prelude.{slice_get, option_map}
 use Rattle.std.specs.Global.{Vec}
 use Rattle.std.proofs.lemmas.Bool.{eq-eqb, or_right}
-use Rattle.std.proofs.lemmas.Option.{none-some, same_Some}
 use Rattle.std.proofs.lemmas.List.Elements.{All-nil, All-cons, All-head, All-tail, All-append, All-weaker}
 use Rattle.std.proofs.lemmas.List.Kept.{AllPairs-cons}
 use Rattle.scene_model.specs.declared.command.Command.{Command}
@@ -21,7 +20,8 @@ use Rattle.scene_document.specs.DraftViews.{plain_draft, plain_system, plain_lis
 use Rattle.scene_document.specs.Loading.{commands_at}
 use Rattle.scene_document.proofs.CallerLemmas.{commands-plain, lists-lawful}
 use Rattle.scene_document.specs.Drafts.{Draft, DraftEntry, DraftSystem, barrier, system}
-use Rattle.scene_document.specs.Openings.{with_facts, systems_at, all_systems, local_systems, staged_systems, frames_of, staged, same_resource, command_of, commands_in, commands_for}
+use Rattle.scene_document.specs.Openings.{with_facts, systems_at, staged_list, all_systems, local_systems, staged_systems, frames_of, staged, same_resource, command_of, commands_in, commands_for}
+use Rattle.scene_dispatch.proofs.CallerLemmas.{all-at}
 use Rattle.shred_plan.specs.Plan.{order}
 
 -- the places of systems
@@ -48,15 +48,7 @@ ascend-entries place (system one ∷ entries) = by one.facts (ascend-entries (su
     by None later above = later
     by (Some facts) later above = AllPairs-cons (λ first other. first < other) place (places_of (systems_at (λ other. true) (suc place) entries)) above later
 
--- one that is found stands at a place of those
-found-there : (test : PlainSystem → Bool) (systems : List PlainSystem) (one : PlainSystem) → find test systems ≡ Some one → lives one.position (places_of systems) ≡ true
-found-there test [] one is = absurd (none-some one is)
-found-there test (first ∷ systems) one is = by (test first) is (found-there test systems one)
-  where
-    by : (b : Bool) → cond b (Some first) (find test systems) ≡ Some one → (find test systems ≡ Some one → lives one.position (places_of systems) ≡ true) → (eqb first.position one.position || lives one.position (places_of systems)) ≡ true
-    by true found later = ap (λ b. b || lives one.position (places_of systems)) (eq-eqb first.position one.position (ap (λ s. s.position) (same_Some first one found)))
-    by false found later = or_right (eqb first.position one.position) (lives one.position (places_of systems)) (later found)
-
+-- what holds of each that is found holds of all that are
 all-found : {X Y : Type 0} (P : Y → Type 0) (f : X → Option Y) → ((x : X) (y : Y) → f x ≡ Some y → P y) → (xs : List X) → All P (filter_map f xs)
 all-found {X} {Y} P f gives [] = All-nil P
 all-found {X} {Y} P f gives (x ∷ xs) = by (f x) refl (all-found P f gives xs)
@@ -65,25 +57,25 @@ all-found {X} {Y} P f gives (x ∷ xs) = by (f x) refl (all-found P f gives xs)
     by None is later = subst (All P) (sym (ap (λ o. cons_option o (filter_map f xs)) is)) later
     by (Some y) is later = subst (All P) (sym (ap (λ o. cons_option o (filter_map f xs)) is)) (All-cons P y (filter_map f xs) (gives x y is) later)
 
--- the local systems are some of all
-locals-there : (place : ℕ) (entries : List DraftEntry) → All (λ one. lives one.position (places_of (systems_at (λ other. true) place entries)) ≡ true) (systems_at (λ other. other.local) place entries)
-locals-there place [] = All-nil (λ one. lives one.position [] ≡ true)
-locals-there place (barrier ∷ entries) = locals-there (suc place) entries
-locals-there place (system one ∷ entries) = by one.local one.facts (locals-there (suc place) entries)
+-- the systems that pass a test are some of all
+some-there : (test : DraftSystem → Bool) (place : ℕ) (entries : List DraftEntry) → All (λ one. lives one.position (places_of (systems_at (λ other. true) place entries)) ≡ true) (systems_at test place entries)
+some-there test place [] = All-nil (λ one. lives one.position [] ≡ true)
+some-there test place (barrier ∷ entries) = some-there test (suc place) entries
+some-there test place (system one ∷ entries) = by (test one) one.facts (some-there test (suc place) entries)
   where
     rest : List PlainSystem
     rest = systems_at (λ other. true) (suc place) entries
 
-    more : (facts : Option Facts) → All (λ other. lives other.position (places_of rest) ≡ true) (systems_at (λ other. other.local) (suc place) entries)
-        → All (λ other. lives other.position (places_of (with_facts place one facts ++ rest)) ≡ true) (systems_at (λ other. other.local) (suc place) entries)
+    more : (facts : Option Facts) → All (λ other. lives other.position (places_of rest) ≡ true) (systems_at test (suc place) entries)
+        → All (λ other. lives other.position (places_of (with_facts place one facts ++ rest)) ≡ true) (systems_at test (suc place) entries)
     more None later = later
-    more (Some facts) later = All-weaker (λ other. lives other.position (places_of rest) ≡ true) (λ other. lives other.position (place ∷ places_of rest) ≡ true) (λ other is. or_right (eqb place other.position) (lives other.position (places_of rest)) is) (systems_at (λ other. other.local) (suc place) entries) later
+    more (Some facts) later = All-weaker (λ other. lives other.position (places_of rest) ≡ true) (λ other. lives other.position (place ∷ places_of rest) ≡ true) (λ other is. or_right (eqb place other.position) (lives other.position (places_of rest)) is) (systems_at test (suc place) entries) later
 
-    by : (b : Bool) (facts : Option Facts) → All (λ other. lives other.position (places_of rest) ≡ true) (systems_at (λ other. other.local) (suc place) entries)
-        → All (λ other. lives other.position (places_of (with_facts place one facts ++ rest)) ≡ true) (cond b (with_facts place one facts) [] ++ systems_at (λ other. other.local) (suc place) entries)
+    by : (b : Bool) (facts : Option Facts) → All (λ other. lives other.position (places_of rest) ≡ true) (systems_at test (suc place) entries)
+        → All (λ other. lives other.position (places_of (with_facts place one facts ++ rest)) ≡ true) (cond b (with_facts place one facts) [] ++ systems_at test (suc place) entries)
     by false facts later = more facts later
     by true None later = later
-    by true (Some facts) later = All-cons (λ other. lives other.position (place ∷ places_of rest) ≡ true) (record { position = place; kind = one.kind; config = one.config; access = facts.access }) (systems_at (λ other. other.local) (suc place) entries)
+    by true (Some facts) later = All-cons (λ other. lives other.position (place ∷ places_of rest) ≡ true) (record { position = place; kind = one.kind; config = one.config; access = facts.access }) (systems_at test (suc place) entries)
         (ap (λ b. b || lives place (places_of rest)) (eq-eqb place place refl)) (more (Some facts) later)
 
 -- so it is with the systems of each frame
@@ -93,17 +85,9 @@ places-ascend draft = ascend-entries 1 draft.entries
 pub order-there : (draft : Draft) (frame : ℕ) → All (λ one. lives one.position (places_of (all_systems draft)) ≡ true) (frames_of draft frame).order
 order-there draft frame =
     All-append (λ one. lives one.position (places_of (all_systems draft)) ≡ true) (staged_systems draft) (local_systems draft)
-    (all-found (λ one. lives one.position (places_of (all_systems draft)) ≡ true) (λ place. find (λ one. eqb one.position place) (all_systems draft)) (λ place one is. found-there (λ other. eqb other.position place) (all_systems draft) one is) (order same_resource (staged draft.entries 1 draft.entries)))
-    (locals-there 1 draft.entries)
-
--- what holds of all holds of one that is found
-found-holds : (P : PlainSystem → Type 0) (test : PlainSystem → Bool) (systems : List PlainSystem) (one : PlainSystem) → All P systems → find test systems ≡ Some one → P one
-found-holds P test [] one all is = absurd (none-some one is)
-found-holds P test (first ∷ systems) one all is = by (test first) is (found-holds P test systems one (All-tail P first systems all))
-  where
-    by : (b : Bool) → cond b (Some first) (find test systems) ≡ Some one → (find test systems ≡ Some one → P one) → P one
-    by true found later = subst P (same_Some first one found) (All-head P first systems all)
-    by false found later = later found
+    (all-found (λ one. lives one.position (places_of (all_systems draft)) ≡ true) (λ number. slice_get (staged_list 1 draft.entries) number)
+    (all-at (λ one. lives one.position (places_of (all_systems draft)) ≡ true) (staged_list 1 draft.entries) (some-there (λ one. not one.local) 1 draft.entries)) (order same_resource (staged draft.entries 0 draft.entries)))
+    (some-there (λ one. one.local) 1 draft.entries)
 
 -- the systems of entries that the rules made are ones that they describe
 described-entries : {S : Type 0} (kind_of : S → Name) (config_of : S → Json) (book : Book) (test : DraftSystem → Bool) (place : ℕ) (entries : List (EntryDraft S)) → All (IsOfBook kind_of config_of book) entries → All (IsDescribed book) (systems_at test place (map plain_draft entries))
@@ -120,10 +104,10 @@ described-entries {S = S} kind_of config_of book test place (entry.System draft 
 
 pub order-described : {S : Type 0} (kind_of : S → Name) (config_of : S → Json) (book : Book) (draft : Draft) (entries : List (EntryDraft S)) (frame : ℕ) → draft.entries ≡ map plain_draft entries → All (IsOfBook kind_of config_of book) entries → All (IsDescribed book) (frames_of draft frame).order
 order-described kind_of config_of book draft entries frame are made =
-    let all : All (IsDescribed book) (all_systems draft) = subst (λ list. All (IsDescribed book) (systems_at (λ one. true) 1 list)) (sym are) (described-entries kind_of config_of book (λ one. true) 1 entries made) in
+    let those : (test : DraftSystem → Bool) → All (IsDescribed book) (systems_at test 1 draft.entries) = λ test. subst (λ list. All (IsDescribed book) (systems_at test 1 list)) (sym are) (described-entries kind_of config_of book test 1 entries made) in
     All-append (IsDescribed book) (staged_systems draft) (local_systems draft)
-    (all-found (IsDescribed book) (λ place. find (λ one. eqb one.position place) (all_systems draft)) (λ place one is. found-holds (IsDescribed book) (λ other. eqb other.position place) (all_systems draft) one all is) (order same_resource (staged draft.entries 1 draft.entries)))
-    (subst (λ list. All (IsDescribed book) (systems_at (λ one. one.local) 1 list)) (sym are) (described-entries kind_of config_of book (λ one. one.local) 1 entries made))
+    (all-found (IsDescribed book) (λ number. slice_get (staged_list 1 draft.entries) number) (all-at (IsDescribed book) (staged_list 1 draft.entries) (those (λ one. not one.local))) (order same_resource (staged draft.entries 0 draft.entries)))
+    (those (λ one. one.local))
 
 -- the commands of a document for a frame are those that were made of its lists
 pub frame-commands : {D : Type 0} (part_of : D → Part) (draft : Draft) (lists : List (Vec (CommandDraft D))) (commands : List (Vec (Command D))) → draft.commands ≡ map (plain_list part_of) lists

@@ -5,6 +5,7 @@ use Rattle.shred_world.specs.Worlds.{Slots}
 use Rattle.shred_world.specs.Bundles.{holding_of}
 use Rattle.shred.specs.Dispatching.{Dispatching}
 use Rattle.scene_model.specs.declared.command.Command.{Command}
+use Rattle.scene_model.specs.declared.store.Store.TheVariants as stores
 use Rattle.scene_model.specs.Parts.{Json, Name, Part}
 use Rattle.scene_model.specs.Rulebook.{Access, Book}
 use Rattle.scene_model.specs.Scenes.{PlainScene, PlainSystem, PlainFrame, IsProper, IsDescribed}
@@ -66,7 +67,7 @@ pub record IsAlone {D G S : Type 0} (whole draft : DocumentDraft D G S) : Type 0
   pub frames : draft.frames ≡ 0
   pub commands : draft.commands.items ≡ []
   pub workers : draft.workers ≡ 0
-  pub store : draft.store.now ≡ codes "vec"
+  pub store : draft.store ≡ Some stores.Vec
 
 -- what stands at a place of a list, if something does
 abbrev pub value_at : {X : Type 0} → Vec (Option X) → ℕ → Option X

@@ -1,5 +1,5 @@
 -- Commands that wait in the queues of a world.
-use Rattle.std.specs.Prelude.{◌≡◌, ◌<◌, ℕ, true, false, List, [], All, AllPairs}
+use Rattle.std.specs.Prelude.{◌≡◌, ◌<◌, ◌++◌, ℕ, true, false, List, [], All, AllPairs}
 use Rattle.std.specs.List.{flat_map}
 use Rattle.shred_world.specs.declared.resource_id.ResourceId.{ResourceId}
 use Rattle.shred_world.specs.ResourceIds.{same_id}
@@ -11,6 +11,7 @@ use Rattle.scene_model.specs.Scenes.{PlainSystem, lives}
 use Rattle.scene_model.specs.Queues.{plain_commands, waiting}
 use Rattle.scene_world.specs.Standing.{Sight, Kinds, commands_of}
 use Rattle.scene_commands.specs.Acts.{seen_of}
+use Rattle.scene.specs.declared.commands.FrameInput.{FrameInput}
 
 -- the commands that wait in queues, those of the first queue first
 abbrev pub waiting_in : {D : Type 0} → (D → Part) → List (Queue D) → List Command
@@ -29,6 +30,10 @@ module _ {V : Type 0} (kinds : Kinds V) where
   -- the commands that wait in a world at places, those of the first place first
   abbrev pub waiting_at : List ℕ → Sight V → List Command
   waiting_at places w = flat_map (commands_of kinds w) places
+
+  -- the commands of a frame: those that are given to it, and then those that wait in a world at its places
+  abbrev pub given_and_waiting : {D : Type 0} → (D → Part) → FrameInput D → Sight V → List Command
+  given_and_waiting part_of input w = plain_commands part_of input.given.now ++ waiting_at input.places.now w
 
   -- no command waits
   abbrev pub NoneWaits : Sight V → Type 0

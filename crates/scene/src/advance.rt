@@ -10,9 +10,9 @@ ghost use Rattle.scene.specs.Members.{frame_by, listed_by};
 ghost use Rattle.scene_world.specs.Members.{kinds_by, placed_by};
 
 use crate::laws::a_refusal_in_a_world_is_one_of_the_scene;
-use crate::{keep_scene, run_frame};
+use crate::{FrameInput, keep_scene, run_frame};
 use scene_dispatch::SceneDispatcher;
-use scene_model::{Command, FrameRefusal, Skip};
+use scene_model::{FrameRefusal, Skip};
 use scene_snapshot::KeptScene;
 use scene_world::Rules;
 use shred_world::World;
@@ -25,10 +25,7 @@ pub(crate) fn advance<R: Rules + Send + Sync, H: AllocGlobal + Threads + Wait + 
     rules: &R,
     dispatcher: &mut SceneDispatcher<R>,
     world: &mut World<R::Value>,
-    places: &[u32],
-    limit: u32,
-    frame: u32,
-    given: &[Command<R::Data>],
+    input: &FrameInput<'_, R::Data>,
     skips: &mut Vec<Skip>,
     kept: &mut KeptScene<R::Data, Vec<Option<R::Global>>>,
 ) -> Result<(), FrameRefusal>
@@ -38,15 +35,16 @@ where
     R::Global: Send + Sync,
     R::System: Send + Sync,
     requires stands { Stands (kinds_by R.Rules R.Value.SceneValue) (placed_by R.Rules)
-        (R.book rules.now) dispatcher.old world.old places.now (listed_by R.Rules rules.now kept.old) }
-    requires given { All (IsLawful (R.book rules.now)) (plain_commands R.part_of given.now) }
-    ensures accepted { OnOk result ((skipped : List ℕ) × Accepts (R.book rules.now) limit
-        (frame_by R.Rules dispatcher.old given.now) (listed_by R.Rules rules.now kept.old) (listed_by R.Rules
-        rules.now kept.new) skipped × (skips.new.items ≡ skips.old.items ++ skips_of frame skipped)) }
+        (R.book rules.now) dispatcher.old world.old input.now.places.now (listed_by R.Rules rules.now kept.old) }
+    requires given { All (IsLawful (R.book rules.now)) (plain_commands R.part_of input.now.given.now) }
+    ensures accepted { OnOk result ((skipped : List ℕ) × Accepts (R.book rules.now) input.now.limit
+        (frame_by R.Rules dispatcher.old input.now.given.now) (listed_by R.Rules rules.now kept.old)
+        (listed_by R.Rules rules.now kept.new) skipped
+        × (skips.new.items ≡ skips.old.items ++ skips_of input.now.number skipped)) }
     ensures stands { OnOk result (Stands (kinds_by R.Rules R.Value.SceneValue) (placed_by R.Rules)
-        (R.book rules.now) dispatcher.new world.new places.now (listed_by R.Rules rules.now kept.new)) }
-    ensures refused { IfErr result (Refuses (R.book rules.now) limit (frame_by R.Rules dispatcher.old given.now)
-        (listed_by R.Rules rules.now kept.old)) }
+        (R.book rules.now) dispatcher.new world.new input.now.places.now (listed_by R.Rules rules.now kept.new)) }
+    ensures refused { IfErr result (Refuses (R.book rules.now) input.now.limit
+        (frame_by R.Rules dispatcher.old input.now.given.now) (listed_by R.Rules rules.now kept.old)) }
     ensures skips { OnErr result (skips.new.items ≡ skips.old.items) }
     ensures kept { OnErr result (kept.new ≡ kept.old) }
     ensures order { turn_order (placed_by R.Rules).plain dispatcher.new ≡ turn_order
@@ -54,12 +52,7 @@ where
 {
     a_refusal_in_a_world_is_one_of_the_scene(rules);
     let noted = skips.len();
-    match run_frame(
-        rt, rules, dispatcher, world, places, limit, frame, given, skips,
-    ) {
-        Ok(()) => {}
-        Err(refusal) => return Err(refusal),
-    }
+    run_frame(rt, rules, dispatcher, world, input, skips)?;
     match keep_scene(rules, world, rt.alloc()) {
         Ok(now) => {
             *kept = now;

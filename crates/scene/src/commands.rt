@@ -12,7 +12,7 @@ ghost use Rattle.scene_world.specs.Members.{kinds_by};
 ghost use Rattle.scene_commands.specs.Acts.{seen_of, MayAct, StaysElsewhere};
 ghost use Rattle.scene_commands.specs.Lists.{RefusesActs};
 ghost use Rattle.scene_commands.specs.Members.{scene_in};
-ghost use Rattle.scene.specs.Waiting.{waiting_in, waiting_at, PlacesAscend, NoneWaitsAt, StaysApart};
+ghost use Rattle.scene.specs.Waiting.{given_and_waiting, waiting_in, PlacesAscend, NoneWaitsAt, StaysApart};
 ghost use Rattle.scene.specs.Sparing.{AsksNoDeath, NoneGone};
 ghost use Rattle.scene.specs.Refusals.{CommandsRefusedIn, GoneIn, RefusesAll};
 
@@ -22,6 +22,19 @@ use scene_model::{Command, DocumentRules, FrameRefusal, Queue, Skip};
 use scene_world::Rules;
 use shred_world::World;
 use std::alloc::Global;
+
+/// What a frame is run with, beside the scene that stands in a world.
+#[derive(Drop)]
+pub struct FrameInput<'a, D> {
+    /// The number of the frame, from 1.
+    pub number: u32,
+    /// The greatest number of commands that it may have.
+    pub limit: u32,
+    /// The places of the systems, each with its queue in the world, ascending.
+    pub places: &'a [u32],
+    /// The commands that are given to it, before those of its systems.
+    pub given: &'a [Command<D>],
+}
 
 /// Whether commands are at most so many, with those that wait in queues.
 fn are_within<D: Drop>(limit: usize, given: usize, queues: &[Queue<D>]) -> bool
@@ -82,10 +95,7 @@ fn act_queues<R: Rules>(
 {
     let mut place = earlier;
     for queue in queues {
-        match act_all(rules, world, frame, place, queue.as_slice(), skips, alloc) {
-            Ok(()) => {}
-            Err(refusal) => return Err(refusal),
-        }
+        act_all(rules, world, frame, place, queue.as_slice(), skips, alloc)?;
         place = behind(place, queue);
     }
     Ok(())
@@ -115,10 +125,7 @@ fn act_both<R: Rules>(
         (plain_commands R.part_of given.now ++ waiting_in R.part_of queues.now) world.old) }
     ensures kept { (more : List Skip) × (skips.new.items ≡ skips.old.items ++ more) }
 {
-    match act_all(rules, world, frame, 0, given, skips, alloc) {
-        Ok(()) => {}
-        Err(refusal) => return Err(refusal),
-    }
+    act_all(rules, world, frame, 0, given, skips, alloc)?;
     let earlier = count_of(given);
     act_queues(rules, world, frame, earlier, queues, skips, alloc)
 }
@@ -190,9 +197,7 @@ fn look<R: Rules>(
 fn act_out<R: Rules>(
     rules: &R,
     world: &mut World<R::Value>,
-    places: &[u32],
-    frame: u32,
-    given: &[Command<R::Data>],
+    input: &FrameInput<'_, R::Data>,
     queues: Vec<Queue<R::Data>>,
     skips: &mut Vec<Skip>,
     alloc: Global,
@@ -201,34 +206,38 @@ where
     R::Value: Drop,
     requires may { MayAct (kinds_by R.Rules R.Value.SceneValue) world.old }
     requires none { NoneGone (scene_in R.Rules R.Value.SceneValue world.old) }
-    requires ascend { PlacesAscend places.now }
-    requires given { All (IsLawful (R.book rules.now)) (plain_commands R.part_of given.now) }
+    requires ascend { PlacesAscend input.now.places.now }
+    requires given { All (IsLawful (R.book rules.now)) (plain_commands R.part_of input.now.given.now) }
     requires lawful { All (λ queue. All (IsLawful (R.book rules.now)) (plain_commands R.part_of (waiting queue)))
         queues.items }
-    requires room { length given.now + length (waiting_in R.part_of queues.items) ≤ 4294967295 }
-    ensures ran { OnOk result (RunsTo frame 1 (plain_commands R.part_of given.now
+    requires room { length input.now.given.now + length (waiting_in R.part_of queues.items) ≤ 4294967295 }
+    ensures ran { OnOk result (RunsTo input.now.number 1 (plain_commands R.part_of input.now.given.now
         ++ waiting_in R.part_of queues.items) (scene_in R.Rules R.Value.SceneValue world.old)
         (scene_in R.Rules R.Value.SceneValue world.new) skips.old.items skips.new.items) }
     ensures may { OnOk result (MayAct (kinds_by R.Rules R.Value.SceneValue) world.new) }
     ensures none_gone { OnOk result
         (first_gone (R.book rules.now) (scene_in R.Rules R.Value.SceneValue world.new) ≡ None) }
     ensures empty { OnOk result
-        (NoneWaitsAt (kinds_by R.Rules R.Value.SceneValue) places.now (seen_of world.new)) }
+        (NoneWaitsAt (kinds_by R.Rules R.Value.SceneValue) input.now.places.now (seen_of world.new)) }
     ensures apart { OnOk result
-        (StaysApart (kinds_by R.Rules R.Value.SceneValue) places.now world.old world.new) }
+        (StaysApart (kinds_by R.Rules R.Value.SceneValue) input.now.places.now world.old world.new) }
     ensures refused { IfErr result (RefusesAll (kinds_by R.Rules R.Value.SceneValue) (R.book rules.now)
-        (plain_commands R.part_of given.now ++ waiting_in R.part_of queues.items) world.old) }
+        (plain_commands R.part_of input.now.given.now ++ waiting_in R.part_of queues.items) world.old) }
     ensures kept { (more : List Skip) × (skips.new.items ≡ skips.old.items ++ more) }
 {
-    let kills = ask_death(given, queues.as_slice());
-    match act_both(rules, world, frame, given, queues.as_slice(), skips, alloc) {
-        Ok(()) => {}
-        Err(refusal) => return Err(refusal),
-    }
-    match put_queues::<R>(world, places, queues, alloc) {
-        Ok(()) => {}
-        Err(_) => return Err(FrameRefusal::Memory),
-    }
+    let kills = ask_death(input.given, queues.as_slice());
+    act_both(
+        rules,
+        world,
+        input.number,
+        input.given,
+        queues.as_slice(),
+        skips,
+        alloc,
+    )?;
+    let Ok(()) = put_queues::<R>(world, input.places, queues, alloc) else {
+        return Err(FrameRefusal::Memory);
+    };
     look(rules, world, kills, alloc)
 }
 
@@ -240,16 +249,13 @@ where
 ///
 /// Asked for is that no reference is gone yet, that the places ascend, and that the commands are ones that the rules know.
 ///
-/// Errors: `TooManyCommands`, where there are more than `limit`; `IdsSpent`, `IndicesSpent` and `GenerationsSpent` of
+/// Errors: `TooManyCommands`, where there are more than the limit; `IdsSpent`, `IndicesSpent` and `GenerationsSpent` of
 /// a spawn; `GoneReference`, with the least id that holds one; `Memory`, also where there is no queue at a place. The
 /// skips are as they were; what was carried out before stays in the world.
 pub fn run_commands<R: Rules>(
     rules: &R,
     world: &mut World<R::Value>,
-    places: &[u32],
-    limit: u32,
-    frame: u32,
-    given: &[Command<R::Data>],
+    input: &FrameInput<'_, R::Data>,
     skips: &mut Vec<Skip>,
     alloc: Global,
 ) -> Result<(), FrameRefusal>
@@ -257,32 +263,32 @@ where
     R::Value: Drop,
     requires may { MayAct (kinds_by R.Rules R.Value.SceneValue) world.old }
     requires none { NoneGone (scene_in R.Rules R.Value.SceneValue world.old) }
-    requires ascend { PlacesAscend places.now }
-    requires given { All (IsLawful (R.book rules.now)) (plain_commands R.part_of given.now) }
+    requires ascend { PlacesAscend input.now.places.now }
+    requires given { All (IsLawful (R.book rules.now)) (plain_commands R.part_of input.now.given.now) }
     requires lawful { All (λ place. All (IsLawful (R.book rules.now))
-        (commands_of (kinds_by R.Rules R.Value.SceneValue) (seen_of world.old) place)) places.now }
-    ensures accepted { OnOk result ((skipped : List ℕ) × CommandsAccepted (R.book rules.now) limit
-        (plain_commands R.part_of given.now ++ waiting_at (kinds_by R.Rules R.Value.SceneValue) places.now
-        (seen_of world.old)) (scene_in R.Rules R.Value.SceneValue world.old) (scene_in R.Rules
-        R.Value.SceneValue world.new) skipped × (skips.new.items ≡ skips.old.items ++ skips_of frame skipped)) }
+        (commands_of (kinds_by R.Rules R.Value.SceneValue) (seen_of world.old) place)) input.now.places.now }
+    ensures accepted { OnOk result ((skipped : List ℕ) × CommandsAccepted (R.book rules.now) input.now.limit
+        (given_and_waiting (kinds_by R.Rules R.Value.SceneValue) R.part_of input.now (seen_of world.old))
+        (scene_in R.Rules R.Value.SceneValue world.old) (scene_in R.Rules R.Value.SceneValue world.new) skipped
+        × (skips.new.items ≡ skips.old.items ++ skips_of input.now.number skipped)) }
     ensures may { OnOk result (MayAct (kinds_by R.Rules R.Value.SceneValue) world.new) }
     ensures empty { OnOk result
-        (NoneWaitsAt (kinds_by R.Rules R.Value.SceneValue) places.now (seen_of world.new)) }
+        (NoneWaitsAt (kinds_by R.Rules R.Value.SceneValue) input.now.places.now (seen_of world.new)) }
     ensures apart { OnOk result
-        (StaysApart (kinds_by R.Rules R.Value.SceneValue) places.now world.old world.new) }
+        (StaysApart (kinds_by R.Rules R.Value.SceneValue) input.now.places.now world.old world.new) }
     ensures refused { IfErr result (CommandsRefusedIn (kinds_by R.Rules R.Value.SceneValue) (R.book rules.now)
-        limit (plain_commands R.part_of given.now ++ waiting_at (kinds_by R.Rules R.Value.SceneValue) places.now
+        input.now.limit (given_and_waiting (kinds_by R.Rules R.Value.SceneValue) R.part_of input.now
         (seen_of world.old)) (scene_in R.Rules R.Value.SceneValue world.old)) }
     ensures skips { OnErr result (skips.new.items ≡ skips.old.items) }
 {
-    let Ok(queues) = take_queues::<R>(world, places, alloc) else {
+    let Ok(queues) = take_queues::<R>(world, input.places, alloc) else {
         return Err(FrameRefusal::Memory);
     };
-    if !are_within(limit as usize, given.len(), queues.as_slice()) {
+    if !are_within(input.limit as usize, input.given.len(), queues.as_slice()) {
         return Err(FrameRefusal::TooManyCommands);
     }
     let noted = skips.len();
-    match act_out(rules, world, places, frame, given, queues, skips, alloc) {
+    match act_out(rules, world, input, queues, skips, alloc) {
         Ok(()) => Ok(()),
         Err(refusal) => {
             skips.truncate(noted);

@@ -6,8 +6,8 @@ ghost use Rattle.scene_document.specs.Loading.{commands_at};
 ghost use Rattle.scene.specs.Members.{shown_by, IsReadyBy, IsOpenedBy, IsReadAndOpened, IsPlacedBy};
 
 use crate::advance::advance;
-use crate::keep_scene;
 use crate::load::{Course, Opened, place_document, prepare_document};
+use crate::{FrameInput, keep_scene};
 use scene_dispatch::SceneDispatcher;
 use scene_document::{JsonError, Limits, LoadError, read_json};
 use scene_model::{Command, DocRefusal, Report, Skips};
@@ -105,14 +105,8 @@ where
         ensures { MatchResult result (IsOpenedBy R.Rules R.Value.SceneValue rules limits (view value.now))
             (IsNotLoaded (R.book rules) limits.indices (view value.now)) }
     {
-        let prepared = match prepare_document(alloc, &rules, limits, value) {
-            Ok(prepared) => prepared,
-            Err(error) => return Err(error),
-        };
-        let opened = match place_document(alloc, &rules, limits, prepared) {
-            Ok(opened) => opened,
-            Err(error) => return Err(error),
-        };
+        let prepared = prepare_document(alloc, &rules, limits, value)?;
+        let opened = place_document(alloc, &rules, limits, prepared)?;
         Scene::keeping(alloc, rules, limits, opened)
     }
 
@@ -130,15 +124,9 @@ where
         ensures { MatchResult result (IsOpenedBy R.Rules R.Value.SceneValue rules limits (view value))
             (IsNotLoaded (R.book rules) limits.indices (view value)) }
     {
-        let prepared = match prepare_document(alloc, &rules, limits, &value) {
-            Ok(prepared) => prepared,
-            Err(error) => return Err(error),
-        };
+        let prepared = prepare_document(alloc, &rules, limits, &value)?;
         drop(value);
-        let opened = match place_document(alloc, &rules, limits, prepared) {
-            Ok(opened) => opened,
-            Err(error) => return Err(error),
-        };
+        let opened = place_document(alloc, &rules, limits, prepared)?;
         Scene::keeping(alloc, rules, limits, opened)
     }
 
@@ -279,15 +267,18 @@ where
         let told = Skips::from_vec(Vec::new(rt.alloc()));
         let mut skips = mem::replace(&mut self.report.skips, told).into_vec();
         let given = commands_for(self.commands.as_slice(), frame);
+        let input = FrameInput {
+            number: frame,
+            limit: self.limit,
+            places: self.places.as_slice(),
+            given,
+        };
         match advance(
             rt,
             &self.rules,
             &mut self.dispatcher,
             &mut self.world,
-            self.places.as_slice(),
-            self.limit,
-            frame,
-            given,
+            &input,
             &mut skips,
             &mut self.kept,
         ) {

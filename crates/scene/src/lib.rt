@@ -18,7 +18,7 @@ mod runner;
 mod running;
 mod taking;
 
-pub use commands::run_commands;
+pub use commands::{FrameInput, run_commands};
 pub use frame::{Refused, Scene};
 pub use keeping::keep_scene;
 pub use runner::{RunError, run, run_to_end, run_with};

@@ -23,19 +23,11 @@ ghost use Rattle.scene.specs.Members.{IsPlacedBy, IsPreparedBy};
 use scene_commands::load_world;
 use scene_dispatch::{SceneDispatcher, open_queues, places_of_systems, stage_systems};
 use scene_document::{DocumentDraft, Limits, LoadError, commands_of, read_document};
-use scene_model::Command;
+use scene_model::{Command, DocRefusal};
 use scene_world::{Rules, Store};
 use serde_json::Value;
 use shred_world::World;
 use std::alloc::{AllocError, Global};
-
-/// The store of a name, or the first of the four where it is the name of none.
-fn store_of(name: &str) -> Store {
-    match Store::named(name) {
-        Some(store) => store,
-        None => Store::Vec,
-    }
-}
 
 /// The systems of a document, the commands that it has for its frames, and how many frames it asks for.
 #[derive(Drop)]
@@ -113,14 +105,13 @@ where
     ensures { MatchResult result (IsPreparedBy R.Rules rules.now limits (view value.now))
         (IsNotLoaded (R.book rules.now) limits.indices (view value.now)) }
 {
-    let draft = match read_document(alloc, rules, limits, value) {
-        Ok(draft) => draft,
-        Err(error) => return Err(error),
-    };
+    let draft = read_document(alloc, rules, limits, value)?;
     let Ok(places) = places_of_systems(draft.entries.as_slice(), alloc) else {
         return Err(LoadError::Memory);
     };
-    let store = store_of(draft.store);
+    let Some(store) = draft.store else {
+        return Err(LoadError::Document(DocRefusal::UnknownStore));
+    };
     let Ok((course, draft)) = course_of(rules, draft, alloc) else {
         return Err(LoadError::Memory);
     };
@@ -208,7 +199,7 @@ where
         frames: 0,
         commands: Vec::new(alloc),
         workers: 0,
-        store: "vec",
+        store: Some(Store::Vec),
     };
     let commands = commands_of::<R>(alloc, commands)?;
     let dispatcher = stage_systems(rules, entries, workers as usize, alloc)?;

@@ -53,14 +53,10 @@ where
         Err(JsonError::Memory) => return Err(LoadError::Memory),
     };
     drop(bytes);
-    let mut scene = match Scene::load_owned(rt.alloc(), rules, limits, value) {
-        Ok(scene) => scene,
-        Err(error) => return Err(error),
-    };
+    let mut scene = Scene::load_owned(rt.alloc(), rules, limits, value)?;
     run_to_end(rt, &mut scene);
-    let text = match scene.snapshot(rt.alloc()) {
-        Ok(text) => text,
-        Err(_) => return Err(LoadError::Memory),
+    let Ok(text) = scene.snapshot(rt.alloc()) else {
+        return Err(LoadError::Memory);
     };
     Ok((scene.into_report(), text))
 }

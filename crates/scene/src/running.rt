@@ -16,10 +16,10 @@ ghost use Rattle.scene.specs.Waiting.{AreTheirPlaces, NoneWaits};
 ghost use Rattle.scene.specs.Refusals.{RefusedIn};
 ghost use Rattle.scene.specs.Members.{frame_by};
 
-use crate::commands::run_commands;
+use crate::commands::{FrameInput, run_commands};
 use scene_commands::laws::{a_scene_may_be_acted_on, a_scene_stands_after_commands};
 use scene_dispatch::SceneDispatcher;
-use scene_model::{Command, FrameRefusal, Skip};
+use scene_model::{FrameRefusal, Skip};
 use scene_world::Rules;
 use shred_world::World;
 use std::sync::Wait;
@@ -38,11 +38,11 @@ fn rules_stand<R: Rules>(rules: &R)
 /// Where the frame is accepted, the scene that stands in the world is the one after it, whatever the number of
 /// workers, the skipped commands are noted behind the skips, no command waits, and the systems may run again.
 ///
-/// Asked for is that the systems are the rules' own, that `places` are ascending and have the position of each system,
-/// that no command waits, and that the given commands are ones that the rules know.
+/// Asked for is that the systems are the rules' own, that the places are ascending and have the position of each
+/// system, that no command waits, and that the given commands are ones that the rules know.
 ///
 /// Errors: `System`, with the position and the text of the first system that refuses; `TooManyCommands`, where a
-/// system has a full queue and more to ask for, or all commands are more than `limit`; those of `run_commands`;
+/// system has a full queue and more to ask for, or all commands are more than the limit; those of `run_commands`;
 /// `Memory`; `Threads`, only with two workers or more. The skips are as they were; the world is what the systems and
 /// commands before have made of it, in which the scene before the frame is no more.
 pub fn run_frame<R: Rules + Send + Sync, H: AllocGlobal + Threads + Wait + Sync>(
@@ -50,10 +50,7 @@ pub fn run_frame<R: Rules + Send + Sync, H: AllocGlobal + Threads + Wait + Sync>
     rules: &R,
     dispatcher: &mut SceneDispatcher<R>,
     world: &mut World<R::Value>,
-    places: &[u32],
-    limit: u32,
-    frame: u32,
-    given: &[Command<R::Data>],
+    input: &FrameInput<'_, R::Data>,
     skips: &mut Vec<Skip>,
 ) -> Result<(), FrameRefusal>
 where
@@ -64,29 +61,27 @@ where
     requires ready { AreReady (kinds_by R.Rules R.Value.SceneValue) (placed_by R.Rules)
         (R.book rules.now) dispatcher.old (holding_of world.old) }
     requires none { NoneWaits (kinds_by R.Rules R.Value.SceneValue) (seen_of world.old) }
-    requires places { AreTheirPlaces places.now (turn_order (placed_by R.Rules).plain dispatcher.old) }
-    requires given { All (IsLawful (R.book rules.now)) (plain_commands R.part_of given.now) }
+    requires places { AreTheirPlaces input.now.places.now (turn_order (placed_by R.Rules).plain dispatcher.old) }
+    requires given { All (IsLawful (R.book rules.now)) (plain_commands R.part_of input.now.given.now) }
     ensures accepted { OnOk result
-        ((skipped : List ℕ) × Accepts (R.book rules.now) limit (frame_by R.Rules dispatcher.old given.now)
-        (scene_in R.Rules R.Value.SceneValue world.old) (scene_in R.Rules R.Value.SceneValue world.new) skipped
-        × (skips.new.items ≡ skips.old.items ++ skips_of frame skipped)) }
+        ((skipped : List ℕ) × Accepts (R.book rules.now) input.now.limit
+        (frame_by R.Rules dispatcher.old input.now.given.now) (scene_in R.Rules R.Value.SceneValue world.old)
+        (scene_in R.Rules R.Value.SceneValue world.new) skipped
+        × (skips.new.items ≡ skips.old.items ++ skips_of input.now.number skipped)) }
     ensures ready { OnOk result (AreReady (kinds_by R.Rules R.Value.SceneValue) (placed_by R.Rules)
         (R.book rules.now) dispatcher.new (holding_of world.new)) }
     ensures none { OnOk result (NoneWaits (kinds_by R.Rules R.Value.SceneValue) (seen_of world.new)) }
-    ensures refused { IfErr result (RefusedIn (kinds_by R.Rules R.Value.SceneValue) (R.book rules.now) limit
-        (frame_by R.Rules dispatcher.old given.now) (scene_in R.Rules R.Value.SceneValue world.old)) }
+    ensures refused { IfErr result (RefusedIn (kinds_by R.Rules R.Value.SceneValue) (R.book rules.now) input.now.limit
+        (frame_by R.Rules dispatcher.old input.now.given.now) (scene_in R.Rules R.Value.SceneValue world.old)) }
     ensures skips { OnErr result (skips.new.items ≡ skips.old.items) }
     ensures order { turn_order (placed_by R.Rules).plain dispatcher.new ≡ turn_order
         (placed_by R.Rules).plain dispatcher.old }
     ensures workers { dispatcher.new.workers ≡ dispatcher.old.workers }
     ensures threads { dispatcher.old.workers < 2 → IfErr result (λ cause. ¬ (WantsThread cause)) }
 {
-    match dispatcher.run_systems(rt, rules, world) {
-        Ok(()) => {}
-        Err(refusal) => return Err(refusal),
-    }
+    dispatcher.run_systems(rt, rules, world)?;
     rules_stand(rules);
     a_scene_may_be_acted_on(rules);
     a_scene_stands_after_commands(rules);
-    run_commands(rules, world, places, limit, frame, given, skips, rt.alloc())
+    run_commands(rules, world, input, skips, rt.alloc())
 }

@@ -219,10 +219,7 @@ pub(crate) fn ask_all<H: AllocGlobal, W: Holder<Value>>(
         let Ok(command) = command_of(rt.alloc(), view, ask, ids[place]) else {
             return Err(Stop::Memory);
         };
-        match ask_for(queue, command) {
-            Ok(()) => {}
-            Err(stop) => return Err(stop),
-        }
+        ask_for(queue, command)?;
     }
     Ok(())
 }

@@ -1,8 +1,9 @@
 //! The program's rules.
-ghost use Rattle.std.specs.Prelude.{◌≡◌, None, Some};
+ghost use Rattle.std.specs.Prelude.{◌≡◌, [], false, None, Some};
 ghost use Rattle.std.proofs.Common.{rules};
 ghost use Rattle.serde_json.specs.View.{view};
 ghost use Rattle.scene_model.specs.Parts.{is_among};
+ghost use Rattle.scene_model.specs.Declaring.{access_of, texts};
 ghost use Rattle.scene_basics.specs.Names.{number_kinds};
 ghost use Rattle.serde_json.specs.Data.{null};
 ghost use Rattle.scene_basics.specs.Numbers.{part_of, json_of, signed_in};
@@ -52,6 +53,30 @@ fn is_number_kind(kind: &str) -> bool
     ensures { result ≡ is_among kind.now number_kinds }
 {
     kind == HP || kind == POS || kind == VEL
+}
+
+/// What a system declares that reads and writes these parts, reads these globals, and writes none.
+fn declared_as(
+    reads: Vec<&'static str>,
+    writes: Vec<&'static str>,
+    read_globals: Vec<&'static str>,
+    alloc: Global,
+) -> SystemAccess
+    ensures { access_of result ≡ record {
+      reads = texts reads.entry.items;
+      writes = texts writes.entry.items;
+      read_globals = texts read_globals.entry.items;
+      written_globals = [];
+      reserved = false;
+    } }
+{
+    SystemAccess {
+        reads,
+        writes,
+        read_globals,
+        written_globals: Vec::new(alloc),
+        writes_reserved: false,
+    }
 }
 
 impl DocumentRules for Basics {
@@ -143,41 +168,36 @@ impl DocumentRules for Basics {
 
     fn accessor(system: &BasicSystem, alloc: Global) -> Result<SystemAccess, AllocError> {
         match *system {
-            BasicSystem::Drift => Ok(SystemAccess {
-                reads: vec![in alloc; VEL]?,
-                writes: vec![in alloc; POS]?,
-                read_globals: Vec::new(alloc),
-                written_globals: Vec::new(alloc),
-                writes_reserved: false,
-            }),
-            BasicSystem::Pull => Ok(SystemAccess {
-                reads: Vec::new(alloc),
-                writes: vec![in alloc; VEL]?,
-                read_globals: vec![in alloc; G]?,
-                written_globals: Vec::new(alloc),
-                writes_reserved: false,
-            }),
-            BasicSystem::Decay => Ok(SystemAccess {
-                reads: Vec::new(alloc),
-                writes: vec![in alloc; HP]?,
-                read_globals: Vec::new(alloc),
-                written_globals: Vec::new(alloc),
-                writes_reserved: false,
-            }),
-            BasicSystem::Reap => Ok(SystemAccess {
-                reads: vec![in alloc; HP]?,
-                writes: Vec::new(alloc),
-                read_globals: Vec::new(alloc),
-                written_globals: Vec::new(alloc),
-                writes_reserved: false,
-            }),
-            BasicSystem::Bud => Ok(SystemAccess {
-                reads: vec![in alloc; HP, POS]?,
-                writes: Vec::new(alloc),
-                read_globals: Vec::new(alloc),
-                written_globals: Vec::new(alloc),
-                writes_reserved: false,
-            }),
+            BasicSystem::Drift => Ok(declared_as(
+                vec![in alloc; VEL]?,
+                vec![in alloc; POS]?,
+                Vec::new(alloc),
+                alloc,
+            )),
+            BasicSystem::Pull => Ok(declared_as(
+                Vec::new(alloc),
+                vec![in alloc; VEL]?,
+                vec![in alloc; G]?,
+                alloc,
+            )),
+            BasicSystem::Decay => Ok(declared_as(
+                Vec::new(alloc),
+                vec![in alloc; HP]?,
+                Vec::new(alloc),
+                alloc,
+            )),
+            BasicSystem::Reap => Ok(declared_as(
+                vec![in alloc; HP]?,
+                Vec::new(alloc),
+                Vec::new(alloc),
+                alloc,
+            )),
+            BasicSystem::Bud => Ok(declared_as(
+                vec![in alloc; HP, POS]?,
+                Vec::new(alloc),
+                Vec::new(alloc),
+                alloc,
+            )),
         }
     }
 

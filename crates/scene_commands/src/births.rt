@@ -266,10 +266,7 @@ pub fn spawn_entity<R: Rules>(
     if next == u64::MAX {
         return Err(FrameRefusal::IdsSpent);
     }
-    let entity = match bring_to_life::<R>(world) {
-        Ok(entity) => entity,
-        Err(refusal) => return Err(refusal),
-    };
+    let entity = bring_to_life::<R>(world)?;
     match settle(rules, world, entity, parts, alloc) {
         Ok(()) => Ok(true),
         Err(_) => Err(FrameRefusal::Memory),

@@ -22,10 +22,7 @@ fn told(outcome: Result<bool, AllocError>) -> Result<bool, FrameRefusal>
     ensures done { IfOk result (λ done. outcome ≡ Ok done) }
     ensures refused { IfErr result (λ why. why ≡ cause.Memory) }
 {
-    match outcome {
-        Ok(done) => Ok(done),
-        Err(_) => Err(FrameRefusal::Memory),
-    }
+    outcome.map_err(|_| FrameRefusal::Memory)
 }
 
 /// Carries a command out in a world.
@@ -66,10 +63,9 @@ fn note(skips: &mut Vec<Skip>, frame: u32, place: u32, done: bool) -> Result<(),
     if done {
         return Ok(());
     }
-    match skips.push(Skip { frame, place }) {
-        Ok(()) => Ok(()),
-        Err(_) => Err(FrameRefusal::Memory),
-    }
+    skips
+        .push(Skip { frame, place })
+        .map_err(|_| FrameRefusal::Memory)
 }
 
 /// Carries commands out in a world, one after another, and notes those that are skipped, by the frame and their place
@@ -101,14 +97,8 @@ pub fn act_all<R: Rules>(
     let mut place = earlier;
     for command in commands {
         place += 1;
-        let done = match act(rules, world, command, alloc) {
-            Ok(done) => done,
-            Err(refusal) => return Err(refusal),
-        };
-        match note(skips, frame, place, done) {
-            Ok(()) => {}
-            Err(refusal) => return Err(refusal),
-        }
+        let done = act(rules, world, command, alloc)?;
+        note(skips, frame, place, done)?;
     }
     Ok(())
 }

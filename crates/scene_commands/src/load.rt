@@ -66,8 +66,6 @@ where
         (kinds_by R.Rules R.Value.SceneValue) (R.book rules.now) (seen_of world) (first_scene plain)) }
 {
     let mut world = open_world::<R>(store, limits, draft.next, alloc)?;
-    match fill_world(rules, &mut world, draft, alloc) {
-        Ok(()) => Ok(world),
-        Err(error) => Err(error),
-    }
+    fill_world(rules, &mut world, draft, alloc)?;
+    Ok(world)
 }

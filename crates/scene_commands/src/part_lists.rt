@@ -36,11 +36,8 @@ fn put_one<R: Rules>(
     if *place >= names.len() {
         return Err(AllocError);
     }
-    match put_part(rules, world, id, names[*place], datum, alloc) {
-        Ok(true) => Ok(()),
-        Ok(false) => Err(AllocError),
-        Err(_) => Err(AllocError),
-    }
+    let done = put_part(rules, world, id, names[*place], datum, alloc)?;
+    if done { Ok(()) } else { Err(AllocError) }
 }
 
 /// Puts parts in at an id; of two under one kind the first stands. Errors: those of each of them.

@@ -3,13 +3,11 @@ use Rattle.std.proofs.Common.{◌≡◌, ℕ, ◌-◌, ◌*◌, Bool, true, fals
 use Rattle.std.specs.Prelude.{◌==◌, ◌&&◌, nat_lt, max, count_by, if◌then◌else◌}
 use Rattle.std.specs.List.{AllZip, position}
 use Rattle.std.specs.Option.{option_map, option_map_or}
-use Rattle.std.proofs.lemmas.List.{length-map}
 use Rattle.shred_plan.specs.declared.stage.Way.{Way}
 use Rattle.shred_plan.specs.declared.stage.Way.TheVariants.{Alone, Behind}
-use Rattle.shred_plan.specs.Plan.{Placing, Group, Stage, conflict, hits, time_of, longest, joins, completes, rest_after, systems_of, admitted, taken, placed}
-use Rattle.scene_dispatch.specs.Alike.{IsRenumbered}
+use Rattle.shred_plan.specs.Plan.{Placing, Group, Stage, conflict, hits, time_of, longest, joins, completes, without, rest_after, systems_of, admitted, taken, placed}
+use Rattle.scene_dispatch.specs.Alike.{AreNumberedAlike}
 use Rattle.scene_dispatch.proofs.ZipLemmas.{zip-append, zip-get, zip-set, zip-length, zip-fold, zip-sum, zip-count, zip-any, zip-position}
-use Rattle.scene_dispatch.proofs.RestLemmas.{TellsApart, IsLeft, left-after}
 
 -- two groups, and two stages, of which something holds system by system
 abbrev pub ByGroup : {I J : Type 0} → (Placing I → Placing J → Type 0) → Stage I → Stage J → Type 0
@@ -34,17 +32,16 @@ module _ {I J : Type 0} (S : Placing I → Placing J → Type 0) (one : Placing 
       (zip-append S (get_or stage place []) (one ∷ []) (get_or others place []) (other ∷ []) (zip-get (AllZip S) stage others place [] [] tt zipped) (new, tt))
       zipped
 
--- what is known of a system in a stage, and of its partner, where a system and its partner are placed: they have the same place in time,
--- they are hit alike, and no other number in use is renumbered as the system's
-pub record IsKnown {I J : Type 0} (same_one : I → I → Bool) (same_other : J → J → Bool) (renumber : ℕ → ℕ) (InUse : ℕ → Type 0) (one : Placing I) (other : Placing J) (system : Placing I) (partner : Placing J) : Type 0 where
-  pub renumbered : IsRenumbered renumber (system, partner)
+-- what is known of a system in a stage, and of its partner, where a system and its partner are placed: they are numbered alike, and
+-- hit alike
+pub record IsKnown {I J : Type 0} (same_one : I → I → Bool) (same_other : J → J → Bool) (one : Placing I) (other : Placing J) (system : Placing I) (partner : Placing J) : Type 0 where
+  pub numbered : AreNumberedAlike (system, partner)
   pub conflicts : conflict same_one one system ≡ conflict same_other other partner
-  pub apart : TellsApart renumber InUse system.number
 
-module _ {I J : Type 0} (same_one : I → I → Bool) (same_other : J → J → Bool) (renumber : ℕ → ℕ) (InUse : ℕ → Type 0) (one : Placing I) (other : Placing J) (time : other.time ≡ one.time) where
+module _ {I J : Type 0} (same_one : I → I → Bool) (same_other : J → J → Bool) (one : Placing I) (other : Placing J) (time : other.time ≡ one.time) where
   -- that of one system and its partner, for this pair
   abbrev Known : Placing I → Placing J → Type 0
-  Known system partner = IsKnown same_one same_other renumber InUse one other system partner
+  Known system partner = IsKnown same_one same_other one other system partner
 
   -- a system conflicts with a group just where its partner does
   hits-same : (group : Group I) (partners : Group J) → AllZip Known group partners → hits same_one one group ≡ hits same_other other partners
@@ -52,7 +49,7 @@ module _ {I J : Type 0} (same_one : I → I → Bool) (same_other : J → J → 
 
   -- two groups take the same time
   time-same : (group : Group I) (partners : Group J) → AllZip Known group partners → time_of group ≡ time_of partners
-  time-same = zip-sum Known (λ system. system.time) (λ system. system.time) (λ system partner known. sym known.renumbered.time)
+  time-same = zip-sum Known (λ system. system.time) (λ system. system.time) (λ system partner known. sym known.numbered.time)
 
   -- and so do the longest groups of two stages
   longest-same : (stage : Stage I) (others : Stage J) → ByGroup Known stage others → longest stage ≡ longest others
@@ -68,29 +65,26 @@ module _ {I J : Type 0} (same_one : I → I → Bool) (same_other : J → J → 
       ∙ ap (λ n. nat_lt (length partners) 4 && nat_lt other.time (2 * (n - time_of group))) (longest-same stage others zipped)
       ∙ ap (λ n. nat_lt (length partners) 4 && nat_lt other.time (2 * (longest others - n))) (time-same group partners known)
 
-  -- as many numbers are left
-  left-length : (rest others : List ℕ) → IsLeft renumber InUse rest others → length rest ≡ length others
-  left-length rest others left = sym (ap length left.0 ∙ length-map rest renumber)
-
   -- what is left after a group
-  pub left-further : (systems : List (Placing I)) (partners : List (Placing J)) (rest others : List ℕ) → IsLeft renumber InUse rest others → AllZip Known systems partners
-      → IsLeft renumber InUse (rest_after rest systems) (rest_after others partners)
-  left-further = left-after renumber InUse Known (λ system partner known. (known.renumbered.number, known.apart))
+  pub left-further : (systems : List (Placing I)) (partners : List (Placing J)) (rest others : List ℕ) → rest ≡ others → AllZip Known systems partners → rest_after rest systems ≡ rest_after others partners
+  left-further =
+      zip-fold Known (λ a b. a ≡ b) (λ rest system. without rest system.number) (λ rest system. without rest system.number)
+      (λ rest others system partner left known. ap (λ list. without list system.number) left ∙ ap (λ number. without others number) (sym known.numbered.number))
 
   -- a group has all that is left just where the other has
-  completes-same : (rest others : List ℕ) → IsLeft renumber InUse rest others → (group : Group I) (partners : Group J) → AllZip Known group partners → completes rest group ≡ completes others partners
+  completes-same : (rest others : List ℕ) → rest ≡ others → (group : Group I) (partners : Group J) → AllZip Known group partners → completes rest group ≡ completes others partners
   completes-same rest others left group partners known =
-      let after = left-length (rest_after rest group) (rest_after others partners) (left-further group partners rest others left known) in
-      ap (λ n. (n == 0) && nat_lt n (length rest)) after ∙ ap (λ n. (length (rest_after others partners) == 0) && nat_lt (length (rest_after others partners)) n) (left-length rest others left)
+      let after : length (rest_after rest group) ≡ length (rest_after others partners) = ap length (left-further group partners rest others left known) in
+      ap (λ n. (n == 0) && nat_lt n (length rest)) after ∙ ap (λ n. (length (rest_after others partners) == 0) && nat_lt (length (rest_after others partners)) n) (ap length left)
 
   -- a stage admits a system in the way in which the other admits its partner
-  pub admitted-same : (rest left : List ℕ) → IsLeft renumber InUse rest left → (stage : Stage I) (others : Stage J) → ByGroup Known stage others
+  pub admitted-same : (rest left : List ℕ) → rest ≡ left → (stage : Stage I) (others : Stage J) → ByGroup Known stage others
       → admitted same_one one rest stage ≡ admitted same_other other left others
   admitted-same rest left is stage others zipped =
       ap (λ n. by n (length rest) (position (λ group. completes rest group && joins one stage group) stage) (position (λ group. hits same_one one group && joins one stage group) stage))
       (zip-count (AllZip Known) (hits same_one one) (hits same_other other) hits-same stage others zipped)
       ∙ ap (λ n. by (count_by (hits same_other other) others) n (position (λ group. completes rest group && joins one stage group) stage) (position (λ group. hits same_one one group && joins one stage group) stage))
-      (left-length rest left is)
+      (ap length is)
       ∙ ap (λ found. by (count_by (hits same_other other) others) (length left) found (position (λ group. hits same_one one group && joins one stage group) stage))
       (zip-position (AllZip Known) (λ group. completes rest group && joins one stage group) (λ group. completes left group && joins other others group)
       (λ group partners known. ap (λ b. b && joins one stage group) (completes-same rest left is group partners known) ∙ ap (λ b. completes left partners && b) (joins-same stage others group partners zipped known)) stage others zipped)
@@ -104,20 +98,20 @@ module _ {I J : Type 0} (same_one : I → I → Bool) (same_other : J → J → 
           then (if left == 0 then Some Alone else option_map Behind completing)
           else (if (conflicts == 1) && (left == 0) then option_map Behind hit else None)
 
-module _ {I J : Type 0} (same_one : I → I → Bool) (same_other : J → J → Bool) (renumber : ℕ → ℕ) (InUse : ℕ → Type 0) (S : Placing I → Placing J → Type 0) (one : Placing I) (other : Placing J) (time : other.time ≡ one.time) (new : S one other) where
+module _ {I J : Type 0} (same_one : I → I → Bool) (same_other : J → J → Bool) (S : Placing I → Placing J → Type 0) (one : Placing I) (other : Placing J) (time : other.time ≡ one.time) (new : S one other) where
   -- what holds of all systems of two plans, and of the partners that are placed, holds of the plans after
-  pub placed-zip : (stages : List (Stage I)) (others : List (Stage J)) (closed : ℕ) (rest left : List ℕ) → IsLeft renumber InUse rest left
-      → ByStage (IsKnown same_one same_other renumber InUse one other) stages others → ByStage S stages others
+  pub placed-zip : (stages : List (Stage I)) (others : List (Stage J)) (closed : ℕ) (rest left : List ℕ) → rest ≡ left
+      → ByStage (IsKnown same_one same_other one other) stages others → ByStage S stages others
       → ByStage S (placed same_one closed one rest stages) (placed same_other closed other left others)
   placed-zip [] [] closed rest left is known zipped = (((new, tt), tt), tt)
   placed-zip [] (partners ∷ others) closed rest left is known zipped = absurd zipped
   placed-zip (stage ∷ stages) [] closed rest left is known zipped = absurd zipped
   placed-zip (stage ∷ stages) (partners ∷ others) closed rest left is known zipped =
       by (closed == 0) (admitted same_one one rest stage) (admitted same_other other left partners)
-      (admitted-same same_one same_other renumber InUse one other time rest left is stage partners known.0)
+      (admitted-same same_one same_other one other time rest left is stage partners known.0)
       (placed-zip stages others (closed - 1) (rest_after rest (systems_of stage)) (rest_after left (systems_of partners))
-      (left-further same_one same_other renumber InUse one other time (systems_of stage) (systems_of partners) rest left is
-      (zip-systems (IsKnown same_one same_other renumber InUse one other) stage partners known.0)) known.1 zipped.1)
+      (left-further same_one same_other one other time (systems_of stage) (systems_of partners) rest left is
+      (zip-systems (IsKnown same_one same_other one other) stage partners known.0)) known.1 zipped.1)
     where
       by : (b : Bool) (way found : Option Way) → way ≡ found
           → ByStage S (placed same_one (closed - 1) one (rest_after rest (systems_of stage)) stages) (placed same_other (closed - 1) other (rest_after left (systems_of partners)) others)

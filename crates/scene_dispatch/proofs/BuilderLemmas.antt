@@ -8,13 +8,13 @@ use Rattle.shred_plan.specs.Plan.{fence, placing}
 use Rattle.scene_model.specs.Rulebook.{Facts}
 use Rattle.scene_model.specs.Scenes.{PlainSystem}
 use Rattle.scene_document.specs.Drafts.{DraftEntry, barrier, system}
-use Rattle.scene_document.specs.Openings.{with_facts}
 use Rattle.scene_world.specs.Standing.{Kinds}
 use Rattle.shred.specs.Names.{numbers_under, with_name}
 use Rattle.shred.specs.Building.{Building, Declared, nothing_built}
 use Rattle.shred.specs.Histories.{Asked, with_asked, built_from, told}
 use Rattle.shred.specs.Histories as asked
-use Rattle.scene_dispatch.specs.Entries.{systems_among, AreNamed, is_staged, is_staged_as, number_named, next_number, staged_list}
+use Rattle.scene_document.specs.Openings.{with_facts, is_staged, is_staged_as, number_named, next_number, staged_list}
+use Rattle.scene_dispatch.specs.Entries.{systems_among, AreNamed}
 use Rattle.scene_dispatch.specs.Told.{declared_of, told_at, told_from, told_entries}
 use Rattle.scene_dispatch.specs.Asked.{asked_at, asked_entries, asked_as}
 use Rattle.scene_dispatch.proofs.NumberLemmas.{staged_count, next-counted, further}

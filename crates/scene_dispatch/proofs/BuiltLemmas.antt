@@ -7,7 +7,7 @@ use Rattle.shred_world.specs.ResourceIds.{same_id}
 use Rattle.shred_plan.specs.Plan.{added, plan}
 use Rattle.scene_model.specs.Scenes.{PlainSystem}
 use Rattle.scene_document.specs.Drafts.{Draft, DraftEntry}
-use Rattle.scene_document.specs.Openings.{staged_systems, frames_of}
+use Rattle.scene_document.specs.Openings.{staged_list, staged_systems, frames_of}
 use Rattle.scene_world.specs.Standing.{Kinds}
 use Rattle.scene_world.specs.Lent.{StandApart}
 use Rattle.scene_world.specs.Chains.{plan_order, PlanIsLent, EachAt}
@@ -15,7 +15,8 @@ use Rattle.shred.specs.Building.{Building, nothing_built}
 use Rattle.shred.specs.Dispatchers.{Drafting, dispatcher_of}
 use Rattle.shred.specs.Histories.{Asked, with_asked, built_from, told}
 use Rattle.shred.specs.Histories as asked
-use Rattle.scene_dispatch.specs.Entries.{AreNamed, staged_list, nobody, meant_at}
+use Rattle.scene_dispatch.specs.Entries.{AreNamed, meant_at}
+use Rattle.scene_dispatch.specs.Orders.{nobody}
 use Rattle.scene_dispatch.specs.Told.{AllKnown, told_entries}
 use Rattle.scene_dispatch.specs.Asked.{IsBuiltOf, IsDraftedOf}
 use Rattle.scene_dispatch.proofs.BuilderLemmas.{builder-told, builder-systems}
@@ -52,9 +53,9 @@ module _ {V S : Type 0} (kinds : Kinds V) (plain : S → PlainSystem) where
     -- so its systems run in the order of the document, and then the local ones as they stand
     pub built-order : (frame : ℕ) → plan_order (meant_at draft.entries) (dispatcher_of drafting).staging.planning.stages ++ map plain_local (dispatcher_of drafting).locals ≡ (frames_of draft frame).order
     built-order frame =
-        ap (λ list. list ++ map plain_local drafting.locals) (ap (plan_order (meant_at draft.entries)) (built-plan same_id draft.entries drafting.building named is.building) ∙ staged-order kinds apart draft named known)
+        ap (λ list. list ++ map plain_local drafting.locals) (ap (plan_order (meant_at draft.entries)) (built-plan same_id draft.entries drafting.building named is.building) ∙ staged-order kinds apart draft known)
         ∙ ap (λ list. staged_systems draft ++ list) is.locals
 
     -- and each declares what it is lent
     pub built-lent : PlanIsLent kinds (meant_at draft.entries) (dispatcher_of drafting).staging.planning.stages
-    built-lent = subst (PlanIsLent kinds (meant_at draft.entries)) (sym (built-plan same_id draft.entries drafting.building named is.building)) (staged-lent kinds apart draft named known)
+    built-lent = subst (PlanIsLent kinds (meant_at draft.entries)) (sym (built-plan same_id draft.entries drafting.building named is.building)) (staged-lent kinds apart draft known)

@@ -12,7 +12,8 @@ use Rattle.scene_model.specs.Parts.{Name, is_among}
 use Rattle.scene_document.specs.Drafts.{DraftEntry, DraftSystem, barrier, system, system_of_entry}
 use Rattle.scene_document.proofs.CallerLemmas.{bytes_eq-symmetric}
 use Rattle.shred.specs.Names.{Named, number_under, numbers_under, with_name}
-use Rattle.scene_dispatch.specs.Entries.{systems_among, is_staged, number_named, next_number}
+use Rattle.scene_document.specs.Openings.{is_staged, number_named, next_number}
+use Rattle.scene_dispatch.specs.Entries.{systems_among}
 use Rattle.scene_dispatch.proofs.NumberLemmas.{staged_count}
 
 -- nothing else changes nothing

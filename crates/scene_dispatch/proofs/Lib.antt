@@ -11,7 +11,6 @@ pub mod BuildLemmas
 pub mod LawLemmas
 pub mod AloneLemmas
 pub mod ZipLemmas
-pub mod RestLemmas
 pub mod AlikeListLemmas
 pub mod ShapeLemmas
 pub mod NumberPlaceLemmas

@@ -1,7 +1,7 @@
 -- The order of a dispatcher's plan is that of the document's.
 use Rattle.std.proofs.Common.{◌≡◌, ℕ, List, [], ◌∷◌, ◌++◌, map, Option, Some, refl, ap, sym, ◌∙◌, subst, subst₂}
-use Rattle.std.specs.Prelude.{◌==◌}
-use Rattle.std.specs.List.{AllZip, AllByRecursion, filter_map, cons_option, find}
+use Rattle.std.specs.Prelude.{slice_get}
+use Rattle.std.specs.List.{AllZip, AllByRecursion, filter_map, cons_option}
 use Rattle.std.proofs.lemmas.List.{map-append}
 use Rattle.std.proofs.lemmas.List.Elements.{All-contains, All-from_recursion, recursion_from_All}
 use Rattle.shred_world.specs.declared.resource_id.ResourceId.{ResourceId}
@@ -10,18 +10,16 @@ use Rattle.shred_plan.specs.Plan.{Placing, Group, Stage, plan, systems_of}
 use Rattle.shred_plan.specs.Plan as planner
 use Rattle.scene_model.specs.Scenes.{PlainSystem}
 use Rattle.scene_document.specs.Drafts.{Draft, DraftEntry}
-use Rattle.scene_document.specs.Openings.{Resource, same_resource, all_systems, staged_systems}
+use Rattle.scene_document.specs.Openings.{Resource, same_resource, staged_list, staged_systems}
 use Rattle.scene_world.specs.Standing.{Kinds}
 use Rattle.scene_world.specs.Lent.{StandApart, IsLent, id_of_place, read_places, written_places}
 use Rattle.scene_world.proofs.CallerLemmas.{lent-ids}
 use Rattle.scene_world.specs.Chains.{group_order, stage_order, plan_order, GroupIsLent, StageIsLent, PlanIsLent}
-use Rattle.scene_dispatch.specs.Alike.{Beside, to_one, to_other, partners_of, IsRenumbered, AreAlike, ArePartners}
-use Rattle.scene_dispatch.specs.Entries.{systems_among, AreNamed, meant_at}
+use Rattle.scene_dispatch.specs.Alike.{Beside, to_one, to_other, partners_of, AreNumberedAlike, AreAlike, ArePartners}
+use Rattle.scene_dispatch.specs.Entries.{systems_among, meant_at}
 use Rattle.scene_dispatch.specs.Told.{FactsKnown, AllKnown, told_entries}
 use Rattle.scene_dispatch.proofs.ShapeLemmas.{zip-order, weaker-plan, one-shape}
 use Rattle.scene_dispatch.proofs.AlikeListLemmas.{ByGroup, ByStage}
-use Rattle.scene_dispatch.proofs.NumberLemmas.{number_at}
-use Rattle.scene_dispatch.proofs.NameLemmas.{named-fit}
 use Rattle.scene_dispatch.proofs.EntryLemmas.{each-weaker, beside_from, to-one, to-other, IsEntry, entries-told, entries-alike}
 
 -- what is meant by the systems of a plan in its order
@@ -74,12 +72,12 @@ module _ {V I : Type 0} (kinds : Kinds V) (at : ℕ → PlainSystem) where
 
 -- so it is of what both planners are told of an entry
 entry-lent : {V : Type 0} (kinds : Kinds V) → StandApart kinds → (all : List DraftEntry) (pair : Placing Resource × Placing ResourceId) → IsEntry kinds all 1 pair → LentAs kinds (meant_at all) pair.0 pair.1
-entry-lent kinds apart all pair entry =
+entry-lent kinds apart all pair (place, late, entry) =
     subst₂ (λ reads writes. IsLent kinds (meant_at all pair.1.number).access (meant_at all pair.1.number).position reads writes) (sym entry.declares.read_ids) (sym entry.declares.written_ids)
-    (subst₂ (λ access position. IsLent kinds access position (map (id_of_place kinds) (read_places entry.access)) (map (id_of_place kinds) (written_places entry.access pair.0.number))) (sym entry.declared) (sym entry.position)
-    (lent-ids kinds apart entry.access pair.0.number entry.known))
+    (subst₂ (λ access position. IsLent kinds access position (map (id_of_place kinds) (read_places entry.access)) (map (id_of_place kinds) (written_places entry.access place))) (sym entry.declared) (sym entry.position)
+    (lent-ids kinds apart entry.access place entry.known))
 
-module _ {V : Type 0} (kinds : Kinds V) (apart : StandApart kinds) (draft : Draft) (named : AreNamed draft.entries) (known : AllKnown kinds draft.entries) where
+module _ {V : Type 0} (kinds : Kinds V) (apart : StandApart kinds) (draft : Draft) (known : AllKnown kinds draft.entries) where
   -- what both planners are told
   abbrev told_both : List (Beside Resource ResourceId)
   told_both = beside_from kinds draft.entries 0 1 draft.entries
@@ -90,21 +88,21 @@ module _ {V : Type 0} (kinds : Kinds V) (apart : StandApart kinds) (draft : Draf
 
   -- each two partners are told of an entry
   entries : AllByRecursion (IsEntry kinds draft.entries 1) (partners_of told_both)
-  entries = entries-told kinds draft.entries named [] draft.entries 1 0 refl refl refl [] (named-fit draft.entries named) knows
+  entries = entries-told kinds draft.entries [] draft.entries 1 0 refl refl refl knows
 
   -- both planners are told alike
-  alike : AreAlike same_resource same_id (number_at draft.entries) told_both
+  alike : AreAlike same_resource same_id told_both
   alike = record {
-    renumbered = All-from_recursion (IsRenumbered (number_at draft.entries)) (partners_of told_both)
-        (each-weaker (IsEntry kinds draft.entries 1) (IsRenumbered (number_at draft.entries)) (λ pair entry. entry.renumbered) (partners_of told_both) entries);
-    agree = entries-alike kinds draft.entries named apart [] draft.entries 1 0 refl refl refl [] (named-fit draft.entries named) knows;
+    numbered = All-from_recursion AreNumberedAlike (partners_of told_both)
+        (each-weaker (IsEntry kinds draft.entries 1) AreNumberedAlike (λ pair entry. entry.2.numbered) (partners_of told_both) entries);
+    conflicts = entries-alike kinds draft.entries apart [] draft.entries 1 0 refl refl refl knows;
   }
 
-  -- the system of the document at a place
+  -- the staged system of the document under a number
   abbrev look : ℕ → Option PlainSystem
-  look place = find (λ one. one.position == place) (all_systems draft)
+  look number = slice_get (staged_list 1 draft.entries) number
 
-  -- each stands under its number where its partner does under its place
+  -- each is what is meant by its partner's number
   abbrev Found : Placing Resource → Placing ResourceId → Type 0
   Found one other = look one.number ≡ Some (meant_at draft.entries other.number)
 
@@ -118,14 +116,14 @@ module _ {V : Type 0} (kinds : Kinds V) (apart : StandApart kinds) (draft : Draf
       → ByStage R (plan same_resource (map to_one told_both)) (plan same_id (map to_other told_both))
   planned R holds =
       weaker-plan (ArePartners told_both) R (of-partners (λ pair. R pair.0 pair.1) holds) (plan same_resource (map to_one told_both)) (plan same_id (map to_other told_both))
-      (one-shape same_resource same_id (number_at draft.entries) told_both alike)
+      (one-shape same_resource same_id told_both alike)
 
-  -- what is meant by the numbers in the order of the one plan is what is found at the places in the order of the other
+  -- what is meant by the numbers in the order of the one plan is what is found under those in the order of the other
   both-ordered : plan_order (meant_at draft.entries) (plan same_id (map to_other told_both)) ≡ filter_map look (map (λ one. one.number) (planner.plan_order (plan same_resource (map to_one told_both))))
   both-ordered =
       plan-meant (meant_at draft.entries) (plan same_id (map to_other told_both))
       ∙ zip-found look (meant_at draft.entries) (planner.plan_order (plan same_resource (map to_one told_both))) (planner.plan_order (plan same_id (map to_other told_both)))
-      (zip-order Found (plan same_resource (map to_one told_both)) (plan same_id (map to_other told_both)) (planned Found (λ pair entry. entry.found)))
+      (zip-order Found (plan same_resource (map to_one told_both)) (plan same_id (map to_other told_both)) (planned Found (λ pair entry. entry.2.found)))
 
   -- the systems that a dispatcher runs, in the order of its plan, are the document's staged systems
   pub staged-order : plan_order (meant_at draft.entries) (plan same_id (told_entries kinds draft.entries)) ≡ staged_systems draft

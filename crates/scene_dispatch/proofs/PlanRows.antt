@@ -79,21 +79,21 @@ abbrev numbers : {Id : Type 0} → Added Id → Option (ℕ × List ℕ)
 numbers fence = None
 numbers (placing one) = Some (one.number, one.after)
 
--- the document is planned by places
-by_places : map numbers (staged small.entries 1 small.entries) ≡ Some (1, []) ∷ Some (3, []) ∷ Some (4, []) ∷ None ∷ Some (6, 3 ∷ []) ∷ []
-by_places = refl
+-- the numbers of the document
+document_numbers : map numbers (staged small.entries 0 small.entries) ≡ Some (0, []) ∷ Some (1, []) ∷ Some (2, []) ∷ None ∷ Some (3, 1 ∷ []) ∷ []
+document_numbers = refl
 
--- the dispatcher by numbers
-by_numbers : map numbers (told_entries kinds small.entries) ≡ Some (0, []) ∷ Some (1, []) ∷ Some (2, []) ∷ None ∷ Some (3, 1 ∷ []) ∷ []
-by_numbers = refl
+-- and those of the dispatcher
+dispatched_numbers : map numbers (told_entries kinds small.entries) ≡ Some (0, []) ∷ Some (1, []) ∷ Some (2, []) ∷ None ∷ Some (3, 1 ∷ []) ∷ []
+dispatched_numbers = refl
 
 -- in both plans the short one runs beside the first of the long
-order_of_places : order same_resource (staged small.entries 1 small.entries) ≡ 1 ∷ 4 ∷ 3 ∷ 6 ∷ []
-order_of_places = refl
+document_order : order same_resource (staged small.entries 0 small.entries) ≡ 0 ∷ 2 ∷ 1 ∷ 3 ∷ []
+document_order = refl
 
--- so it is by numbers
-order_of_numbers : order same_id (told_entries kinds small.entries) ≡ 0 ∷ 2 ∷ 1 ∷ 3 ∷ []
-order_of_numbers = refl
+-- so it is by ids
+dispatched_order : order same_id (told_entries kinds small.entries) ≡ 0 ∷ 2 ∷ 1 ∷ 3 ∷ []
+dispatched_order = refl
 
 -- and so the systems run in the order of the document
 positions : map (λ (one : PlainSystem). one.position) (plan_order (meant_at small.entries) (plan same_id (told_entries kinds small.entries))) ≡ 1 ∷ 4 ∷ 3 ∷ 6 ∷ []

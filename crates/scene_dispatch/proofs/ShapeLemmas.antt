@@ -1,9 +1,9 @@
 -- Planners that are told alike make plans of one shape.
-use Rattle.std.proofs.Common.{◌≡◌, ℕ, zero, suc, Bool, List, [], ◌∷◌, length, map, refl, ap, ◌∙◌, subst, arith}
-use Rattle.std.specs.List.{All, AllPairs, AllZip, Contains, fold}
-use Rattle.std.proofs.lemmas.List.Elements.{All-head, All-tail, All-contains, All-contains_itself, recursion_from_All}
+use Rattle.std.proofs.Common.{◌≡◌, zero, suc, Bool, List, [], ◌∷◌, length, map, refl, ap, sym, ◌∙◌, subst, arith}
+use Rattle.std.specs.List.{All, AllPairs, AllZip, fold}
+use Rattle.std.proofs.lemmas.List.Elements.{All-head, All-tail, All-contains_itself}
 use Rattle.shred_plan.specs.Plan.{Placing, Stage, Planning, added, placed, plan, plan_order, systems_of, order}
-use Rattle.scene_dispatch.specs.Alike.{Beside, fences, both, to_one, to_other, partners_of, IsRenumbered, Agree, AreAlike, ArePartners, HaveOneShape}
+use Rattle.scene_dispatch.specs.Alike.{Beside, fences, both, to_one, to_other, partners_of, AreNumberedAlike, ConflictAlike, AreAlike, ArePartners, HaveOneShape}
 use Rattle.scene_dispatch.proofs.ZipLemmas.{zip-weaker, zip-append, zip-length}
 use Rattle.scene_dispatch.proofs.AlikeListLemmas.{ByGroup, ByStage, zip-systems, IsKnown, placed-zip}
 
@@ -19,79 +19,75 @@ pub weaker-plan : {I J : Type 0} (R S : Placing I → Placing J → Type 0) → 
     → (stages : List (Stage I)) (others : List (Stage J)) → ByStage R stages others → ByStage S stages others
 weaker-plan R S weaker = zip-weaker (ByGroup R) (ByGroup S) (zip-weaker (AllZip R) (AllZip S) (zip-weaker R S weaker))
 
--- the numbers of partners are renumbered
-zip-numbers : {I J : Type 0} (R : Placing I → Placing J → Type 0) (renumber : ℕ → ℕ) → ((one : Placing I) (other : Placing J) → R one other → other.number ≡ renumber one.number)
-    → (systems : List (Placing I)) (others : List (Placing J)) → AllZip R systems others → map (λ system. system.number) others ≡ map renumber (map (λ system. system.number) systems)
-zip-numbers R renumber known [] [] zipped = refl
-zip-numbers R renumber known [] (other ∷ others) zipped = absurd zipped
-zip-numbers R renumber known (one ∷ systems) [] zipped = absurd zipped
-zip-numbers R renumber known (one ∷ systems) (other ∷ others) zipped =
+-- the numbers of partners are the same
+zip-numbers : {I J : Type 0} (R : Placing I → Placing J → Type 0) → ((one : Placing I) (other : Placing J) → R one other → other.number ≡ one.number)
+    → (systems : List (Placing I)) (others : List (Placing J)) → AllZip R systems others → map (λ system. system.number) others ≡ map (λ system. system.number) systems
+zip-numbers R known [] [] zipped = refl
+zip-numbers R known [] (other ∷ others) zipped = absurd zipped
+zip-numbers R known (one ∷ systems) [] zipped = absurd zipped
+zip-numbers R known (one ∷ systems) (other ∷ others) zipped =
     ap (λ number. number ∷ map (λ system. system.number) others) (known one other zipped.0)
-    ∙ ap (λ numbers. renumber one.number ∷ numbers) (zip-numbers R renumber known systems others zipped.1)
+    ∙ ap (λ numbers. one.number ∷ numbers) (zip-numbers R known systems others zipped.1)
 
--- a system that is placed, and its partner: they agree with each pair that is told later
-record Stands {I J : Type 0} (same_one : I → I → Bool) (same_other : J → J → Bool) (renumber : ℕ → ℕ) (Inside : Placing I → Placing J → Type 0) (later : List (Placing I × Placing J)) (one : Placing I) (other : Placing J) : Type 0 where
+-- a system that is placed, and its partner: each pair that is told later conflicts with them alike
+record Stands {I J : Type 0} (same_one : I → I → Bool) (same_other : J → J → Bool) (Inside : Placing I → Placing J → Type 0) (later : List (Placing I × Placing J)) (one : Placing I) (other : Placing J) : Type 0 where
   inside : Inside one other
-  renumbered : IsRenumbered renumber (one, other)
-  agree : All (Agree same_one same_other renumber (one, other)) later
+  numbered : AreNumberedAlike (one, other)
+  conflicts : All (ConflictAlike same_one same_other (one, other)) later
 
-module _ {I J : Type 0} (same_one : I → I → Bool) (same_other : J → J → Bool) (renumber : ℕ → ℕ) (Inside : Placing I → Placing J → Type 0) where
+module _ {I J : Type 0} (same_one : I → I → Bool) (same_other : J → J → Bool) (Inside : Placing I → Placing J → Type 0) where
   -- that of one system and its partner
   abbrev StandsBefore : List (Placing I × Placing J) → Placing I → Placing J → Type 0
-  StandsBefore later one other = Stands same_one same_other renumber Inside later one other
+  StandsBefore later one other = Stands same_one same_other Inside later one other
 
   -- one pair less is told later
   fewer : (pair : Placing I × Placing J) (later : List (Placing I × Placing J)) (one : Placing I) (other : Placing J) → StandsBefore (pair ∷ later) one other → StandsBefore later one other
-  fewer pair later one other stands = record { inside = stands.inside; renumbered = stands.renumbered; agree = All-tail (Agree same_one same_other renumber (one, other)) pair later stands.agree }
+  fewer pair later one other stands = record { inside = stands.inside; numbered = stands.numbered; conflicts = All-tail (ConflictAlike same_one same_other (one, other)) pair later stands.conflicts }
 
   -- what is known where the next pair is placed
-  known-next : (next : Placing I) (partner : Placing J) (later : List (Placing I × Placing J)) (one : Placing I) (other : Placing J) → StandsBefore ((next, partner) ∷ later) one other
-      → IsKnown same_one same_other renumber (Contains next.after) next partner one other
-  known-next next partner later one other stands =
-      let agree : Agree same_one same_other renumber (one, other) (next, partner) = All-head (Agree same_one same_other renumber (one, other)) (next, partner) later stands.agree in
-      record {
-        renumbered = stands.renumbered;
-        conflicts = agree.conflicts;
-        apart = λ number used. All-contains (λ number. renumber number ≡ renumber one.number → number ≡ one.number) next.after number agree.waits used;
-      }
+  known-next : (next : Placing I) (partner : Placing J) (later : List (Placing I × Placing J)) (one : Placing I) (other : Placing J) → StandsBefore ((next, partner) ∷ later) one other → IsKnown same_one same_other next partner one other
+  known-next next partner later one other stands = record {
+    numbered = stands.numbered;
+    conflicts = All-head (ConflictAlike same_one same_other (one, other)) (next, partner) later stands.conflicts;
+  }
 
   -- whatever is told, each system stands where its partner does
-  folded : (list : List (Beside I J)) → All (λ pair. Inside pair.0 pair.1) (partners_of list) → All (IsRenumbered renumber) (partners_of list) → AllPairs (Agree same_one same_other renumber) (partners_of list)
+  folded : (list : List (Beside I J)) → All (λ pair. Inside pair.0 pair.1) (partners_of list) → All AreNumberedAlike (partners_of list) → AllPairs (ConflictAlike same_one same_other) (partners_of list)
       → (one : Planning I) (other : Planning J) → one.first ≡ other.first → ByStage (StandsBefore (partners_of list)) one.stages other.stages
       → ByStage (StandsBefore []) (fold (added same_one) one (map to_one list)).stages (fold (added same_other) other (map to_other list)).stages
-  folded [] inside renumbered agree one other first stand = stand
-  folded (fences ∷ list) inside renumbered agree one other first stand =
-      folded list inside renumbered agree (record { first = length one.stages; stages = one.stages }) (record { first = length other.stages; stages = other.stages })
+  folded [] inside numbered conflicts one other first stand = stand
+  folded (fences ∷ list) inside numbered conflicts one other first stand =
+      folded list inside numbered conflicts (record { first = length one.stages; stages = one.stages }) (record { first = length other.stages; stages = other.stages })
       (zip-length (ByGroup (StandsBefore (partners_of list))) one.stages other.stages stand) stand
-  folded (both next partner ∷ list) inside renumbered agree one other first stand =
+  folded (both next partner ∷ list) inside numbered conflicts one other first stand =
       let later : List (Placing I × Placing J) = partners_of list in
-      let new : IsRenumbered renumber (next, partner) = All-head (IsRenumbered renumber) (next, partner) later renumbered in
+      let new : AreNumberedAlike (next, partner) = All-head AreNumberedAlike (next, partner) later numbered in
       folded list
       (All-tail (λ pair. Inside pair.0 pair.1) (next, partner) later inside)
-      (All-tail (IsRenumbered renumber) (next, partner) later renumbered)
-      (λ i j d lt within. agree (suc i) (suc j) d (omega arith) (omega arith))
+      (All-tail AreNumberedAlike (next, partner) later numbered)
+      (λ i j d lt within. conflicts (suc i) (suc j) d (omega arith) (omega arith))
       (record { first = one.first; stages = placed same_one one.first next next.after one.stages }) (record { first = other.first; stages = placed same_other other.first partner partner.after other.stages })
       first
       (subst (λ closed. ByStage (StandsBefore later) (placed same_one one.first next next.after one.stages) (placed same_other closed partner partner.after other.stages)) first
-      (placed-zip same_one same_other renumber (Contains next.after) (StandsBefore later) next partner new.time
-      (record { inside = All-head (λ pair. Inside pair.0 pair.1) (next, partner) later inside; renumbered = new; agree = λ k d within. agree zero (suc k) d (omega arith) (omega arith) })
-      one.stages other.stages one.first next.after partner.after (new.after, recursion_from_All (Contains next.after) next.after (All-contains_itself next.after))
-      (weaker-plan (StandsBefore ((next, partner) ∷ later)) (IsKnown same_one same_other renumber (Contains next.after) next partner) (known-next next partner later) one.stages other.stages stand)
+      (placed-zip same_one same_other (StandsBefore later) next partner new.time
+      (record { inside = All-head (λ pair. Inside pair.0 pair.1) (next, partner) later inside; numbered = new; conflicts = λ k d within. conflicts zero (suc k) d (omega arith) (omega arith) })
+      one.stages other.stages one.first next.after partner.after (sym new.after)
+      (weaker-plan (StandsBefore ((next, partner) ∷ later)) (IsKnown same_one same_other next partner) (known-next next partner later) one.stages other.stages stand)
       (weaker-plan (StandsBefore ((next, partner) ∷ later)) (StandsBefore later) (fewer (next, partner) later) one.stages other.stages stand)))
 
-module _ {I J : Type 0} (same_one : I → I → Bool) (same_other : J → J → Bool) (renumber : ℕ → ℕ) (list : List (Beside I J)) (alike : AreAlike same_one same_other renumber list) where
-  -- each system of the one plan stands where its partner does, and is renumbered as it
-  planned : ByStage (Stands same_one same_other renumber (ArePartners list) []) (plan same_one (map to_one list)) (plan same_other (map to_other list))
+module _ {I J : Type 0} (same_one : I → I → Bool) (same_other : J → J → Bool) (list : List (Beside I J)) (alike : AreAlike same_one same_other list) where
+  -- each system of the one plan stands where its partner does, and they are numbered alike
+  planned : ByStage (Stands same_one same_other (ArePartners list) []) (plan same_one (map to_one list)) (plan same_other (map to_other list))
   planned =
-      folded same_one same_other renumber (ArePartners list) list (All-contains_itself (partners_of list)) alike.renumbered alike.agree
+      folded same_one same_other (ArePartners list) list (All-contains_itself (partners_of list)) alike.numbered alike.conflicts
       (record { first = 0; stages = [] }) (record { first = 0; stages = [] }) refl tt
 
   -- so the plans have one shape
   pub one-shape : HaveOneShape list (plan same_one (map to_one list)) (plan same_other (map to_other list))
-  one-shape = weaker-plan (Stands same_one same_other renumber (ArePartners list) []) (ArePartners list) (λ one other stands. stands.inside) (plan same_one (map to_one list)) (plan same_other (map to_other list)) planned
+  one-shape = weaker-plan (Stands same_one same_other (ArePartners list) []) (ArePartners list) (λ one other stands. stands.inside) (plan same_one (map to_one list)) (plan same_other (map to_other list)) planned
 
   -- and the numbers one order
-  pub one-order : order same_other (map to_other list) ≡ map renumber (order same_one (map to_one list))
+  pub one-order : order same_other (map to_other list) ≡ order same_one (map to_one list)
   one-order =
-      zip-numbers (Stands same_one same_other renumber (ArePartners list) []) renumber (λ one other stands. stands.renumbered.number) _ _
-      (zip-order (Stands same_one same_other renumber (ArePartners list) []) (plan same_one (map to_one list)) (plan same_other (map to_other list)) planned)
+      zip-numbers (Stands same_one same_other (ArePartners list) []) (λ one other stands. stands.numbered.number) _ _
+      (zip-order (Stands same_one same_other (ArePartners list) []) (plan same_one (map to_one list)) (plan same_other (map to_other list)) planned)

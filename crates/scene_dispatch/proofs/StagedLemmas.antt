@@ -20,12 +20,12 @@ use Rattle.scene_document.specs.declared.draft.MadeDraft.{MadeDraft}
 use Rattle.scene_document.specs.Drafts.{Draft, DraftEntry, DraftSystem, barrier, system, system_of_entry}
 use Rattle.scene_document.specs.DraftViews.{seen, config_seen, facts_of, plain_draft, IsMadeAs, IsMadeOf, IsMadeBy, IsMadeIfKnown, EntryIsMade, AreMade}
 use Rattle.scene_document.specs.DraftViews.{plain_system as plain_of_draft, IsOfBook as IsSaidBy}
-use Rattle.scene_document.specs.Openings.{frames_of}
+use Rattle.scene_document.specs.Openings.{staged_list, frames_of}
 use Rattle.scene_world.specs.Standing.{Kinds}
 use Rattle.scene_world.specs.Lent.{StandApart, id_of_place, read_places, written_places}
 use Rattle.scene_world.specs.Turns.{Meaning, Sense, meaning_of, placed_as, IsOfBook}
 use Rattle.scene_world.specs.Chains.{plan_order}
-use Rattle.scene_dispatch.specs.Entries.{plain_system, meant_at, staged_list, AreNamed}
+use Rattle.scene_dispatch.specs.Entries.{plain_system, meant_at, AreNamed}
 use Rattle.scene_dispatch.specs.Told.{FactsKnown, AllKnown, declared_of}
 use Rattle.scene_dispatch.proofs.StepLemmas.{none-drafted, barrier-drafted, system-drafted, local-drafted}
 use Rattle.scene_dispatch.proofs.DocumentLemmas.{document-named, document-few, document-described}

@@ -7,13 +7,13 @@ use Rattle.scene_model.specs.Parts.{Name}
 use Rattle.scene_model.specs.Rulebook.{Facts}
 use Rattle.scene_model.specs.Scenes.{PlainSystem}
 use Rattle.scene_document.specs.Drafts.{DraftEntry, DraftSystem, barrier, system}
-use Rattle.scene_document.specs.Openings.{with_facts}
+use Rattle.scene_document.specs.Openings.{with_facts, is_staged, is_staged_as, local_list}
 use Rattle.scene_world.specs.Standing.{Kinds}
 use Rattle.shred.specs.Building.{Building, Declared, nothing_built, built_with, fenced}
 use Rattle.shred.specs.Dispatchers.{Drafting, with_building}
 use Rattle.shred.specs.Histories.{Asked, with_asked, built_from}
 use Rattle.shred.specs.Histories as asked
-use Rattle.scene_dispatch.specs.Entries.{is_staged, is_staged_as, plain_system, local_list}
+use Rattle.scene_dispatch.specs.Entries.{plain_system}
 use Rattle.scene_dispatch.specs.Told.{declared_of}
 use Rattle.scene_dispatch.specs.Asked.{asked_at, asked_entries, asked_as, IsBuiltOf, IsDraftedOf}
 use Rattle.scene_dispatch.proofs.FoundLemmas.{systems-append}

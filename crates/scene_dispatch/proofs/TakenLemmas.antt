@@ -21,7 +21,8 @@ use Rattle.shred.specs.Names.{Named, number_under, lacks_one, with_name}
 use Rattle.shred.specs.Building.{Building, nothing_built, refusal}
 use Rattle.shred.specs.Histories.{Asked, with_asked, built_from}
 use Rattle.shred.specs.Histories as asked
-use Rattle.scene_dispatch.specs.Entries.{systems_among, AreNamed, is_staged, is_staged_as, number_named, next_number, plain_system}
+use Rattle.scene_document.specs.Openings.{is_staged, is_staged_as, number_named, next_number}
+use Rattle.scene_dispatch.specs.Entries.{systems_among, AreNamed, plain_system}
 use Rattle.scene_dispatch.specs.Told.{declared_of}
 use Rattle.scene_dispatch.specs.Asked.{asked_at, asked_entries, asked_as, IsBuiltOf}
 use Rattle.scene_dispatch.proofs.NumberLemmas.{staged_count, count-more}

@@ -1,5 +1,5 @@
 -- What two planners are told side by side, and plans that have one shape.
-use Rattle.std.specs.Prelude.{◌≡◌, ℕ, Bool, List, [], ◌∷◌, map}
+use Rattle.std.specs.Prelude.{◌≡◌, Bool, List, [], ◌∷◌}
 use Rattle.std.specs.List.{All, AllPairs, AllZip, Contains}
 use Rattle.shred_plan.specs.Plan.{Placing, Stage, Added, fence, placing, conflict}
 
@@ -23,25 +23,21 @@ partners_of [] = []
 partners_of (fences ∷ later) = partners_of later
 partners_of (both one other ∷ later) = (one, other) ∷ partners_of later
 
--- the other of two partners has the number of the one, and comes after the numbers that the one comes after, under a
--- renumbering; and it takes as long
-pub record IsRenumbered {I J : Type 0} (renumber : ℕ → ℕ) (pair : Placing I × Placing J) : Type 0 where
-  pub number : pair.1.number ≡ renumber pair.0.number
-  pub after : pair.1.after ≡ map renumber pair.0.after
+-- two partners have one number, come after the same numbers, and take as long
+pub record AreNumberedAlike {I J : Type 0} (pair : Placing I × Placing J) : Type 0 where
+  pub number : pair.1.number ≡ pair.0.number
+  pub after : pair.1.after ≡ pair.0.after
   pub time : pair.1.time ≡ pair.0.time
 
-module _ {I J : Type 0} (same_one : I → I → Bool) (same_other : J → J → Bool) (renumber : ℕ → ℕ) where
-  -- the later of two pairs of partners is to the earlier in the one plan what it is in the other: the ones conflict
-  -- just where the others do, and of the numbers that the later comes after the renumbering takes only the earlier's
-  -- own to the earlier's
-  pub record Agree (earlier later : Placing I × Placing J) : Type 0 where
-    pub conflicts : conflict same_one later.0 earlier.0 ≡ conflict same_other later.1 earlier.1
-    pub waits : All (λ number. renumber number ≡ renumber earlier.0.number → number ≡ earlier.0.number) later.0.after
+module _ {I J : Type 0} (same_one : I → I → Bool) (same_other : J → J → Bool) where
+  -- the later of two pairs of partners conflicts with the earlier in the one plan just where it does in the other
+  abbrev pub ConflictAlike : (earlier later : Placing I × Placing J) → Type 0
+  ConflictAlike earlier later = conflict same_one later.0 earlier.0 ≡ conflict same_other later.1 earlier.1
 
   -- two planners are told alike
   pub record AreAlike (list : List (Beside I J)) : Type 0 where
-    pub renumbered : All (IsRenumbered renumber) (partners_of list)
-    pub agree : AllPairs Agree (partners_of list)
+    pub numbered : All AreNumberedAlike (partners_of list)
+    pub conflicts : AllPairs ConflictAlike (partners_of list)
 
 -- two systems are partners of a list
 abbrev pub ArePartners : {I J : Type 0} → List (Beside I J) → Placing I → Placing J → Type 0

@@ -10,7 +10,8 @@ use Rattle.shred.specs.Building.{Building, Declared, nothing_built, built_with, 
 use Rattle.shred.specs.Dispatchers.{Drafting, with_building}
 use Rattle.shred.specs.Histories.{Asked, built_from}
 use Rattle.shred.specs.Histories as asked
-use Rattle.scene_dispatch.specs.Entries.{plain_system, local_list}
+use Rattle.scene_document.specs.Openings.{local_list}
+use Rattle.scene_dispatch.specs.Entries.{plain_system}
 use Rattle.scene_dispatch.specs.Told.{declared_of}
 
 -- what is asked, by what a system is for a document

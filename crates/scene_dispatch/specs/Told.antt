@@ -8,7 +8,8 @@ use Rattle.scene_document.specs.Drafts.{DraftEntry, DraftSystem, barrier, system
 use Rattle.scene_world.specs.Standing.{Kinds}
 use Rattle.scene_world.specs.Lent.{AreKnown, id_of_place, read_places, written_places}
 use Rattle.shred.specs.Building.{Declared}
-use Rattle.scene_dispatch.specs.Entries.{systems_among, number_named, next_number}
+use Rattle.scene_document.specs.Openings.{number_named, next_number}
+use Rattle.scene_dispatch.specs.Entries.{systems_among}
 
 module _ {V : Type 0} (kinds : Kinds V) where
   -- the rules know what each system of a known kind declares

@@ -17,12 +17,12 @@ ghost use Rattle.scene_model.specs.Rulebook.{Access};
 ghost use Rattle.scene_model.specs.Scenes.{PlainSystem};
 ghost use Rattle.scene_document.specs.Drafts.{Draft, DraftEntry, DraftSystem, barrier, system};
 ghost use Rattle.scene_document.specs.Documents.{document_from};
-ghost use Rattle.scene_document.specs.Openings.{Resource, same_resource, staged_systems, frames_of};
+ghost use Rattle.scene_document.specs.Openings.{Resource, same_resource, staged_list, staged_systems, frames_of};
 ghost use Rattle.scene_world.specs.Standing.{Kinds};
 ghost use Rattle.scene_world.specs.Lent.{StandApart, AreKnown};
 ghost use Rattle.scene_dispatch.specs.Alike.{Beside, AreAlike, HaveOneShape, to_one, to_other};
 ghost use Rattle.scene_dispatch.specs.Declaring.{DeclareOne};
-ghost use Rattle.scene_dispatch.specs.Entries.{AreNamed, IsSaid, systems_among, staged_list, meant_at};
+ghost use Rattle.scene_dispatch.specs.Entries.{AreNamed, IsSaid, systems_among, meant_at};
 ghost use Rattle.scene_dispatch.specs.Told.{AllKnown, told_entries};
 ghost use Rattle.scene_dispatch.specs.Asked.{asked_entries, asked_as, IsDraftedOf};
 ghost use Rattle.scene_dispatch.specs.Asked.{GoesOnToBarriers, GoesOnToStaged, GoesOnToLocals};
@@ -50,13 +50,12 @@ where
 {}
 
 /// Two planners that are told alike, whatever their ids are, make plans of one shape: stage for stage and group for
-/// group the partner of each system stands at the system's place. So the order of the one's numbers is that of the
-/// other's, under the renumbering.
+/// group the partner of each system stands at the system's place. So both have one order.
 pub fn alike_lists_have_alike_plans<K: PartialEq + Drop, L: PartialEq + Drop>()
-    ensures shape { (renumber : ℕ → ℕ) (list : List (Beside K L)) → AreAlike K.eq L.eq renumber list
+    ensures shape { (list : List (Beside K L)) → AreAlike K.eq L.eq list
         → HaveOneShape list (plan K.eq (map to_one list)) (plan L.eq (map to_other list)) }
-    ensures order { (renumber : ℕ → ℕ) (list : List (Beside K L)) → AreAlike K.eq L.eq renumber list
-        → order L.eq (map to_other list) ≡ map renumber (order K.eq (map to_one list)) }
+    ensures order { (list : List (Beside K L)) → AreAlike K.eq L.eq list
+        → order L.eq (map to_other list) ≡ order K.eq (map to_one list) }
 {}
 
 /// Where no two values of a scene stand under one id, systems at different positions that declare what the rules know
@@ -72,11 +71,10 @@ pub fn systems_conflict_by_what_they_declare<V>()
 /// declares what it is lent.
 pub fn the_order_is_the_documents<V>()
     ensures order { (kinds : Kinds V) (draft : Draft) → StandApart kinds → AllKnown kinds draft.entries
-        → AreNamed draft.entries
         → plan_order (meant_at draft.entries) (plan ⟦<ResourceId as PartialEq>⟧.eq (told_entries kinds draft.entries))
         ≡ staged_systems draft }
     ensures lent { (kinds : Kinds V) (draft : Draft) → StandApart kinds → AllKnown kinds draft.entries
-        → AreNamed draft.entries → PlanIsLent kinds (meant_at draft.entries)
+        → PlanIsLent kinds (meant_at draft.entries)
         (plan ⟦<ResourceId as PartialEq>⟧.eq (told_entries kinds draft.entries)) }
 {}
 

@@ -45,13 +45,8 @@ where
     ensures workers { IfOk result (λ dispatcher. dispatcher.workers ≡ workers) }
 {
     let mut builder = SceneDispatcherBuilder::new(alloc, workers);
-    match add_entries(rules, &mut builder, entries) {
-        Ok(()) => Ok(builder.build()),
-        Err(error) => {
-            drop(builder);
-            Err(error)
-        }
-    }
+    add_entries(rules, &mut builder, entries)?;
+    Ok(builder.build())
 }
 
 /// Adds entries to a builder that has none. Errors: want of memory.
@@ -136,10 +131,9 @@ where
       workers = builder.old.workers;
     }) }
 {
-    match builder.add_local(place, made.system) {
-        Ok(()) => Ok(()),
-        Err(_) => Err(AllocError),
-    }
+    builder
+        .add_local(place, made.system)
+        .map_err(|_| AllocError)
 }
 
 /// Adds a made system as a staged one at a place, under a name, after those of some names.
@@ -158,8 +152,8 @@ where
     ensures { OnOk result (builder.new ≡ with_placed ⟦<ResourceId as PartialEq>⟧.eq ⟦<Placed<R> as System<R::Value>>⟧.read_list ⟦<Placed<R> as System<R::Value>>⟧.write_list builder.old (record
         { position = place; system = made.system }) (R.said_time made.system) name.now (texts after.now)) }
 {
-    match builder.add(place, made.system, name, after) {
-        Ok(_) => Ok(()),
-        Err(_) => Err(AllocError),
-    }
+    builder
+        .add(place, made.system, name, after)
+        .map_err(|_| AllocError)?;
+    Ok(())
 }

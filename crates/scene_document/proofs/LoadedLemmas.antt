@@ -2,7 +2,7 @@
 use Rattle.scene_model.specs.declared.refusals.DocRefusal.TheVariants.{NotWhole}
 use Rattle.scene_model.specs.declared.refusals.DocRefusal.{DocRefusal}
 use Rattle.serde_json.specs.Written.{has_float}
-use Rattle.std.proofs.Common.{◌≡◌, ℕ, zero, suc, ◌<◌, ◌≤◌, Bool, true, false, not, cond, eqb, ltb, List, [], ◌∷◌, map, length, Option, Some, None, AllPairs, option_map, slice_get, vec_len, refl, ap, sym, subst, ◌∙◌, arith, Result, Ok, Err}
+use Rattle.std.proofs.Common.{◌≡◌, ℕ, zero, suc, ◌<◌, ◌≤◌, Bool, true, false, not, cond, eqb, ltb, List, [], ◌∷◌, map, length, Option, Some, None, is_none, AllPairs, option_map, slice_get, vec_len, refl, ap, sym, subst, ◌∙◌, arith, Result, Ok, Err}
 use Rattle.std.specs.List.{All, list_any, filter_map, cons_option}
 use Rattle.std.specs.Global.{Vec}
 use Rattle.std.specs.Ordering.{nat_cmp}
@@ -20,19 +20,21 @@ use Rattle.scene_document.specs.declared.draft.EntityDraft.{EntityDraft}
 use Rattle.scene_document.specs.declared.draft.CommandDraft.{CommandDraft}
 use Rattle.scene_document.specs.declared.draft.DocumentDraft.{DocumentDraft}
 use Rattle.scene_model.specs.declared.command.Command.{Command}
-use Rattle.scene_model.specs.Parts.{Json, Name, Ref, living, gone, Part, name_at}
-use Rattle.scene_model.specs.Rulebook.{Book, Facts}
+use Rattle.scene_model.specs.Parts.{Json, Name, Ref, living, gone, Part, is_among, name_at}
+use Rattle.scene_model.specs.Rulebook.{Book}
+use Rattle.scene_model.specs.Stores.{store_named}
 use Rattle.scene_model.specs.Rulebook as plain
 use Rattle.scene_model.specs.Queues.{plain_commands}
 use Rattle.scene_model.specs.Scenes.{lives, RefLives, RefsLive, PartsAdmitted, GlobalsReadable}
 use Rattle.scene_model.specs.Commands.{ref_lives}
 use Rattle.scene_model.specs.Lawful.{IsKnownPart, IsLawful}
-use Rattle.scene_document.specs.Drafts.{Draft, DraftPart, DraftEntity, DraftCommand, spawn, kill, put, take, draft_from}
+use Rattle.scene_document.specs.Drafts.{Draft, DraftPart, DraftEntity, DraftCommand, spawn, kill, put, take, draft_from, stores}
 use Rattle.scene_document.specs.Documents.{listed_ids, systems_of, has_unknown_kind, has_double, has_id_past_next, dangles, part_dangles, has_unknown_system, has_taken_name, has_unknown_dependency, lacks_global, writes_reserved, refusal_of, document_from, of_shape, unless_refused}
 use Rattle.scene_document.specs.DraftViews.{named, plain_entity, plain_draft, plain_asked, plain_list, IsAdmitted, IsReadable, IsDraft, IsKnownDraft, Differ, AreApart, IsLawfulDraft}
 use Rattle.scene_model.specs.Ids.{ascending}
 use Rattle.scene_document.specs.Openings.{part_in, part_among, global_among, command_of, commands_in}
 use Rattle.scene_document.specs.Loading.{commands_found}
+use Rattle.scene_document.proofs.RefusalLemmas.{unknown-store}
 
 -- a fact holds of what a document gives, where it is known
 abbrev Holds : (Name → Part → Type 0) → DraftPart → Type 0
@@ -247,3 +249,19 @@ few-entries part_of global_of kind_of config_of book indices plain draft is e =
   where
     not_more : (count : ℕ) → ltb 4096 count ≡ false → count ≤ 4096
     not_more count few = grind (arith, nat_tests)
+
+-- the store of a document against which no refusal stands is one of the four
+pub store-known : (indices : ℕ) (plain : Draft) → refusal_of indices plain ≡ None → is_none (store_named plain.store) ≡ false
+store-known indices plain e =
+    let a = (passed_over (has_unknown_kind plain) _ _ e).1 in
+    let b = (passed_over (has_double (listed_ids plain)) _ _ a).1 in
+    let d = (passed_over (has_id_past_next plain) _ _ b).1 in
+    let f = (passed_over (dangles plain) _ _ d).1 in
+    let g = (passed_over (has_unknown_system plain) _ _ f).1 in
+    let h = (passed_over (has_taken_name (systems_of plain)) _ _ g).1 in
+    let i = (passed_over (has_unknown_dependency [] (systems_of plain)) _ _ h).1 in
+    let j = (passed_over (lacks_global plain) _ _ i).1 in
+    let k = (passed_over (writes_reserved plain) _ _ j).1 in
+    let l = (passed_over (ltb 64 plain.workers) _ _ k).1 in
+    let m = (passed_over (ltb 4096 (length plain.entries)) _ _ l).1 in
+    sym (unknown-store plain.store) ∙ (passed_over (not (is_among plain.store stores)) _ _ m).0

@@ -1,5 +1,5 @@
 -- Lemmas on the tests of a document.
-use Rattle.std.proofs.Common.{◌≡◌, ℕ, ◌<◌, Bool, true, false, not, cond, ltb, ◌||◌, ◌&&◌, List, [], ◌∷◌, ◌++◌, map, length, get_or, Option, Some, None, option_map, is_none, refl, ap, sym, ◌∙◌}
+use Rattle.std.proofs.Common.{◌≡◌, ℕ, ◌<◌, Bool, true, false, not, cond, ltb, ◌||◌, ◌&&◌, List, [], ◌∷◌, ◌++◌, map, length, get_or, codes, Option, Some, None, option_map, is_none, refl, ap, sym, ◌∙◌}
 use denote.Ref.{Bor}
 use Rattle.std.specs.List.{list_any, filter_map, All}
 use Rattle.std.specs.Str.{bytes_eq}
@@ -26,6 +26,8 @@ use Rattle.scene_model.specs.Rulebook.{Book, Access}
 use Rattle.scene_model.specs.Scenes.{lives}
 use Rattle.scene_model.specs.Commands.{ref_lives}
 use Rattle.scene_model.specs.Laws.{refs_to}
+use Rattle.scene_model.specs.declared.store.Store.TheVariants as store
+use Rattle.scene_model.specs.Stores.{store_named}
 use Rattle.scene_document.specs.Drafts.{Draft, system_of_entry, stores}
 use Rattle.scene_document.specs.Documents.{listed_ids, systems_of, declares_that, names_unknown, has_unknown_kind, has_double, has_id_past_next, dangles, part_dangles, has_unknown_system, has_taken_name, has_unknown_dependency, is_named, lacks_global, writes_reserved, refusal_of}
 use Rattle.scene_document.specs.DraftViews.{named, plain_entity, plain_draft, systems_in, plain_part, plain_asked, plain_list, facts_of, IsPlaced, IsDraft}
@@ -34,6 +36,17 @@ use Rattle.scene_model.specs.Declaring.{texts, access_of}
 use Rattle.scene_document.specs.Refusals.{datum_dangles, entity_dangles, asks_unknown, stands_for, lacks_one, lacks_declared, is_unmade, made_that, entry_that, has_unknown, number_refusal, draft_refusal}
 use Rattle.scene_document.proofs.PlaceLemmas.{ids-plain}
 use Rattle.scene_model.proofs.CallerLemmas.{lives-ascending}
+
+-- a name is none of the stores' where no store is meant by it
+pub unknown-store : (name : Name) → not (is_among name stores) ≡ is_none (store_named name)
+unknown-store name = by (bytes_eq name (codes "vec")) (bytes_eq name (codes "dense")) (bytes_eq name (codes "hash")) (bytes_eq name (codes "btree"))
+  where
+    by : (first second third fourth : Bool) → not (first || (second || (third || (fourth || false)))) ≡ is_none (cond first (Some store.Vec) (cond second (Some store.Dense) (cond third (Some store.Hash) (cond fourth (Some store.BTree) None))))
+    by true second third fourth = refl
+    by false true third fourth = refl
+    by false false true fourth = refl
+    by false false false true = refl
+    by false false false false = refl
 
 -- references to ids dangle where one of the ids is not listed
 pub dangle-refs_to : (ids wanted : List ℕ) → list_any (λ ref. not (ref_lives ids ref)) (refs_to wanted) ≡ list_any (λ id. not (lives id ids)) wanted
@@ -210,10 +223,10 @@ module _ {D G S : Type 0} (part_of : D → Part) (global_of : G → Json) (kind_
       lacks-plain global_of book.global_names globals placed (access.read_globals ++ access.written_globals)
       ∙ list_any-append (λ name. not (list_any (stands_for book.global_names name) globals)) access.read_globals access.written_globals
 
-  sizes : (workers workers' many many' count count' indices : ℕ) (known known' : Bool) → workers ≡ workers' → many ≡ many' → known ≡ known' → count ≡ count'
-      → cond (ltb 64 workers) (Some TooManyWorkers) (cond (ltb 4096 many) (Some TooManySystems) (cond (not known) (Some UnknownStore) (cond (ltb indices count) (Some TooManyEntities) None)))
-      ≡ cond (ltb 64 workers') (Some TooManyWorkers) (cond (ltb 4096 many') (Some TooManySystems) (cond (not known') (Some UnknownStore) (cond (ltb indices count') (Some TooManyEntities) None)))
-  sizes workers workers' many many' count count' indices known known' a b d e = rw (a, b, d, e) refl
+  sizes : (workers workers' many many' count count' indices : ℕ) (unknown unknown' : Bool) → workers ≡ workers' → many ≡ many' → unknown ≡ unknown' → count ≡ count'
+      → cond (ltb 64 workers) (Some TooManyWorkers) (cond (ltb 4096 many) (Some TooManySystems) (cond unknown (Some UnknownStore) (cond (ltb indices count) (Some TooManyEntities) None)))
+      ≡ cond (ltb 64 workers') (Some TooManyWorkers) (cond (ltb 4096 many') (Some TooManySystems) (cond unknown' (Some UnknownStore) (cond (ltb indices count') (Some TooManyEntities) None)))
+  sizes workers workers' many many' count count' indices unknown unknown' a b d e = rw (a, b, d, e) refl
 
   pub refusal-plain : (indices : ℕ) (plain : Draft) (draft : DocumentDraft D G S) → IsDraft part_of global_of kind_of config_of book plain draft → refusal_of indices plain ≡ draft_refusal part_of book.global_names indices draft
   refusal-plain indices plain draft is =
@@ -244,8 +257,8 @@ module _ {D G S : Type 0} (part_of : D → Part) (global_of : G → Json) (kind_
       let reserved : writes_reserved plain ≡ list_any (entry_that (λ accessor. accessor.writes_reserved)) entries =
       ap (list_any (λ one. declares_that (λ access. access.reserved) one.facts)) systems ∙ that-plain (λ access. access.reserved) entries in
       alike_tests _ _ _ _ _ _ _ _ _ _ _ _ _ _ _ _ _ _ kinds (ap has_double listed) next dangling unknown (ap has_taken_name systems) (ap (has_unknown_dependency []) systems) lacking reserved _ _
-      (sizes plain.workers draft.workers (length plain.entries) (length entries) (length plain.entities) (length entities) indices (is_among plain.store stores) (is_among draft.store.now stores)
-      is.workers (ap length is.entries ∙ length-map entries plain_draft) (ap (λ name. is_among name stores) is.store) (ap length is.entities ∙ length-map entities (plain_entity part_of names)))
+      (sizes plain.workers draft.workers (length plain.entries) (length entries) (length plain.entities) (length entities) indices (not (is_among plain.store stores)) (is_none draft.store)
+      is.workers (ap length is.entries ∙ length-map entries plain_draft) (unknown-store plain.store ∙ ap is_none is.store) (ap length is.entities ∙ length-map entities (plain_entity part_of names)))
       ∙ in_parts (has_unknown draft) (has_double (map (λ entity. entity.id) entities)) (list_any (λ entity. not (ltb entity.id draft.next)) entities)
       (list_any (entity_dangles part_of (ascending (map (λ entity. entity.id) entities))) entities) (list_any is_unmade entries) (has_taken_name (systems_in entries)) (has_unknown_dependency [] (systems_in entries))
       (list_any (entry_that (λ accessor. lacks_declared book.global_names globals (access_of accessor))) entries) (list_any (entry_that (λ accessor. accessor.writes_reserved)) entries) (number_refusal indices draft)

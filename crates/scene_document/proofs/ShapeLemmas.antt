@@ -15,6 +15,8 @@ use Rattle.std.proofs.lemmas.List.{map-append}
 use Rattle.scene_document.specs.declared.draft.DocumentDraft.{DocumentDraft}
 use Rattle.scene_model.specs.Parts.{Json, Name, Part, is_among, place_of, name_at}
 use Rattle.scene_model.specs.Rulebook.{Book, Access}
+use Rattle.scene_model.specs.declared.store.Store.{Store}
+use Rattle.scene_model.specs.Stores.{store_named}
 use Rattle.scene_document.specs.Drafts.{Draft, DraftPart, DraftEntity, DraftEntry, DraftCommand, only_member, each, part_under, read_or, members_list, keys_within, document_keys, whole, whole_32, entities_from, globals_from, entries_from, commands_from, global_under, draft_found, draft_from}
 use Rattle.scene_document.specs.DraftViews.{named, plain_entity, plain_draft, plain_list, IsPlaced, IsAdmitted, IsOfBook, EntryIsMade, AreMade, IsOther, Differ, AreApart, IsReadable, IsDraft}
 use Rattle.serde_json.specs.declared.value.Value.{Value}
@@ -290,6 +292,16 @@ globals_readable book back (Some json) list is = here (as_object json) is
     here None is = absurd cc
     here (Some members) is = each_readable book back (members_list members) list is
 
+-- the name of the store that is read
+name-kept : (o : Option Name) (found : Option Store) → Some found ≡ option_map store_named o → (name : Name) × (o ≡ Some name) × (store_named name ≡ found)
+name-kept None found is = absurd cc
+name-kept (Some name) found is = (name, refl, cc)
+
+-- no name is read where no store is
+pub no-name : (o : Option Name) → None ≡ option_map store_named o → o ≡ None
+no-name None is = refl
+no-name (Some name) is = absurd cc
+
 -- the document
 reads_draft : (book : Book) (next entities globals systems frames commands workers store : Option Json) (count asked hands : ℕ) (listed : List DraftEntity) (valued : List (Option (Name × Json))) (entries : List DraftEntry) (lists : List (List DraftCommand)) (kept : Name)
     → Some count ≡ option_and_then whole next → option_and_then (entities_from book) entities ≡ Some listed → read_or [] (globals_from book) globals ≡ Some valued → read_or [] (entries_from book) systems ≡ Some entries
@@ -307,12 +319,13 @@ module _ {D G S : Type 0} (part_of : D → Part) (global_of : G → Json) (kind_
       → Some draft.frames ≡ read_or 0 whole_32 frames
       → ((read_or [] (commands_from book) commands ≡ Some (map (plain_list part_of) draft.commands.items)) × All (λ list. All (IsAsked part_of book) list.items) draft.commands.items)
       → Some draft.workers ≡ read_or 1 whole workers
-      → Some draft.store.now ≡ read_or (codes "vec") as_str store
+      → Some draft.store ≡ option_map store_named (read_or (codes "vec") as_str store)
       → (plain : Draft) × (draft_found book next entities globals systems frames commands workers store ≡ Some plain) × IsDraft part_of global_of kind_of config_of book plain draft × AreMade declared said_time made_by draft.entries.items
   draft_made next entities globals systems frames commands workers store draft is_next are_entities are_globals are_entries are_frames are_commands are_workers is_store =
-      let plain : Draft = record { next = draft.next; entities = map (plain_entity part_of book.part_names) draft.entities.items; globals = map (named global_of book.global_names) draft.globals.items; entries = map plain_draft draft.entries.items; frames = draft.frames; commands = map (plain_list part_of) draft.commands.items; workers = draft.workers; store = draft.store.now } in (
+      let kept = name-kept (read_or (codes "vec") as_str store) draft.store is_store in
+      let plain : Draft = record { next = draft.next; entities = map (plain_entity part_of book.part_names) draft.entities.items; globals = map (named global_of book.global_names) draft.globals.items; entries = map plain_draft draft.entries.items; frames = draft.frames; commands = map (plain_list part_of) draft.commands.items; workers = draft.workers; store = kept.0 } in (
         plain,
-        reads_draft book next entities globals systems frames commands workers store _ _ _ _ _ _ _ _ is_next are_entities.0 are_globals.0 are_entries.0 are_frames are_commands.0 are_workers (sym is_store),
+        reads_draft book next entities globals systems frames commands workers store _ _ _ _ _ _ _ _ is_next are_entities.0 are_globals.0 are_entries.0 are_frames are_commands.0 are_workers kept.1,
         record {
           next = refl;
           entities = refl;
@@ -321,7 +334,7 @@ module _ {D G S : Type 0} (part_of : D → Part) (global_of : G → Json) (kind_
           frames = refl;
           commands = refl;
           workers = refl;
-          store = refl;
+          store = kept.2;
           kinds_placed = All-weaker (IsEntity part_of book) (λ entity. All (IsPlaced (length book.part_names)) entity.parts.items) (λ entity parts. All-weaker (IsPart part_of book) (IsPlaced (length book.part_names)) (λ part is. is.placed) entity.parts.items parts) draft.entities.items are_entities.1;
           globals_placed = are_globals.1;
           admitted = All-weaker (IsEntity part_of book) (λ entity. All (IsAdmitted part_of book) entity.parts.items) (λ entity parts. All-weaker (IsPart part_of book) (IsAdmitted part_of book) (λ part is. is.admitted) entity.parts.items parts) draft.entities.items are_entities.1;

@@ -17,6 +17,7 @@ use Rattle.scene_document.specs.declared.draft.CommandDraft.TheVariants as asked
 use Rattle.scene_document.specs.declared.draft.DocumentDraft.{DocumentDraft}
 use Rattle.scene_model.specs.Parts.{Json, Name, Part, is_among, name_at}
 use Rattle.scene_model.specs.Rulebook.{Book, Facts, Access, known}
+use Rattle.scene_model.specs.Stores.{store_named}
 use Rattle.scene_model.specs.Lawful.{IsKnownPart}
 use Rattle.scene_model.specs.Queues.{plain_entry}
 use Rattle.scene_model.specs.Declaring.{texts, access_of}
@@ -159,7 +160,7 @@ pub record IsDraft {D G S : Type 0} (part_of : D → Part) (global_of : G → Js
   pub frames : plain.frames ≡ draft.frames
   pub commands : plain.commands ≡ map (plain_list part_of) draft.commands.items
   pub workers : plain.workers ≡ draft.workers
-  pub store : plain.store ≡ draft.store.now
+  pub store : store_named plain.store ≡ draft.store
   pub kinds_placed : All (λ entity. All (IsPlaced (length book.part_names)) entity.parts.items) draft.entities.items
   pub globals_placed : All (IsPlaced (length book.global_names)) draft.globals.items
   pub admitted : All (λ entity. All (IsAdmitted part_of book) entity.parts.items) draft.entities.items

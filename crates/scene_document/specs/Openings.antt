@@ -1,9 +1,9 @@
 -- The scene and the frames that a document gives.
-use Rattle.std.specs.Prelude.{◌==◌, ℕ, zero, suc, Bool, true, false, List, [], ◌∷◌, ◌++◌, map, slice_get, Option, Some, None, option_map, if◌then◌else◌}
-use Rattle.std.specs.List.{filter_map, find}
+use Rattle.std.specs.Prelude.{◌==◌, ℕ, zero, suc, Bool, true, false, not, List, [], ◌∷◌, ◌++◌, map, slice_get, Option, Some, None, option_map, if◌then◌else◌}
+use Rattle.std.specs.List.{filter_map}
 use Rattle.std.specs.Str.{bytes_eq}
 use Rattle.scene_model.specs.Parts.{Json, Name, Part}
-use Rattle.scene_model.specs.Rulebook.{Book, Facts, Access, Command}
+use Rattle.scene_model.specs.Rulebook.{Facts, Access, Command}
 use Rattle.scene_model.specs.Rulebook as book
 use Rattle.scene_model.specs.Scenes.{PlainScene, PlainSystem, PlainFrame}
 use Rattle.scene_model.specs.Ids.{ascending}
@@ -56,22 +56,35 @@ reads_of access = map (λ kind. parts_of kind) access.reads ++ map (λ name. val
 abbrev pub writes_of : Access → List Resource
 writes_of access = map (λ kind. parts_of kind) access.writes ++ map (λ name. value_of name) access.written_globals
 
--- the place of the first system of a name among entries, the first of them at a place
-abbrev pub place_named : ℕ → List DraftEntry → Name → Option ℕ
-place_named place [] name = None
-place_named place (barrier ∷ entries) name = place_named (suc place) entries name
-place_named place (system one ∷ entries) name = if bytes_eq one.name name then Some place else place_named (suc place) entries name
+-- whether a system is staged: its kind is known, and it isn't local
+abbrev pub is_staged_as : Bool → Option Facts → Bool
+is_staged_as local None = false
+is_staged_as local (Some facts) = not local
 
--- a staged system as the planner takes it: by its place among the entries, after the places of those that it names
+abbrev pub is_staged : DraftEntry → Bool
+is_staged barrier = false
+is_staged (system one) = is_staged_as one.local one.facts
+
+-- the number after that of an entry: the staged systems are numbered in the order of the list
+abbrev pub next_number : ℕ → DraftEntry → ℕ
+next_number number entry = if is_staged entry then suc number else number
+
+-- the number of the first system of a name among entries, the first of them with a number
+abbrev pub number_named : ℕ → List DraftEntry → Name → Option ℕ
+number_named number [] name = None
+number_named number (barrier ∷ entries) name = number_named number entries name
+number_named number (system one ∷ entries) name = if bytes_eq one.name name then Some number else number_named (next_number number (system one)) entries name
+
+-- a staged system as the planner takes it: by its number, after the numbers of those that it names
 abbrev pub staged_at : List DraftEntry → ℕ → DraftSystem → Option Facts → List (Added Resource)
-staged_at all place one None = []
-staged_at all place one (Some facts) = if one.local then [] else placing (record { number = place; reads = reads_of facts.access; writes = writes_of facts.access; after = filter_map (place_named 1 all) one.after; time = facts.time }) ∷ []
+staged_at all number one None = []
+staged_at all number one (Some facts) = if one.local then [] else placing (record { number = number; reads = reads_of facts.access; writes = writes_of facts.access; after = filter_map (number_named 0 all) one.after; time = facts.time }) ∷ []
 
--- the entries as the planner takes them, the first of them at a place: a barrier is a fence, a local system isn't staged
+-- the entries as the planner takes them, the first of them with a number: a barrier is a fence, a local system isn't staged
 abbrev pub staged : List DraftEntry → ℕ → List DraftEntry → List (Added Resource)
-staged all place [] = []
-staged all place (barrier ∷ entries) = fence ∷ staged all (suc place) entries
-staged all place (system one ∷ entries) = staged_at all place one one.facts ++ staged all (suc place) entries
+staged all number [] = []
+staged all number (barrier ∷ entries) = fence ∷ staged all number entries
+staged all number (system one ∷ entries) = staged_at all number one one.facts ++ staged all (next_number number (system one)) entries
 
 -- a system with its place, where its kind is known
 abbrev pub with_facts : ℕ → DraftSystem → Option Facts → List PlainSystem
@@ -84,16 +97,23 @@ systems_at test place [] = []
 systems_at test place (barrier ∷ entries) = systems_at test (suc place) entries
 systems_at test place (system one ∷ entries) = (if test one then with_facts place one one.facts else []) ++ systems_at test (suc place) entries
 
+-- the staged systems among entries, and the local ones, the first entry at a place
+abbrev pub staged_list : ℕ → List DraftEntry → List PlainSystem
+staged_list place entries = systems_at (λ one. not one.local) place entries
+
+abbrev pub local_list : ℕ → List DraftEntry → List PlainSystem
+local_list place entries = systems_at (λ one. one.local) place entries
+
 -- all systems of a document, and the local ones, in the order of the list
 abbrev pub all_systems : Draft → List PlainSystem
 all_systems draft = systems_at (λ one. true) 1 draft.entries
 
 abbrev pub local_systems : Draft → List PlainSystem
-local_systems draft = systems_at (λ one. one.local) 1 draft.entries
+local_systems draft = local_list 1 draft.entries
 
 -- the staged systems in the order of the plan
 abbrev pub staged_systems : Draft → List PlainSystem
-staged_systems draft = filter_map (λ place. find (λ one. one.position == place) (all_systems draft)) (order same_resource (staged draft.entries 1 draft.entries))
+staged_systems draft = filter_map (λ number. slice_get (staged_list 1 draft.entries) number) (order same_resource (staged draft.entries 0 draft.entries))
 
 -- a command of a document, where its kinds are known
 abbrev pub command_of : DraftCommand → Option Command

@@ -1,5 +1,4 @@
 -- The tests of a document by what the code holds of it; no public clause cites this.
-use Rattle.scene_document.specs.Drafts.{stores}
 use Rattle.std.specs.Prelude.{ℕ, Bool, false, not, ◌&&◌, ◌||◌, List, [], map, length, nat_lt, Option, Some, None, is_none, if◌then◌else◌}
 use Rattle.std.specs.List.{list_any}
 use Rattle.std.specs.Option.{option_or}
@@ -14,7 +13,7 @@ use Rattle.scene_document.specs.declared.draft.EntryDraft.TheVariants as entry
 use Rattle.scene_document.specs.declared.draft.CommandDraft.{CommandDraft}
 use Rattle.scene_document.specs.declared.draft.CommandDraft.TheVariants as asked
 use Rattle.scene_document.specs.declared.draft.DocumentDraft.{DocumentDraft}
-use Rattle.scene_model.specs.Parts.{Name, Part, name_at, is_among}
+use Rattle.scene_model.specs.Parts.{Name, Part, name_at}
 use Rattle.scene_model.specs.Rulebook.{Access}
 use Rattle.scene_model.specs.Declaring.{access_of}
 use Rattle.scene_model.specs.Commands.{ref_lives}
@@ -88,7 +87,7 @@ module _ {D G S : Type 0} where
   number_refusal indices draft =
       if nat_lt 64 draft.workers then Some TooManyWorkers else
       (if nat_lt 4096 (length draft.entries.items) then Some TooManySystems else
-      (if not (is_among draft.store.now stores) then Some UnknownStore else
+      (if is_none draft.store then Some UnknownStore else
       (if nat_lt indices (length draft.entities.items) then Some TooManyEntities else None)))
 
   -- the least refusal for the systems and numbers of a draft, where the rules have these names of globals

@@ -1,5 +1,5 @@
 //! A document as it reads, before it is tested: its shape is right, and the rules have read what is theirs.
-use scene_model::SystemAccess;
+use scene_model::{Store, SystemAccess};
 use serde_json::Value;
 use shred_plan::RunningTime;
 
@@ -57,6 +57,6 @@ pub struct DocumentDraft<'a, D, G, S> {
     pub frames: u32,
     pub commands: Vec<Vec<CommandDraft<D>>>,
     pub workers: u64,
-    /// The kind of store, by its name.
-    pub store: &'a str,
+    /// The kind of store, or none where its name is that of none.
+    pub store: Option<Store>,
 }

@@ -16,5 +16,5 @@ pub use commands::commands_of;
 pub use draft::{CommandDraft, DocumentDraft, EntityDraft, EntryDraft, MadeDraft, SystemDraft};
 pub use load::read_document;
 pub use loaded::{Limits, LoadError};
-pub use shape::{is_store, read_draft};
+pub use shape::read_draft;
 pub use text::{JsonError, has_float, read_json};

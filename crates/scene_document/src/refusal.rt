@@ -16,7 +16,7 @@ ghost use Rattle.scene_document.specs.Refusals.{draft_refusal};
 use crate::ids::ids_of;
 use crate::loaded::Limits;
 use crate::names::{has_taken_name, has_unknown_dependency};
-use crate::{CommandDraft, DocumentDraft, EntityDraft, EntryDraft, is_store};
+use crate::{CommandDraft, DocumentDraft, EntityDraft, EntryDraft};
 use scene_model::{DocRefusal, DocumentRules, SystemAccess};
 use std::alloc::{AllocError, Global};
 use std::collections::BTreeSet;
@@ -296,7 +296,7 @@ fn number_refusal<D: Drop, G: Drop, S: Drop>(
     if draft.entries.len() > 4_096 {
         return Some(DocRefusal::TooManySystems);
     }
-    if !is_store(draft.store) {
+    if draft.store.is_none() {
         return Some(DocRefusal::UnknownStore);
     }
     if draft.entities.len() > limits.indices as usize {

@@ -19,7 +19,6 @@ mod fields;
 use crate::shape::commands::read_commands;
 use crate::shape::entities::{read_entities, read_globals};
 use crate::shape::entries::read_entries;
-pub use crate::shape::fields::is_store;
 use crate::shape::fields::{has_only_keys, read_frames, read_store, read_whole, read_whole_or};
 
 /// The draft that a JSON is, where its shape is right.

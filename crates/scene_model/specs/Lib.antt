@@ -12,3 +12,4 @@ pub mod Slots
 pub mod Declaring
 pub mod Laws
 pub mod Queues
+pub mod Stores

@@ -11,6 +11,7 @@ mod places;
 mod plain;
 mod reading;
 mod refusals;
+mod store;
 
 pub use access::SystemAccess;
 pub use command::{Command, NotQueued, Queue};
@@ -20,3 +21,4 @@ pub use plain::{Skips, Text};
 pub use reading::ReadError;
 pub use refusals::{DocRefusal, FrameRefusal, Report, Skip};
 pub use shred_plan::RunningTime;
+pub use store::Store;

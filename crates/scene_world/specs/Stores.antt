@@ -1,22 +1,12 @@
--- The kinds of store, and the parts in a storage of one of them.
-use Rattle.std.specs.Prelude.{ℕ, List, codes, Option, Some, None, if◌then◌else◌}
-use Rattle.std.specs.Str.{bytes_eq}
+-- The parts in a storage of one of the kinds of store.
+use Rattle.std.specs.Prelude.{ℕ, Option}
 use Rattle.specs_layouts.specs.Slots.{slots_of, slot_at, with_part}
 use Rattle.specs_layouts.specs.Dense.{dense_part, with_dense_part}
 use Rattle.specs_layouts.specs.Entries.{table_part, with_table_part, tree_part, with_tree_part}
-use Rattle.scene_world.specs.declared.store.Store.{Store}
-use Rattle.scene_world.specs.declared.store.Store.TheVariants as store
+use Rattle.scene_model.specs.declared.store.Store.{Store}
+use Rattle.scene_model.specs.declared.store.Store.TheVariants as store
 use Rattle.scene_world.specs.declared.any_store.AnyStore.{AnyStore}
 use Rattle.scene_world.specs.declared.any_store.AnyStore.TheVariants.{Vec, Dense, Hash, BTree}
-
--- the store that a document means by a name
-abbrev pub store_named : List ℕ → Option Store
-store_named name =
-    if bytes_eq name (codes "vec") then Some store.Vec
-    else if bytes_eq name (codes "dense") then Some store.Dense
-    else if bytes_eq name (codes "hash") then Some store.Hash
-    else if bytes_eq name (codes "btree") then Some store.BTree
-    else None
 
 -- the layout in which the parts lie
 abbrev pub store_of : {T : Type 0} → AnyStore T → Store

@@ -3,8 +3,8 @@ ghost use Rattle.std.specs.Prelude.{◌≡◌};
 ghost use Rattle.scene_world.specs.Stores.{store_of, store_part};
 ghost use Rattle.specs_layouts.specs.Parts.{HasNone};
 
-use crate::store::Store;
 use hibitset_sets::{BitSetLike, Index};
+use scene_model::Store;
 use specs_layouts::{
     BTreeStorage, DenseVecStorage, DistinctStorage, HashMapStorage, TryDefault, UnprotectedStorage,
     VecStorage,

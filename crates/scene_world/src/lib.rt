@@ -10,7 +10,6 @@ pub mod parts;
 mod placed;
 mod rules;
 mod stops;
-pub mod store;
 mod value;
 
 pub use any_store::AnyStore;
@@ -19,6 +18,6 @@ pub use marker::{SceneMarker, SceneMarkerAllocator, no_markers};
 pub use parts::{SceneStorage, scene_storage};
 pub use placed::Placed;
 pub use rules::Rules;
+pub use scene_model::Store;
 pub use stops::stop_for;
-pub use store::Store;
 pub use value::{QueueValue, SceneValue};

@@ -4,7 +4,7 @@ ghost use Rattle.specs_layouts.specs.Parts.{HasNone};
 ghost use Rattle.scene_world.specs.Stores.{store_of, store_part};
 
 use crate::any_store::AnyStore;
-use crate::store::Store;
+use scene_model::Store;
 use specs_layouts::FlaggedStorage;
 use std::alloc::Global;
 

@@ -4,12 +4,12 @@ ghost use Rattle.std.specs.Prelude.{codes, MatchOption};
 ghost use Rattle.serde_json.specs.Find.{as_str, as_bool};
 ghost use Rattle.scene_model.specs.Parts.{is_among};
 ghost use Rattle.scene_document.specs.Drafts.{keys_within, whole, whole_32, read_or, is_true, names_from, each};
-ghost use Rattle.scene_document.specs.Drafts.{stores};
+ghost use Rattle.scene_model.specs.Stores.{store_named};
 ghost use Rattle.scene_model.specs.Declaring.{texts};
 ghost use Rattle.scene_document.specs.DraftViews.{seen};
 ghost use Rattle.scene_document.specs.ShapeWords.{items_seen, members_seen, Reads, Anything, IsKnownAt};
 
-use scene_model::{ReadError, place_in};
+use scene_model::{ReadError, Store, place_in};
 use serde_json::{Map, Value};
 use std::alloc::Global;
 
@@ -94,21 +94,15 @@ fn narrow(number: Option<u64>) -> Option<u32>
     }
 }
 
-/// The name of a kind of store; where there is nothing, that of the first.
-pub(crate) fn read_store<'a>(found: Option<&'a Value>) -> Option<&'a str>
-    ensures { option_map (λ store. store.now) result ≡ read_or (codes "vec") as_str (seen found.entry) }
+/// The kind of store that a text names, or none where it is that of none; where there is nothing, the first.
+pub(crate) fn read_store(found: Option<&Value>) -> Option<Option<Store>>
+    ensures { result ≡ option_map store_named (read_or (codes "vec") as_str (seen found.entry)) }
 {
-    match found {
-        None => Some("vec"),
-        Some(value) => value.as_str(),
-    }
-}
-
-/// Whether a kind of store is one of the four.
-pub fn is_store(name: &str) -> bool
-    ensures { result ≡ is_among name.now stores }
-{
-    is_one_of(&["vec", "dense", "hash", "btree"], name)
+    let name = match found {
+        None => "vec",
+        Some(value) => value.as_str()?,
+    };
+    Some(Store::named(name))
 }
 
 /// A text.

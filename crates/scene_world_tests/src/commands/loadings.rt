@@ -124,7 +124,7 @@ fn draft_of(
         frames: 0,
         commands: Vec::new(alloc),
         workers: 1,
-        store: "vec",
+        store: Some(Store::Vec),
     })
 }
 

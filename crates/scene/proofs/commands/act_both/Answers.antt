@@ -1,4 +1,4 @@
-use Rattle.std.proofs.Common.{◌≡◌, ◌+◌, ◌++◌, length, ap, ◌∙◌, append_assoc, arith}
+use Rattle.std.proofs.Common.{◌≡◌, ◌+◌, ◌++◌, Err, length, ap, ◌∙◌, append_assoc, arith}
 use Rattle.std.proofs.lemmas.Result.{IfErr-weaker, on_ok_weaker}
 use Rattle.std.proofs.lemmas.List.{length-map}
 use Rattle.scene_model.specs.Queues.{plain_command, plain_commands}
@@ -10,27 +10,29 @@ use Rattle.scene.specs.Waiting.{waiting_in}
 use Rattle.scene.proofs.CommandLemmas.{acts-behind, acts-before}
 use Rattle.scene.proofs.commands.act_both.Goals as goal
 
-pub returns-in-Err-clause-refused : goal.returns-in-Err-clause-refused
-returns-in-Err-clause-refused g c = acts-before (kinds_of g.R.Value.SceneValue.places g.R.DocumentRules.part_of g.R.Rules.columns) 1 (plain_commands g.R.DocumentRules.part_of c.args.given.now) (waiting_in g.R.DocumentRules.part_of c.args.queues.now) c.args.world.now c.in-Err.refusal c.in-Err.ensures.refused
+pub returns-in_err-act_all-clause-refused : goal.returns-in_err-act_all-clause-refused
+returns-in_err-act_all-clause-refused g c =
+    let failed : c.from_residual.result ≡ Err c.in_err-act_all.field-0.0 = grind arith in
+    rw failed (acts-before (kinds_of g.R.Value.SceneValue.places g.R.DocumentRules.part_of g.R.Rules.columns) 1 (plain_commands g.R.DocumentRules.part_of c.args.given.now) (waiting_in g.R.DocumentRules.part_of c.args.queues.now) c.args.world.now c.in_err-act_all.field-0.0 c.in_err-act_all.ensures.refused)
 
 pub returns-clause-ran : goal.returns-clause-ran
 returns-clause-ran g c =
     let count : length (plain_commands g.R.DocumentRules.part_of c.args.given.now) ≡ length c.args.given.now = length-map c.args.given.now (plain_command g.R.DocumentRules.part_of) in
     on_ok_weaker c.act_queues.result
     (λ ran. joined-to c.args.frame 1 (c.count_of-earlier.result + 1) (plain_commands g.R.DocumentRules.part_of c.args.given.now) (waiting_in g.R.DocumentRules.part_of c.args.queues.now) (plain_of (kinds_of g.R.Value.SceneValue.places g.R.DocumentRules.part_of g.R.Rules.columns) (seen_of c.args.world.now)) (plain_of (kinds_of g.R.Value.SceneValue.places g.R.DocumentRules.part_of g.R.Rules.columns) (seen_of c.act_all.new.world)) (plain_of (kinds_of g.R.Value.SceneValue.places g.R.DocumentRules.part_of g.R.Rules.columns) (seen_of c.act_queues.new.world))
-    c.args.skips.now.items c.act_all.new.skips.items c.act_queues.new.skips.items (omega (arith, count, c.count_of-earlier.ensures)) c.in-Ok.ensures.ran ran)
+    c.args.skips.now.items c.act_all.new.skips.items c.act_queues.new.skips.items (omega (arith, count, c.count_of-earlier.ensures)) c.in_ok-act_all.ensures.ran ran)
     c.act_queues.ensures.ran
 
 pub returns-clause-elsewhere : goal.returns-clause-elsewhere
-returns-clause-elsewhere g c = on_ok_weaker c.act_queues.result (λ later id e m a p. later id e m a p ∙ c.in-Ok.ensures.elsewhere id e m a p) c.act_queues.ensures.elsewhere
+returns-clause-elsewhere g c = on_ok_weaker c.act_queues.result (λ later id e m a p. later id e m a p ∙ c.in_ok-act_all.ensures.elsewhere id e m a p) c.act_queues.ensures.elsewhere
 
 pub returns-clause-refused : goal.returns-clause-refused
 returns-clause-refused g c =
     let count : length (plain_commands g.R.DocumentRules.part_of c.args.given.now) ≡ length c.args.given.now = length-map c.args.given.now (plain_command g.R.DocumentRules.part_of) in
     IfErr-weaker c.act_queues.result _ _
     (λ cause refuses. acts-behind (kinds_of g.R.Value.SceneValue.places g.R.DocumentRules.part_of g.R.Rules.columns) c.args.frame 1 (c.count_of-earlier.result + 1) (plain_commands g.R.DocumentRules.part_of c.args.given.now) (waiting_in g.R.DocumentRules.part_of c.args.queues.now) c.args.world.now c.act_all.new.world c.args.skips.now.items c.act_all.new.skips.items cause
-    (omega (arith, count, c.count_of-earlier.ensures)) c.in-Ok.ensures.ran refuses)
+    (omega (arith, count, c.count_of-earlier.ensures)) c.in_ok-act_all.ensures.ran refuses)
     c.act_queues.ensures.refused
 
 pub returns-clause-kept : goal.returns-clause-kept
-returns-clause-kept g c = (c.in-Ok.ensures.kept.0 ++ c.act_queues.ensures.kept.0, c.act_queues.ensures.kept.1 ∙ ap (λ skips. skips ++ c.act_queues.ensures.kept.0) c.in-Ok.ensures.kept.1 ∙ append_assoc c.args.skips.now.items c.in-Ok.ensures.kept.0 c.act_queues.ensures.kept.0)
+returns-clause-kept g c = (c.in_ok-act_all.ensures.kept.0 ++ c.act_queues.ensures.kept.0, c.act_queues.ensures.kept.1 ∙ ap (λ skips. skips ++ c.act_queues.ensures.kept.0) c.in_ok-act_all.ensures.kept.1 ∙ append_assoc c.args.skips.now.items c.in_ok-act_all.ensures.kept.0 c.act_queues.ensures.kept.0)

@@ -1,4 +1,4 @@
-use Rattle.std.proofs.Common.{◌≡◌, ◌+◌, ◌++◌, [], length, take, drop, refl, ap, sym, ◌∙◌, subst, append_assoc, length-append, arith, All}
+use Rattle.std.proofs.Common.{◌≡◌, ◌+◌, ◌++◌, [], Err, length, take, drop, refl, ap, sym, ◌∙◌, subst, append_assoc, length-append, arith, All}
 use Rattle.std.proofs.lemmas.List.{length-map, take_all, append-nil}
 use Rattle.scene_model.specs.Lawful.{IsLawful}
 use Rattle.scene_model.specs.Leads.{RunsTo}
@@ -52,10 +52,10 @@ loop-queue-preserved g c =
       ran = subst (λ commands. RunsTo c.args.frame (c.args.earlier + 1) commands (plain_of (kinds_of g.R.Value.SceneValue.places g.R.DocumentRules.part_of g.R.Rules.columns) (seen_of c.args.world.now)) (plain_of (kinds_of g.R.Value.SceneValue.places g.R.DocumentRules.part_of g.R.Rules.columns) (seen_of c.act_all.new.world)) c.args.skips.now.items c.act_all.new.skips.items) (sym front)
           (joined-to c.args.frame (c.args.earlier + 1) (c.loop-queue.place + 1) (waiting_in g.R.DocumentRules.part_of (take c.loop-queue.queue-index c.args.queues.now)) (plain_commands g.R.DocumentRules.part_of (waiting c.queue-item.result)) (plain_of (kinds_of g.R.Value.SceneValue.places g.R.DocumentRules.part_of g.R.Rules.columns) (seen_of c.args.world.now)) (plain_of (kinds_of g.R.Value.SceneValue.places g.R.DocumentRules.part_of g.R.Rules.columns) (seen_of c.loop-queue.world)) (plain_of (kinds_of g.R.Value.SceneValue.places g.R.DocumentRules.part_of g.R.Rules.columns) (seen_of c.act_all.new.world))
           c.args.skips.now.items c.loop-queue.skips.items c.act_all.new.skips.items (omega (arith, c.loop-queue.invariant.place)) c.loop-queue.invariant.ran
-          (subst (λ commands. RunsTo c.args.frame (c.loop-queue.place + 1) commands (plain_of (kinds_of g.R.Value.SceneValue.places g.R.DocumentRules.part_of g.R.Rules.columns) (seen_of c.loop-queue.world)) (plain_of (kinds_of g.R.Value.SceneValue.places g.R.DocumentRules.part_of g.R.Rules.columns) (seen_of c.act_all.new.world)) c.loop-queue.skips.items c.act_all.new.skips.items) handed c.in-Ok.ensures.ran));
-      may = c.in-Ok.ensures.may;
-      elsewhere = λ id e m a p. c.in-Ok.ensures.elsewhere id e m a p ∙ c.loop-queue.invariant.elsewhere id e m a p;
-      kept = (c.loop-queue.invariant.kept.0 ++ c.in-Ok.ensures.kept.0, c.in-Ok.ensures.kept.1 ∙ ap (λ skips. skips ++ c.in-Ok.ensures.kept.0) c.loop-queue.invariant.kept.1 ∙ append_assoc c.args.skips.now.items c.loop-queue.invariant.kept.0 c.in-Ok.ensures.kept.0);
+          (subst (λ commands. RunsTo c.args.frame (c.loop-queue.place + 1) commands (plain_of (kinds_of g.R.Value.SceneValue.places g.R.DocumentRules.part_of g.R.Rules.columns) (seen_of c.loop-queue.world)) (plain_of (kinds_of g.R.Value.SceneValue.places g.R.DocumentRules.part_of g.R.Rules.columns) (seen_of c.act_all.new.world)) c.loop-queue.skips.items c.act_all.new.skips.items) handed c.in_ok-act_all.ensures.ran));
+      may = c.in_ok-act_all.ensures.may;
+      elsewhere = λ id e m a p. c.in_ok-act_all.ensures.elsewhere id e m a p ∙ c.loop-queue.invariant.elsewhere id e m a p;
+      kept = (c.loop-queue.invariant.kept.0 ++ c.in_ok-act_all.ensures.kept.0, c.in_ok-act_all.ensures.kept.1 ∙ ap (λ skips. skips ++ c.in_ok-act_all.ensures.kept.0) c.loop-queue.invariant.kept.1 ∙ append_assoc c.args.skips.now.items c.loop-queue.invariant.kept.0 c.in_ok-act_all.ensures.kept.0);
     }
 
 pub returns-clause-ran : goal.returns-clause-ran
@@ -63,19 +63,20 @@ returns-clause-ran g c =
     subst (λ queues. RunsTo c.args.frame (c.args.earlier + 1) (waiting_in g.R.DocumentRules.part_of queues) (plain_of (kinds_of g.R.Value.SceneValue.places g.R.DocumentRules.part_of g.R.Rules.columns) (seen_of c.args.world.now)) (plain_of (kinds_of g.R.Value.SceneValue.places g.R.DocumentRules.part_of g.R.Rules.columns) (seen_of c.loop-queue.world)) c.args.skips.now.items c.loop-queue.skips.items)
     (take_all c.loop-queue.queue-index c.args.queues.now c.loop-queue-test.false) c.loop-queue.invariant.ran
 
-pub returns-in-Err-clause-refused : goal.returns-in-Err-clause-refused
-returns-in-Err-clause-refused g c =
+pub returns-in_err-act_all-clause-refused : goal.returns-in_err-act_all-clause-refused
+returns-in_err-act_all-clause-refused g c =
     let handed : plain_commands g.R.DocumentRules.part_of c.as_slice.result.now ≡ plain_commands g.R.DocumentRules.part_of (waiting c.queue-item.result) = ap (plain_commands g.R.DocumentRules.part_of) c.as_slice.ensures in
-    let whole : waiting_in g.R.DocumentRules.part_of c.args.queues.now ≡ (waiting_in g.R.DocumentRules.part_of (take c.loop-queue.queue-index c.args.queues.now) ++ plain_commands g.R.DocumentRules.part_of (waiting c.queue-item.result)) ++ waiting_in g.R.DocumentRules.part_of (drop (c.loop-queue.queue-index + 1) c.args.queues.now) =
+    let failed : c.from_residual.result ≡ Err c.in_err-act_all.field-0.0 = grind arith in
+    rw failed (let whole : waiting_in g.R.DocumentRules.part_of c.args.queues.now ≡ (waiting_in g.R.DocumentRules.part_of (take c.loop-queue.queue-index c.args.queues.now) ++ plain_commands g.R.DocumentRules.part_of (waiting c.queue-item.result)) ++ waiting_in g.R.DocumentRules.part_of (drop (c.loop-queue.queue-index + 1) c.args.queues.now) =
     flat-front (λ one. plain_commands g.R.DocumentRules.part_of (waiting one)) c.args.queues.now (c.loop-queue.queue-index + 1) ∙ ap (λ first. first ++ waiting_in g.R.DocumentRules.part_of (drop (c.loop-queue.queue-index + 1) c.args.queues.now)) (flat-more (λ one. plain_commands g.R.DocumentRules.part_of (waiting one)) c.args.queues.now c.loop-queue.queue-index c.queue-item.result c.loop-queue-test.true c.queue-item.is) in
-    subst (λ commands. RefusesActs (kinds_of g.R.Value.SceneValue.places g.R.DocumentRules.part_of g.R.Rules.columns) (c.args.earlier + 1) commands c.args.world.now c.in-Err.refusal) (sym whole)
-    (acts-before (kinds_of g.R.Value.SceneValue.places g.R.DocumentRules.part_of g.R.Rules.columns) (c.args.earlier + 1) (waiting_in g.R.DocumentRules.part_of (take c.loop-queue.queue-index c.args.queues.now) ++ plain_commands g.R.DocumentRules.part_of (waiting c.queue-item.result)) (waiting_in g.R.DocumentRules.part_of (drop (c.loop-queue.queue-index + 1) c.args.queues.now)) c.args.world.now c.in-Err.refusal
-    (acts-behind (kinds_of g.R.Value.SceneValue.places g.R.DocumentRules.part_of g.R.Rules.columns) c.args.frame (c.args.earlier + 1) (c.loop-queue.place + 1) (waiting_in g.R.DocumentRules.part_of (take c.loop-queue.queue-index c.args.queues.now)) (plain_commands g.R.DocumentRules.part_of (waiting c.queue-item.result)) c.args.world.now c.loop-queue.world c.args.skips.now.items c.loop-queue.skips.items c.in-Err.refusal
+    subst (λ commands. RefusesActs (kinds_of g.R.Value.SceneValue.places g.R.DocumentRules.part_of g.R.Rules.columns) (c.args.earlier + 1) commands c.args.world.now c.in_err-act_all.field-0.0) (sym whole)
+    (acts-before (kinds_of g.R.Value.SceneValue.places g.R.DocumentRules.part_of g.R.Rules.columns) (c.args.earlier + 1) (waiting_in g.R.DocumentRules.part_of (take c.loop-queue.queue-index c.args.queues.now) ++ plain_commands g.R.DocumentRules.part_of (waiting c.queue-item.result)) (waiting_in g.R.DocumentRules.part_of (drop (c.loop-queue.queue-index + 1) c.args.queues.now)) c.args.world.now c.in_err-act_all.field-0.0
+    (acts-behind (kinds_of g.R.Value.SceneValue.places g.R.DocumentRules.part_of g.R.Rules.columns) c.args.frame (c.args.earlier + 1) (c.loop-queue.place + 1) (waiting_in g.R.DocumentRules.part_of (take c.loop-queue.queue-index c.args.queues.now)) (plain_commands g.R.DocumentRules.part_of (waiting c.queue-item.result)) c.args.world.now c.loop-queue.world c.args.skips.now.items c.loop-queue.skips.items c.in_err-act_all.field-0.0
     (omega (arith, c.loop-queue.invariant.place)) c.loop-queue.invariant.ran
-    (subst (λ commands. RefusesActs (kinds_of g.R.Value.SceneValue.places g.R.DocumentRules.part_of g.R.Rules.columns) (c.loop-queue.place + 1) commands c.loop-queue.world c.in-Err.refusal) handed c.in-Err.ensures.refused)))
+    (subst (λ commands. RefusesActs (kinds_of g.R.Value.SceneValue.places g.R.DocumentRules.part_of g.R.Rules.columns) (c.loop-queue.place + 1) commands c.loop-queue.world c.in_err-act_all.field-0.0) handed c.in_err-act_all.ensures.refused))))
 
-pub returns-in-Err-clause-kept : goal.returns-in-Err-clause-kept
-returns-in-Err-clause-kept g c = (c.loop-queue.invariant.kept.0 ++ c.in-Err.ensures.kept.0, c.in-Err.ensures.kept.1 ∙ ap (λ skips. skips ++ c.in-Err.ensures.kept.0) c.loop-queue.invariant.kept.1 ∙ append_assoc c.args.skips.now.items c.loop-queue.invariant.kept.0 c.in-Err.ensures.kept.0)
+pub returns-in_err-act_all-clause-kept : goal.returns-in_err-act_all-clause-kept
+returns-in_err-act_all-clause-kept g c = (c.loop-queue.invariant.kept.0 ++ c.in_err-act_all.ensures.kept.0, c.in_err-act_all.ensures.kept.1 ∙ ap (λ skips. skips ++ c.in_err-act_all.ensures.kept.0) c.loop-queue.invariant.kept.1 ∙ append_assoc c.args.skips.now.items c.loop-queue.invariant.kept.0 c.in_err-act_all.ensures.kept.0)
 
 pub behind-place-requires : goal.behind-place-requires
 behind-place-requires g c =

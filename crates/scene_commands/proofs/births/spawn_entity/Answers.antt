@@ -1,4 +1,4 @@
-use Rattle.std.proofs.Common.{eqb, map, ap, sym, ◌∙◌}
+use Rattle.std.proofs.Common.{◌≡◌, eqb, map, Err, ap, sym, ◌∙◌, arith}
 use Rattle.std.proofs.lemmas.Bool.{ne_eqb}
 use Rattle.scene_model.specs.Commands.{last_next}
 use Rattle.scene_model.specs.Queues.{plain_entry}
@@ -8,24 +8,25 @@ use Rattle.scene_commands.proofs.SpawnLemmas.{spawn-acts, spawn-may}
 use Rattle.scene_commands.proofs.ElsewhereLemmas.{birth-elsewhere, to-be-done, life-refused}
 use Rattle.scene_commands.proofs.births.spawn_entity.Goals as goal
 
-pub returns-in-Ok-settle-clause-acts : goal.returns-in-Ok-settle-clause-acts
-returns-in-Ok-settle-clause-acts g c =
-    spawn-acts (kinds_of g.R.Value.SceneValue.places g.R.DocumentRules.part_of g.R.Rules.columns) g.met.R.Rules.apart c.args.world.now (seen_of c.bring_to_life.new.world) c.settle.new.world c.in-Ok.entity (map (plain_entry g.R.DocumentRules.part_of) c.args.parts.now)
-    c.in-Ok.ensures.ok c.in-Ok-settle.ensures c.requires.may (sym c.in-Ok-true.ensures ∙ c.in-Ok-true.field-0-test) c.requires.known
+pub returns-in-Ok-clause-acts : goal.returns-in-Ok-clause-acts
+returns-in-Ok-clause-acts g c =
+    spawn-acts (kinds_of g.R.Value.SceneValue.places g.R.DocumentRules.part_of g.R.Rules.columns) g.met.R.Rules.apart c.args.world.now (seen_of c.bring_to_life.new.world) c.settle.new.world c.in_ok-entity.entity (map (plain_entry g.R.DocumentRules.part_of) c.args.parts.now)
+    c.in_ok-entity.ensures.ok c.in-Ok.ensures c.requires.may (sym c.in-Ok-true.ensures ∙ c.in-Ok-true.field-0-test) c.requires.known
     (ap (λ n. eqb n last_next) (sym c.in-Some.ensures) ∙ ne_eqb c.in-Some.next last_next c.if-next.false)
 
-pub returns-in-Ok-settle-clause-may : goal.returns-in-Ok-settle-clause-may
-returns-in-Ok-settle-clause-may g c =
-    spawn-may (kinds_of g.R.Value.SceneValue.places g.R.DocumentRules.part_of g.R.Rules.columns) g.met.R.Rules.apart c.args.world.now (seen_of c.bring_to_life.new.world) c.settle.new.world c.in-Ok.entity (map (plain_entry g.R.DocumentRules.part_of) c.args.parts.now)
-    c.in-Ok.ensures.ok c.in-Ok-settle.ensures c.requires.may (sym c.in-Ok-true.ensures ∙ c.in-Ok-true.field-0-test) c.requires.known
+pub returns-in-Ok-clause-may : goal.returns-in-Ok-clause-may
+returns-in-Ok-clause-may g c =
+    spawn-may (kinds_of g.R.Value.SceneValue.places g.R.DocumentRules.part_of g.R.Rules.columns) g.met.R.Rules.apart c.args.world.now (seen_of c.bring_to_life.new.world) c.settle.new.world c.in_ok-entity.entity (map (plain_entry g.R.DocumentRules.part_of) c.args.parts.now)
+    c.in_ok-entity.ensures.ok c.in-Ok.ensures c.requires.may (sym c.in-Ok-true.ensures ∙ c.in-Ok-true.field-0-test) c.requires.known
     (ap (λ n. eqb n last_next) (sym c.in-Some.ensures) ∙ ne_eqb c.in-Some.next last_next c.if-next.false)
 
-pub returns-in-Ok-settle-clause-elsewhere : goal.returns-in-Ok-settle-clause-elsewhere
-returns-in-Ok-settle-clause-elsewhere g c =
-    birth-elsewhere (kinds_of g.R.Value.SceneValue.places g.R.DocumentRules.part_of g.R.Rules.columns) c.args.world.now c.bring_to_life.new.world c.settle.new.world c.in-Ok.entity (map (plain_entry g.R.DocumentRules.part_of) c.args.parts.now) c.in-Ok.ensures.ok c.in-Ok-settle.ensures
+pub returns-in-Ok-clause-elsewhere : goal.returns-in-Ok-clause-elsewhere
+returns-in-Ok-clause-elsewhere g c =
+    birth-elsewhere (kinds_of g.R.Value.SceneValue.places g.R.DocumentRules.part_of g.R.Rules.columns) c.args.world.now c.bring_to_life.new.world c.settle.new.world c.in_ok-entity.entity (map (plain_entry g.R.DocumentRules.part_of) c.args.parts.now) c.in_ok-entity.ensures.ok c.in-Ok.ensures
 
-pub returns-in-Err-bring_to_life-clause-refused : goal.returns-in-Err-bring_to_life-clause-refused
-returns-in-Err-bring_to_life-clause-refused g c =
-    life-refused (kinds_of g.R.Value.SceneValue.places g.R.DocumentRules.part_of g.R.Rules.columns) (map (plain_entry g.R.DocumentRules.part_of) c.args.parts.now) c.args.world.now
+pub returns-in_err-entity-clause-refused : goal.returns-in_err-entity-clause-refused
+returns-in_err-entity-clause-refused g c =
+    let failed : c.from_residual.result ≡ Err c.in_err-entity.field-0.0 = grind arith in
+    rw failed (life-refused (kinds_of g.R.Value.SceneValue.places g.R.DocumentRules.part_of g.R.Rules.columns) (map (plain_entry g.R.DocumentRules.part_of) c.args.parts.now) c.args.world.now
     (to-be-done (kinds_of g.R.Value.SceneValue.places g.R.DocumentRules.part_of g.R.Rules.columns) (map (plain_entry g.R.DocumentRules.part_of) c.args.parts.now) c.args.world.now (sym c.in-Ok-true.ensures ∙ c.in-Ok-true.field-0-test)
-    (ap (λ n. eqb n last_next) (sym c.in-Some.ensures) ∙ ne_eqb c.in-Some.next last_next c.if-next.false)) c.in-Err-bring_to_life.refusal c.in-Err-bring_to_life.ensures.refused
+    (ap (λ n. eqb n last_next) (sym c.in-Some.ensures) ∙ ne_eqb c.in-Some.next last_next c.if-next.false)) c.in_err-entity.field-0.0 c.in_err-entity.ensures.refused)

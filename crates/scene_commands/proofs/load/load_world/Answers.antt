@@ -4,8 +4,8 @@ use Rattle.scene_commands.specs.Fills.{filled_with}
 use Rattle.scene_commands.proofs.LoadLemmas.{loaded}
 use Rattle.scene_commands.proofs.load.load_world.Goals as goal
 
-pub returns-in-Ok-clause-stands : goal.returns-in-Ok-clause-stands
-returns-in-Ok-clause-stands g c plain indices is passed =
+pub returns-clause-stands : goal.returns-clause-stands
+returns-clause-stands g c plain indices is passed =
     loaded (kinds_of g.R.Value.SceneValue.places g.R.DocumentRules.part_of g.R.Rules.columns) g.R.DocumentRules.part_of g.R.DocumentRules.global_of g.R.DocumentRules.kind_of g.R.DocumentRules.config_of (g.R.DocumentRules.book c.args.rules.now) plain c.args.draft.now indices is passed
-    c.fill_world.new.world c.in-Ok.ensures.may
-    (c.in-Ok.ensures.scene ∙ ap (filled_with g.R.DocumentRules.part_of g.R.DocumentRules.global_of (g.R.DocumentRules.book c.args.rules.now) c.args.draft.now) c.in_ok-world.ensures.scene)
+    c.fill_world.new.world c.in_ok-fill_world.ensures.may
+    (c.in_ok-fill_world.ensures.scene ∙ ap (filled_with g.R.DocumentRules.part_of g.R.DocumentRules.global_of (g.R.DocumentRules.book c.args.rules.now) c.args.draft.now) c.in_ok-world.ensures.scene)

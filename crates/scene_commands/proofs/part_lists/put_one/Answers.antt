@@ -15,9 +15,9 @@ pub put_part-requires-clause-known : goal.put_part-requires-clause-known
 put_part-requires-clause-known g c =
     subst (λ names. is_among (get_or c.args.names.now c.in-Some.place no_name).now names ≡ true) c.requires.names (named-there c.args.names.now c.in-Some.place no_name (omega (arith, c.if-place-names.false)))
 
-pub returns-in-Ok-true : goal.returns-in-Ok-true
-returns-in-Ok-true g c =
+pub returns-then-done : goal.returns-then-done
+returns-then-done g c =
     subst (λ part. Becomes (kinds_of g.R.Value.SceneValue.places g.R.DocumentRules.part_of g.R.Rules.columns) (with_one c.args.id (named g.R.DocumentRules.part_of (texts c.args.names.now) part)) c.args.world.now c.put_part.new.world) (sym c.in-Some.is)
-    (puts-one (kinds_of g.R.Value.SceneValue.places g.R.DocumentRules.part_of g.R.Rules.columns) g.met.R.Rules.apart c.args.world.now c.put_part.new.world c.args.id c.args.names.now c.in-Some.place (g.R.DocumentRules.part_of c.in-Some.datum) c.in-Ok-true.ensures.may
-    (subst (λ done. Acts (kinds_of g.R.Value.SceneValue.places g.R.DocumentRules.part_of g.R.Rules.columns) (put c.args.id (get_or c.args.names.now c.in-Some.place no_name).now (g.R.DocumentRules.part_of c.in-Some.datum)) done c.args.world.now c.put_part.new.world) c.in-Ok-true.field-0-test c.in-Ok-true.ensures.acts)
-    c.in-Ok-true.ensures.elsewhere)
+    (puts-one (kinds_of g.R.Value.SceneValue.places g.R.DocumentRules.part_of g.R.Rules.columns) g.met.R.Rules.apart c.args.world.now c.put_part.new.world c.args.id c.args.names.now c.in-Some.place (g.R.DocumentRules.part_of c.in-Some.datum) c.in_ok-done.ensures.may
+    (subst (λ done. Acts (kinds_of g.R.Value.SceneValue.places g.R.DocumentRules.part_of g.R.Rules.columns) (put c.args.id (get_or c.args.names.now c.in-Some.place no_name).now (g.R.DocumentRules.part_of c.in-Some.datum)) done c.args.world.now c.put_part.new.world) c.if-done.true c.in_ok-done.ensures.acts)
+    c.in_ok-done.ensures.elsewhere)

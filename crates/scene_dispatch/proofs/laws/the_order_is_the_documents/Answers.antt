@@ -9,9 +9,9 @@ use Rattle.scene_dispatch.proofs.SameLemmas.{same-ids}
 use Rattle.scene_dispatch.proofs.laws.the_order_is_the_documents.Goals as goal
 
 pub returns-clause-order : goal.returns-clause-order
-returns-clause-order g c kinds draft apart known named =
-    subst (λ same. plan_order (meant_at draft.entries) (plan same (told_entries kinds draft.entries)) ≡ staged_systems draft) (sym same-ids) (staged-order kinds apart draft named known)
+returns-clause-order g c kinds draft apart known =
+    subst (λ same. plan_order (meant_at draft.entries) (plan same (told_entries kinds draft.entries)) ≡ staged_systems draft) (sym same-ids) (staged-order kinds apart draft known)
 
 pub returns-clause-lent : goal.returns-clause-lent
-returns-clause-lent g c kinds draft apart known named =
-    subst (λ same. PlanIsLent kinds (meant_at draft.entries) (plan same (told_entries kinds draft.entries))) (sym same-ids) (staged-lent kinds apart draft named known)
+returns-clause-lent g c kinds draft apart known =
+    subst (λ same. PlanIsLent kinds (meant_at draft.entries) (plan same (told_entries kinds draft.entries))) (sym same-ids) (staged-lent kinds apart draft known)

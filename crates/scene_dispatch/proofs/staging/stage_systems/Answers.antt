@@ -32,8 +32,8 @@ add_entries-requires-clause-fit g c =
     all-fit kinds g.R.DocumentRules.kind_of g.R.DocumentRules.config_of g.R.DocumentRules.declared g.R.DocumentRules.said_time (g.R.DocumentRules.made_by c.args.rules.now) book c.args.entries.items c.requires.said c.requires.made
     (entries-known book (map plain_draft c.args.entries.items) c.requires.document kinds named.parts named.globals (g.met.R.DocumentRules.declares_known c.args.rules.now))
 
-pub returns-in-Ok-clause-order : goal.returns-in-Ok-clause-order
-returns-in-Ok-clause-order g c = λ draft frame its.
+pub returns-clause-order : goal.returns-clause-order
+returns-clause-order g c = λ draft frame its.
     let kinds = kinds_of g.R.Value.SceneValue.places g.R.DocumentRules.part_of g.R.Rules.columns in
     let book = g.R.DocumentRules.book c.args.rules.now in
     let named = g.met.R.Rules.named_so c.args.rules.now in
@@ -42,16 +42,16 @@ returns-in-Ok-clause-order g c = λ draft frame its.
     ap (turn_order plain) c.build.ensures
     ∙ document-order kinds plain g.met.R.Rules.apart (map plain_draft c.args.entries.items) c.add_entries.new.builder
     (entries-known book (map plain_draft c.args.entries.items) c.requires.document kinds named.parts named.globals (g.met.R.DocumentRules.declares_known c.args.rules.now))
-    (entries-named book (map plain_draft c.args.entries.items) c.requires.document) c.in-Ok.ensures.has.drafted draft frame its
+    (entries-named book (map plain_draft c.args.entries.items) c.requires.document) c.in_ok-add_entries.ensures.has.drafted draft frame its
 
-pub returns-in-Ok-clause-staged : goal.returns-in-Ok-clause-staged
-returns-in-Ok-clause-staged g c =
+pub returns-clause-staged : goal.returns-clause-staged
+returns-clause-staged g c =
     let meaning = placed_as {P = Placed g.row.R.Denot g.row.R-Value.Denot g.row.R-Data.Denot g.row.R-Global.Denot g.row.R-System.Denot} (λ placed. placed.position) (λ placed. placed.system) g.R.DocumentRules.kind_of g.R.DocumentRules.config_of g.R.DocumentRules.declared g.R.Rules.sense
     g.R.Rules.does in
-    subst (λ d. All (IsOfBook meaning (g.R.DocumentRules.book c.args.rules.now)) d.staging.systems) (sym c.build.ensures) c.in-Ok.ensures.has.staged
+    subst (λ d. All (IsOfBook meaning (g.R.DocumentRules.book c.args.rules.now)) d.staging.systems) (sym c.build.ensures) c.in_ok-add_entries.ensures.has.staged
 
-pub returns-in-Ok-clause-locals : goal.returns-in-Ok-clause-locals
-returns-in-Ok-clause-locals g c =
+pub returns-clause-locals : goal.returns-clause-locals
+returns-clause-locals g c =
     let meaning = placed_as {P = Placed g.row.R.Denot g.row.R-Value.Denot g.row.R-Data.Denot g.row.R-Global.Denot g.row.R-System.Denot} (λ placed. placed.position) (λ placed. placed.system) g.R.DocumentRules.kind_of g.R.DocumentRules.config_of g.R.DocumentRules.declared g.R.Rules.sense
     g.R.Rules.does in
-    subst (λ d. All (IsOfBook meaning (g.R.DocumentRules.book c.args.rules.now)) d.locals) (sym c.build.ensures) c.in-Ok.ensures.has.locals
+    subst (λ d. All (IsOfBook meaning (g.R.DocumentRules.book c.args.rules.now)) d.locals) (sym c.build.ensures) c.in_ok-add_entries.ensures.has.locals

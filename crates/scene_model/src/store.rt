@@ -1,6 +1,6 @@
 //! The kinds of store.
 ghost use Rattle.std.specs.Prelude.{◌≡◌};
-ghost use Rattle.scene_world.specs.Stores.{store_named};
+ghost use Rattle.scene_model.specs.Stores.{store_named};
 
 /// A layout in which the parts of a scene may lie.
 #[derive(Clone, Copy, Debug, PartialEq, Eq)]
