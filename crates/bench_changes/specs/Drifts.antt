@@ -1,8 +1,0 @@
--- What a drift makes of a place.
-use Rattle.std.specs.Prelude.{◌+◌, ◌%◌, ◌^◌, Option, Some}
-use Rattle.bench_changes.specs.declared.parts.Place.{Place}
-use Rattle.bench_changes.specs.declared.parts.Drift.{Drift}
-
--- a place after a drift was added, which goes round at 2 ^ 32
-abbrev pub drifted : Place → Drift → Option Place
-drifted place drift = Some (record { along = (place.along + drift.along) % 2 ^ 32 })

@@ -1,0 +1,2 @@
+pub mod Drifts
+pub mod GoalLemmas
