@@ -1,6 +1,6 @@
 -- Parts that are being changed, index after index.
 use Rattle.std.proofs.Common.{◌≡◌, ◌≢◌, ℕ, ◌<◌, ◌≤◌, List, [], ◌∷◌, Bool, true, ◌&&◌, Option, Some, None, is_some, IsSome, ◌⊎◌, inl, inr, refl, sym, ap, subst, ◌∙◌, arith}
-use Rattle.std.proofs.lemmas.Bool.{cases_eq, and_parts}
+use Rattle.std.proofs.lemmas.Bool.{cases_eq}
 use Rattle.hibitset_sets.specs.Walk.{walk}
 use Rattle.specs_layouts.specs.Channels.{Log}
 use Rattle.specs_layouts.specs.Parts.{Puts, SameParts, told}
@@ -10,7 +10,6 @@ use Rattle.specs_layouts.specs.declared.track.ComponentEvent.TheVariants.{Modifi
 use Rattle.specs_layouts.specs.ToCome.{IsToCome}
 use Rattle.specs_join.specs.ChangeEach.{after, AreChanged, AreChangedBelow, IsRefused}
 use Rattle.specs_layouts.proofs.CallerLemmas.{walk-come, shows-trans, shows-written}
-use Rattle.specs_join.proofs.NewLemmas.{walk-members}
 
 -- an index with a part and an item
 abbrev IsShared : {T S : Type 0} → (ℕ → Option T) → (ℕ → Option S) → ℕ → Type 0
@@ -22,35 +21,6 @@ pub record IsUnderWay {T S : Type 0} (changed : T → S → Option T) (old : ℕ
   pub behind : (index : ℕ) → ¬ (IsToCome index left) → now index ≡ after changed (old index) (items index)
   pub same : (index : ℕ) → is_some (now index) ≡ is_some (old index)
   pub passed : (index other : ℕ) → IsShared old items index → ¬ (IsToCome index left) → IsToCome other left → index < other
-
--- each that is to come has a part, and the item that the join had there is still looked up
-pub record IsReadyFor {S : Type 0} (members : ℕ → Bool) (found items : ℕ → Option S) (left : List ℕ) : Type 0 where
-  pub parts : (index : ℕ) → IsToCome index left → members index ≡ true
-  pub some : (index : ℕ) → IsToCome index left → IsSome (items index)
-  pub same : (index : ℕ) → IsToCome index left → found index ≡ items index
-
--- where a walk begins
-pub ready-first : {S : Type 0} (members : ℕ → Bool) (found items : ℕ → Option S) (left : List ℕ) → left ≡ walk (λ index. members index && is_some (items index)) → ((index : ℕ) → index < 16777216 → IsSome (items index) → found index ≡ items index) → IsReadyFor members found items left
-ready-first members found items left begins agree =
-    record {
-      parts = λ index come. (both index come).0.0;
-      some = λ index come. (both index come).0.1;
-      same = λ index come. agree index (both index come).1 (both index come).0.1;
-    }
-  where
-    both : (index : ℕ) → IsToCome index left → ((members index ≡ true) × (is_some (items index) ≡ true)) × (index < 16777216)
-    both index come =
-        let has = walk-members (λ i. members i && is_some (items i)) index (subst (IsToCome index) begins come) in
-        (and_parts (members index) (is_some (items index)) has.0, has.1)
-
--- and a step later
-pub ready-next : {S : Type 0} (members : ℕ → Bool) (found items : ℕ → Option S) (left rest : List ℕ) (index : ℕ) → left ≡ index ∷ rest → IsReadyFor members found items left → IsReadyFor members found items rest
-ready-next members found items left rest index is ready =
-    record {
-      parts = λ other come. ready.parts other (subst (IsToCome other) (sym is) (inr come));
-      some = λ other come. ready.some other (subst (IsToCome other) (sym is) (inr come));
-      same = λ other come. ready.same other (subst (IsToCome other) (sym is) (inr come));
-    }
 
 -- what was shown is shown with a part written, too
 pub shows-next : {L T : Type 0} (part_at : L → ℕ → Option T) (events : L → Log ComponentEvent) (emits : L → Bool) (written : L → ℕ → T → L)

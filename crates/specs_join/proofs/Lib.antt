@@ -4,6 +4,9 @@ pub mod CollectLemmas
 pub mod CallerLemmas
 pub mod WalkedLemmas
 pub mod ChangeEachLemmas
+pub mod TestedLemmas
+pub mod WordsLemmas
+pub mod WholeLemmas
 pub mod StoreLemmas
 pub mod TakingLemmas
 pub mod ChangeLemmas

@@ -7,6 +7,7 @@ pub mod Cursors
 pub mod Collected
 pub mod ChangeEach
 pub mod EachErrors
+pub mod Tested
 pub mod CursorLends
 pub mod Storing
 pub mod Changes

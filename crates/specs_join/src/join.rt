@@ -19,6 +19,7 @@ mod parts;
 mod sets;
 pub mod shared;
 mod tuples;
+mod words;
 
 pub use absent::AntiStorage;
 use hibitset::{BitSetLike, Counter, Index};

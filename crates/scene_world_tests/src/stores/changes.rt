@@ -79,6 +79,39 @@ fn tells(alloc: Global, to: Store, from: Store) -> Option<bool> {
     )
 }
 
+/// Weights over some whole words of indices and parts of others, in two groups of words.
+fn rows(alloc: Global, first: u32, heavy: u32) -> Option<Vec<(u32, u32)>> {
+    let mut put = Vec::new(alloc);
+    for id in first..200 {
+        put.push((id, if id == heavy { 100 } else { id % 7 })).ok()?;
+    }
+    for id in 4090..4200u32 {
+        put.push((id, id % 7)).ok()?;
+    }
+    Some(put)
+}
+
+/// Whether weights over whole words are loaded with those from 60 on, up to a heavy one.
+fn loads_rows(alloc: Global, to: Store, from: Store, heavy: u32) -> Option<bool> {
+    let put = rows(alloc, 3, 5000)?;
+    let weights = silent(alloc, to, put.as_slice())?;
+    let others = silent(alloc, from, rows(alloc, 60, heavy)?.as_slice())?;
+    let (loaded, outcome) = load(weights, &others);
+    let stopped = match outcome {
+        Ok(()) => heavy >= 200,
+        Err(EachError::Refused(index, ())) => index == heavy,
+        Err(EachError::Memory) => false,
+    };
+    let mut expected = Vec::new(alloc);
+    for (id, number) in put.as_slice() {
+        let changed = *id >= 60 && (heavy >= 200 || *id < heavy);
+        expected
+            .push(if changed { *number % 7 * 2 } else { *number })
+            .ok()?;
+    }
+    Some(stopped && numbers(alloc, &loaded)?.as_slice() == expected.as_slice())
+}
+
 /// What a reader reads.
 fn told_of(
     alloc: Global,
@@ -97,6 +130,9 @@ fn each_pair_of_stores_loads_the_same(rt: HostRuntime) {
             assert_eq!(rt; loads(rt.alloc(), *to, *from), Some(true));
             assert_eq!(rt; refuses(rt.alloc(), *to, *from), Some(true));
             assert_eq!(rt; tells(rt.alloc(), *to, *from), Some(true));
+            for heavy in &[5000u32, 60, 64, 127, 130] {
+                assert_eq!(rt; loads_rows(rt.alloc(), *to, *from, *heavy), Some(true));
+            }
         }
     }
 }

@@ -7,8 +7,8 @@ ghost use Rattle.specs_join.specs.EachErrors.{OnMemory, OnRefused};
 
 use super::Join;
 use crate::join::change::{Change, EachError};
-use crate::join::shared::SharedSteps;
-use hibitset::{BitSet, Index};
+use crate::join::words::change_group;
+use hibitset::{BitSet, BitSetAnd, Index};
 use specs_layouts::UnprotectedStorage;
 use std::marker::{Model, PhantomData};
 
@@ -120,32 +120,16 @@ where
         (λ index. AreChangedBelow (C.changed change.now) (L.part_at parts.old) (R.joins read) index
         (L.part_at parts.new))) }
 {
-    let _words = mask.layer0_as_slice();
+    let words = mask.layer0_as_slice().len();
     let (beside, values) = read.open();
-    let mut steps = SharedSteps::new(mask, &beside);
-    loop {
-        let next = match steps.in_word() {
-            Ok((index, rest)) => {
-                steps = rest;
-                Some(index)
-            }
-            Err(walk) => {
-                let (next, rest) = walk.searched(mask, &beside);
-                steps = rest;
-                next
-            }
-        };
-        let Some(index) = next else {
-            return Ok(());
-        };
-        let item = R::get(&values, index);
-        match parts.get_mut(index) {
-            Ok(part) => {
-                if let Err(refusal) = change.change(part, item) {
-                    return Err(EachError::Refused(index, refusal));
-                }
-            }
-            Err(_) => return Err(EachError::Memory),
+    let set = BitSetAnd(mask, &beside);
+    for top in 0..(words + 63) / 64 {
+        match change_group::<T, L, R, C, BitSetAnd<&BitSet, &R::Mask>>(
+            &set, parts, &values, change, top,
+        ) {
+            Ok(()) => {}
+            Err(error) => return Err(error),
         }
     }
+    Ok(())
 }

@@ -1,6 +1,6 @@
 //! Walks over the indices that two sets share, of which neither is lent between two steps.
-ghost use Rattle.std.specs.Prelude.{◌≡◌, ℕ, Bool, [], ◌∷◌, MatchOption, IfOk, IfErr};
-ghost use Rattle.hibitset_sets.specs.Walk.{walk, is_pending, IsPlaced};
+ghost use Rattle.std.specs.Prelude.{◌≡◌, [], ◌∷◌, MatchOption};
+ghost use Rattle.hibitset_sets.specs.Walk.{walk, IsPlaced};
 ghost use Rattle.specs_join.specs.Cursor.{shared};
 
 use hibitset::{BitIter, BitSet, BitSetAnd, BitSetLike, Index, Uncounted, take_in_word};
@@ -38,44 +38,6 @@ impl SharedSteps {
             return Some(take_in_word(&mut self.masks, &self.prefix));
         }
         self.search(parts, mask)
-    }
-
-    /// The next index and the walk behind it, where it lies in the word that the walk has come to, whatever the sets are;
-    /// else the walk as it is, for `searched`.
-    ///
-    /// As the walk is handed on and not lent, it can stay in registers from one index of a word to the next.
-    #[inline(always)]
-    pub fn in_word(self) -> Result<(Index, SharedSteps), SharedSteps>
-        ensures next { IfOk result (λ next. (has : ℕ → Bool) → walk (is_pending has self.masks self.prefix)
-            ≡ next.0 ∷ walk (is_pending has next.1.masks next.1.prefix)) }
-        ensures rest { IfErr result (λ rest. rest ≡ self) }
-    {
-        let SharedSteps { mut masks, prefix } = self;
-        if masks[0] == 0 {
-            return Err(SharedSteps { masks, prefix });
-        }
-        let index = take_in_word(&mut masks, &prefix);
-        Ok((index, SharedSteps { masks, prefix }))
-    }
-
-    /// The next index that both sets have, or none where there is none, and the walk behind it: a step of a walk over
-    /// both, which looks for the next word. What is still to come is told of sets that are as they were at the steps before.
-    #[cold]
-    #[inline(never)]
-    pub fn searched<M: BitSetLike + Drop>(
-        self,
-        parts: &BitSet,
-        mask: &M,
-    ) -> (Option<Index>, SharedSteps)
-        ensures { MatchOption result.0
-            ((still_shared M.members parts.now mask.now self ≡ [])
-            × (still_shared M.members parts.now mask.now result.1 ≡ []))
-            (λ index. still_shared M.members parts.now mask.now self
-            ≡ index ∷ still_shared M.members parts.now mask.now result.1) }
-    {
-        let mut steps = self;
-        let next = steps.search(parts, mask);
-        (next, steps)
     }
 
     /// `step` by a step of a walk, which looks for the next word.

@@ -1,117 +1,163 @@
-use Rattle.std.proofs.Common.{◌≡◌, ℕ, List, ◌∷◌, Option, Some, is_some, IsSome, MatchOption, ◌&&◌, inl, refl, sym, ap, subst, ◌∙◌, arith}
-use Rattle.std.specs.Option.{unwrap_or}
-use Rattle.hibitset_sets.specs.BitSet.{has_member, SetWithRoom}
-use Rattle.hibitset_sets.specs.Walk.{walk}
-use Rattle.hibitset_sets.proofs.CallerLemmas.{walk-same}
-use Rattle.specs_layouts.specs.ToCome.{IsToCome}
-use Rattle.specs_layouts.specs.Parts.{told}
-use Rattle.specs_layouts.specs.Shows.{Shows}
-use Rattle.specs_layouts.specs.declared.track.ComponentEvent.TheVariants as event
+use Rattle.std.proofs.Common.{◌≡◌, ℕ, ◌+◌, ◌*◌, ◌/◌, ◌<◌, ◌≤◌, length, Bool, true, ◌&&◌, Err, subst, ◌∙◌, arith}
+use Rattle.hibitset_sets.specs.BitSet.{has_member}
 use Rattle.specs_layouts.proofs.CallerLemmas.{shows-refl}
-use Rattle.specs_join.specs.ChangeEach.{told_each}
-use Rattle.specs_join.specs.Cursor.{shared}
-use Rattle.specs_join.specs.Steps.{still_shared}
-use Rattle.specs_join.specs.declared.join.shared.SharedSteps.{SharedSteps}
-use Rattle.specs_join.proofs.WalkedLemmas.{walk-later}
-use Rattle.specs_join.proofs.ChangeEachLemmas.{starts, steps, stops, put-same, ready-first, ready-next, shows-next}
+use Rattle.specs_join.specs.Tested.{AreDone, EndsSo, in_group}
+use Rattle.specs_join.proofs.TestedLemmas.{done-none, done-next, stops-next, shows-both}
+use Rattle.specs_join.proofs.WordsLemmas.{passed_groups, groups-first, groups-before, groups-next, groups-there, groups-below}
+use Rattle.specs_join.proofs.WholeLemmas.{whole-done, whole-told, whole-memory, whole-quiet, whole-refused, whole-below, whole-same, whole-there}
 use Rattle.specs_join.proofs.join.laid_out.change_laid_out.Given as given
 use Rattle.specs_join.proofs.join.laid_out.change_laid_out.Goals as goal
-use Rattle.specs_join.proofs.join.laid_out.change_laid_out.Goals.{in-Ok, in-Err}
 
--- what comes next is the first of those to come
-first-is : (Q : Type 0) (found : Option ℕ) (index : ℕ) (left rest : List ℕ) → found ≡ Some index → MatchOption found Q (λ first. left ≡ first ∷ rest) → left ≡ index ∷ rest
-first-is Q found index left rest is step = subst (λ option. MatchOption option Q (λ first. left ≡ first ∷ rest)) is step
+-- a member has its place in the words, and below 2 ^ 24
+in-range : (has : ℕ → Bool) (words room : ℕ) → ((i : ℕ) → has i ≡ true → i < room) → 64 * words ≡ room → room ≤ 16777216 → (i : ℕ) → has i ≡ true
+    → (i < 4096 * ((words + 63) / 64)) × (i < 16777216)
+in-range has words room within is limit i member = let less = within i member in (omega (arith, less, is), omega (arith, less, limit))
 
-module _ (left : SharedSteps → List ℕ) (before rest after : SharedSteps) (after-is : after ≡ rest) (next : Option ℕ) (index : ℕ) (is : next ≡ Some index) where
-  -- a step within a word goes on to the next index,
-  in-word : (first : ℕ) → next ≡ Some first → left before ≡ first ∷ left rest → left before ≡ index ∷ left after
-  in-word first next-is step = step ∙ (ap (λ option. unwrap_or option 0 ∷ left rest) (sym next-is ∙ is) ∙ ap (λ steps. index ∷ left steps) (sym after-is))
-
-  -- and so does a search from there
-  in-search : (Q : Type 0) (found : Option ℕ) (walk : SharedSteps) → walk ≡ before → next ≡ found → MatchOption found Q (λ first. left walk ≡ first ∷ left rest) → left before ≡ index ∷ left after
-  in-search Q found walk same next-is step = ap left (sym same) ∙ (first-is Q found index (left walk) (left rest) (sym next-is ∙ is) step ∙ ap (λ steps. index ∷ left steps) (sym after-is))
-
--- the indices that are still to come
-abbrev left-of : (g : given.Over) → SetWithRoom → g.row.R-Mask.Denot → SharedSteps → List ℕ
-left-of g = still_shared g.R.Mask.BitSetLike.members
-
--- what was shown is shown with the part at an index written, too
-shows-there : (g : given.Over) → let layout = g.L.UnprotectedStorage in (old now : g.row.L.Denot) (index : ℕ) (part : g.row.T.Denot) → IsSome (layout.part_at now index) → Shows layout.part_at layout.events layout.emits old now → Shows layout.part_at layout.events layout.emits old (layout.written now index part)
-shows-there g =
+-- how the change of all stopped
+stopped : (g : given.Over) (c : goal.After-drop-beside g) → EndsSo g.L.UnprotectedStorage.part_at g.L.UnprotectedStorage.events g.L.UnprotectedStorage.emits
+    (g.C.Change.changed c.args.change.now) (g.R.Join.value_at c.open-beside.result.1)
+    (passed_groups (λ i. has_member c.args.mask.now i && g.R.Mask.BitSetLike.members c.open-beside.result.0 i)
+    ((length c.layer0_as_slice-words.result.now + 63) / 64)) c.args.parts.now (Err c.in-Err.error) c.change_group.new.parts
+stopped g c =
     let layout = g.L.UnprotectedStorage in
-    let law = g.met.L.UnprotectedStorage in
-    shows-next layout.part_at layout.events layout.emits layout.written law.written_puts law.written_tells law.written_emits
+    let changed = g.C.Change.changed c.args.change.now in
+    let items = g.R.Join.value_at c.open-beside.result.1 in
+    let has : ℕ → Bool = λ i. has_member c.args.mask.now i && g.R.Mask.BitSetLike.members c.open-beside.result.0 i in
+    let top = c.loop-top.top in
+    let tops = (length c.layer0_as_slice-words.result.now + 63) / 64 in
+    let low : top < tops = omega arith in
+    let now = c.change_group.new.parts in
+    let ends = subst (λ result. EndsSo layout.part_at layout.events layout.emits changed items (in_group has top) c.loop-top.parts result now) c.in-Err.is
+    c.change_group.ensures.ends in
+    stops-next layout.part_at layout.events layout.emits changed items (passed_groups has top) (in_group has top) c.args.parts.now c.loop-top.parts now
+    (groups-before has top) c.loop-top.invariant.shows c.loop-top.invariant.done
+    (passed_groups has tops) c.in-Err.error (groups-below has top tops low) (groups-there has top tops low) ends
 
-pub loop-index-init : goal.loop-index-init
-loop-index-init g c =
-    let members = g.R.Mask.BitSetLike.members in
-    let joins = g.R.Join.joins c.args.read in
-    let mask = c.args.mask.now in
-    let begins : still_shared members mask c.open-beside.result.0 c.new-steps.result ≡ walk (λ index. has_member mask index && is_some (joins index)) =
-    c.new-steps.ensures
-    ∙ walk-same (shared members mask c.open-beside.result.0) (λ index. has_member mask index && is_some (joins index)) (λ index low. ap (λ b. has_member mask index && b) (c.open-beside.ensures.mask index low)) in
-    let words = c.layer0_as_slice-words.ensures in
+-- how the change of all ended
+ended : (g : given.Over) (c : goal.After-drop-beside-2 g) → AreDone g.L.UnprotectedStorage.part_at g.L.UnprotectedStorage.events g.L.UnprotectedStorage.emits
+    (g.C.Change.changed c.args.change.now) (g.R.Join.value_at c.open-beside.result.1)
+    (passed_groups (λ i. has_member c.args.mask.now i && g.R.Mask.BitSetLike.members c.open-beside.result.0 i)
+    ((length c.layer0_as_slice-words.result.now + 63) / 64)) c.args.parts.now c.loop-top.parts
+ended g c =
     let layout = g.L.UnprotectedStorage in
+    let has : ℕ → Bool = λ i. has_member c.args.mask.now i && g.R.Mask.BitSetLike.members c.open-beside.result.0 i in
+    let last : c.loop-top.top ≡ (length c.layer0_as_slice-words.result.now + 63) / 64 = omega arith in
+    subst (λ top. AreDone layout.part_at layout.events layout.emits (g.C.Change.changed c.args.change.now) (g.R.Join.value_at c.open-beside.result.1)
+    (passed_groups has top) c.args.parts.now c.loop-top.parts) last c.loop-top.invariant.done
+
+pub loop-top-init : goal.loop-top-init
+loop-top-init g c =
+    let layout = g.L.UnprotectedStorage in
+    let has : ℕ → Bool = λ i. has_member c.args.mask.now i && g.R.Mask.BitSetLike.members c.open-beside.result.0 i in
     record {
-      ready = ready-first (has_member mask) (g.R.Join.value_at c.open-beside.result.1) joins _ begins c.open-beside.ensures.values;
-      emission = refl;
-      events = ap (told_each (layout.emits c.args.parts.now) (layout.events c.args.parts.now)) begins;
       shows = shows-refl layout.part_at layout.events layout.emits c.args.parts.now;
-      under = starts (g.C.Change.changed c.args.change.now) (g.L.UnprotectedStorage.part_at c.args.parts.now) joins (has_member mask) _ c.requires
-          (λ index is. let within = words.within index is in let limit = words.limit in omega (arith, within, limit)) begins;
+      done = done-none layout.part_at layout.events layout.emits (g.C.Change.changed c.args.change.now) (g.R.Join.value_at c.open-beside.result.1)
+          (passed_groups has 0) c.args.parts.now (groups-first has);
     }
 
-pub returns-in-Err-change-clause-below : goal.returns-in-Err-change-clause-below
-returns-in-Err-change-clause-below g c =
+pub loop-top-preserved : goal.loop-top-preserved
+loop-top-preserved g c =
     let layout = g.L.UnprotectedStorage in
-    let index = c.in-Some.index in
-    let next : left-of g c.args.mask.now c.open-beside.result.0 c.loop-index.steps ≡ index ∷ left-of g c.args.mask.now c.open-beside.result.0 c.match-in_word.steps = elim c.match-in_word.branch [
-      | in-Ok w ↦ in-word (left-of g c.args.mask.now c.open-beside.result.0) c.loop-index.steps _ _ w.steps-is _ index c.in-Some.is _ w.next-is (w.in-Ok.ensures.next (shared g.R.Mask.BitSetLike.members c.args.mask.now c.open-beside.result.0))
-      | in-Err w ↦ in-search (left-of g c.args.mask.now c.open-beside.result.0) c.loop-index.steps _ _ w.steps-is _ index c.in-Some.is _ _ _ w.in-Err.ensures.rest w.next-is w.searched-next.ensures
-    ] in
-    let there = c.in-Ok-get_mut.ensures.value in
-    let puts = g.met.L.UnprotectedStorage.written_puts c.loop-index.parts index c.change.new.part (ap is_some there) in
-    stops (g.C.Change.changed c.args.change.now) (layout.part_at c.args.parts.now) (g.R.Join.joins c.args.read) (layout.part_at c.loop-index.parts) _ index _ _ next (walk-later _ index _ next) c.loop-index.invariant.under
-    (put-same (layout.part_at c.loop-index.parts) _ index _ _ there puts c.in-Err-change.ensures.kept)
-
-pub loop-index-preserved : goal.loop-index-preserved
-loop-index-preserved g c =
-    let layout = g.L.UnprotectedStorage in
-    let index = c.in-Some.index in
-    let next : left-of g c.args.mask.now c.open-beside.result.0 c.loop-index.steps ≡ index ∷ left-of g c.args.mask.now c.open-beside.result.0 c.match-in_word.steps = elim c.match-in_word.branch [
-      | in-Ok w ↦ in-word (left-of g c.args.mask.now c.open-beside.result.0) c.loop-index.steps _ _ w.steps-is _ index c.in-Some.is _ w.next-is (w.in-Ok.ensures.next (shared g.R.Mask.BitSetLike.members c.args.mask.now c.open-beside.result.0))
-      | in-Err w ↦ in-search (left-of g c.args.mask.now c.open-beside.result.0) c.loop-index.steps _ _ w.steps-is _ index c.in-Some.is _ _ _ w.in-Err.ensures.rest w.next-is w.searched-next.ensures
-    ] in
-    let there = c.in-Ok-get_mut.ensures.value in
-    let ready = c.loop-index.invariant.ready in
-    let come = subst (IsToCome index) (sym next) (inl refl) in
-    let puts = g.met.L.UnprotectedStorage.written_puts c.loop-index.parts index c.change.new.part (ap is_some there) in
-    let emits = layout.emits c.args.parts.now in
-    let left = still_shared g.R.Mask.BitSetLike.members c.args.mask.now c.open-beside.result.0 c.match-in_word.steps in
+    let changed = g.C.Change.changed c.args.change.now in
+    let items = g.R.Join.value_at c.open-beside.result.1 in
+    let has : ℕ → Bool = λ i. has_member c.args.mask.now i && g.R.Mask.BitSetLike.members c.open-beside.result.0 i in
+    let top = c.loop-top.top in
+    let before = groups-before has top in
+    let shown = c.loop-top.invariant.shows in
+    let done = c.loop-top.invariant.done in
+    let now = c.change_group.new.parts in
+    let ends = subst (λ result. EndsSo layout.part_at layout.events layout.emits changed items (in_group has top) c.loop-top.parts result now) c.in-Ok.is
+    c.change_group.ensures.ends in
     record {
-      ready = ready-next _ _ _ _ _ index next ready;
-      emission = g.met.L.UnprotectedStorage.written_emits c.loop-index.parts index c.change.new.part ∙ c.loop-index.invariant.emission;
-      events =
-          ap (λ events. told_each emits events left) (g.met.L.UnprotectedStorage.written_tells c.loop-index.parts index c.change.new.part)
-          ∙ (ap (λ e. told_each emits (told e (layout.events c.loop-index.parts) (event.Modified index)) left) c.loop-index.invariant.emission
-          ∙ (ap (told_each emits (layout.events c.loop-index.parts)) (sym next) ∙ c.loop-index.invariant.events));
-      shows = shows-there g c.args.parts.now c.loop-index.parts index c.change.new.part (ap is_some there) c.loop-index.invariant.shows;
-      under = steps (g.C.Change.changed c.args.change.now) (layout.part_at c.args.parts.now) (g.R.Join.joins c.args.read) (layout.part_at c.loop-index.parts) _ index _ _ next (walk-later _ index _ next) c.loop-index.invariant.under
-          _ c.change.new.part _ there (sym (ready.same index come) ∙ c.get-item.ensures) c.in_default-change.ensures.done puts;
+      shows = shows-both layout.part_at layout.events layout.emits changed items (passed_groups has top) (in_group has top) c.args.parts.now c.loop-top.parts
+          now before shown done c.change_group.ensures.shows;
+      done = done-next layout.part_at layout.events layout.emits changed items (passed_groups has top) (in_group has top) c.args.parts.now c.loop-top.parts now before shown done
+          (passed_groups has (top + 1)) (groups-next has top) ends;
     }
 
-pub returns-in-Err-change-clause-shows : goal.returns-in-Err-change-clause-shows
-returns-in-Err-change-clause-shows g c = shows-there g c.args.parts.now c.loop-index.parts c.in-Some.index c.change.new.part (ap is_some c.in-Ok-get_mut.ensures.value) c.loop-index.invariant.shows
-
-pub returns-in-Err-change-clause-same : goal.returns-in-Err-change-clause-same
-returns-in-Err-change-clause-same g c = (returns-in-Err-change-clause-below g c).same
-
-pub returns-in-Err-get_mut-clause-memory : goal.returns-in-Err-get_mut-clause-memory
-returns-in-Err-get_mut-clause-memory g c =
+pub change_group-requires-clause-ready : goal.change_group-requires-clause-ready
+change_group-requires-clause-ready g c =
     let layout = g.L.UnprotectedStorage in
-    let index = c.in-Some.index in
-    let next : left-of g c.args.mask.now c.open-beside.result.0 c.loop-index.steps ≡ index ∷ left-of g c.args.mask.now c.open-beside.result.0 c.match-in_word.steps = elim c.match-in_word.branch [
-      | in-Ok w ↦ in-word (left-of g c.args.mask.now c.open-beside.result.0) c.loop-index.steps _ _ w.steps-is _ index c.in-Some.is _ w.next-is (w.in-Ok.ensures.next (shared g.R.Mask.BitSetLike.members c.args.mask.now c.open-beside.result.0))
-      | in-Err w ↦ in-search (left-of g c.args.mask.now c.open-beside.result.0) c.loop-index.steps _ _ w.steps-is _ index c.in-Some.is _ _ _ w.in-Err.ensures.rest w.next-is w.searched-next.ensures
-    ] in
-    (index, stops (g.C.Change.changed c.args.change.now) (layout.part_at c.args.parts.now) (g.R.Join.joins c.args.read) (layout.part_at c.loop-index.parts) (layout.part_at c.loop-index.parts) index _ _ next (walk-later _ index _ next) c.loop-index.invariant.under (λ other. refl))
+    λ index passes.
+    let there = whole-there layout.part_at layout.events layout.emits (g.C.Change.changed c.args.change.now) (g.R.Join.value_at c.open-beside.result.1)
+    (g.R.Join.joins c.args.read) (has_member c.args.mask.now) (g.R.Mask.BitSetLike.members c.open-beside.result.0)
+    ((length c.layer0_as_slice-words.result.now + 63) / 64) c.args.parts.now c.requires
+    (in-range (has_member c.args.mask.now) (length c.layer0_as_slice-words.result.now) c.args.mask.now.room c.layer0_as_slice-words.ensures.within
+    c.layer0_as_slice-words.ensures.room c.layer0_as_slice-words.ensures.limit) c.open-beside.ensures.mask c.open-beside.ensures.values c.loop-top.top index passes in
+    (c.loop-top.invariant.done.parts.same index ∙ there.0, there.1)
+
+pub returns-in-Err-clause-shows : goal.returns-in-Err-clause-shows
+returns-in-Err-clause-shows g c =
+    let layout = g.L.UnprotectedStorage in
+    let has : ℕ → Bool = λ i. has_member c.args.mask.now i && g.R.Mask.BitSetLike.members c.open-beside.result.0 i in
+    shows-both layout.part_at layout.events layout.emits (g.C.Change.changed c.args.change.now) (g.R.Join.value_at c.open-beside.result.1)
+    (passed_groups has c.loop-top.top) (in_group has c.loop-top.top) c.args.parts.now c.loop-top.parts c.change_group.new.parts
+    (groups-before has c.loop-top.top) c.loop-top.invariant.shows c.loop-top.invariant.done c.change_group.ensures.shows
+
+pub returns-in-Err-clause-succeeds : goal.returns-in-Err-clause-succeeds
+returns-in-Err-clause-succeeds g c =
+    let layout = g.L.UnprotectedStorage in
+    whole-quiet layout.part_at layout.events layout.emits (g.C.Change.changed c.args.change.now) (g.R.Join.value_at c.open-beside.result.1)
+    (g.R.Join.joins c.args.read) (has_member c.args.mask.now) (g.R.Mask.BitSetLike.members c.open-beside.result.0)
+    ((length c.layer0_as_slice-words.result.now + 63) / 64) c.args.parts.now c.requires
+    (in-range (has_member c.args.mask.now) (length c.layer0_as_slice-words.result.now) c.args.mask.now.room c.layer0_as_slice-words.ensures.within
+    c.layer0_as_slice-words.ensures.room c.layer0_as_slice-words.ensures.limit) c.open-beside.ensures.mask c.open-beside.ensures.values
+    c.change_group.new.parts c.in-Err.error (stopped g c)
+
+pub returns-in-Err-clause-same : goal.returns-in-Err-clause-same
+returns-in-Err-clause-same g c =
+    let layout = g.L.UnprotectedStorage in
+    whole-same layout.part_at layout.events layout.emits (g.C.Change.changed c.args.change.now) (g.R.Join.value_at c.open-beside.result.1)
+    (g.R.Join.joins c.args.read) (has_member c.args.mask.now) (g.R.Mask.BitSetLike.members c.open-beside.result.0)
+    ((length c.layer0_as_slice-words.result.now + 63) / 64) c.args.parts.now c.requires
+    (in-range (has_member c.args.mask.now) (length c.layer0_as_slice-words.result.now) c.args.mask.now.room c.layer0_as_slice-words.ensures.within
+    c.layer0_as_slice-words.ensures.room c.layer0_as_slice-words.ensures.limit) c.open-beside.ensures.mask c.open-beside.ensures.values
+    c.change_group.new.parts c.in-Err.error (stopped g c)
+
+pub returns-in-Err-clause-memory : goal.returns-in-Err-clause-memory
+returns-in-Err-clause-memory g c =
+    let layout = g.L.UnprotectedStorage in
+    whole-memory layout.part_at layout.events layout.emits (g.C.Change.changed c.args.change.now) (g.R.Join.value_at c.open-beside.result.1)
+    (g.R.Join.joins c.args.read) (has_member c.args.mask.now) (g.R.Mask.BitSetLike.members c.open-beside.result.0)
+    ((length c.layer0_as_slice-words.result.now + 63) / 64) c.args.parts.now c.requires
+    (in-range (has_member c.args.mask.now) (length c.layer0_as_slice-words.result.now) c.args.mask.now.room c.layer0_as_slice-words.ensures.within
+    c.layer0_as_slice-words.ensures.room c.layer0_as_slice-words.ensures.limit) c.open-beside.ensures.mask c.open-beside.ensures.values
+    c.change_group.new.parts c.in-Err.error (stopped g c)
+
+pub returns-in-Err-clause-refused : goal.returns-in-Err-clause-refused
+returns-in-Err-clause-refused g c =
+    let layout = g.L.UnprotectedStorage in
+    whole-refused layout.part_at layout.events layout.emits (g.C.Change.changed c.args.change.now) (g.R.Join.value_at c.open-beside.result.1)
+    (g.R.Join.joins c.args.read) (has_member c.args.mask.now) (g.R.Mask.BitSetLike.members c.open-beside.result.0)
+    ((length c.layer0_as_slice-words.result.now + 63) / 64) c.args.parts.now c.requires
+    (in-range (has_member c.args.mask.now) (length c.layer0_as_slice-words.result.now) c.args.mask.now.room c.layer0_as_slice-words.ensures.within
+    c.layer0_as_slice-words.ensures.room c.layer0_as_slice-words.ensures.limit) c.open-beside.ensures.mask c.open-beside.ensures.values
+    c.change_group.new.parts c.in-Err.error (stopped g c)
+
+pub returns-in-Err-clause-below : goal.returns-in-Err-clause-below
+returns-in-Err-clause-below g c =
+    let layout = g.L.UnprotectedStorage in
+    whole-below layout.part_at layout.events layout.emits (g.C.Change.changed c.args.change.now) (g.R.Join.value_at c.open-beside.result.1)
+    (g.R.Join.joins c.args.read) (has_member c.args.mask.now) (g.R.Mask.BitSetLike.members c.open-beside.result.0)
+    ((length c.layer0_as_slice-words.result.now + 63) / 64) c.args.parts.now c.requires
+    (in-range (has_member c.args.mask.now) (length c.layer0_as_slice-words.result.now) c.args.mask.now.room c.layer0_as_slice-words.ensures.within
+    c.layer0_as_slice-words.ensures.room c.layer0_as_slice-words.ensures.limit) c.open-beside.ensures.mask c.open-beside.ensures.values
+    c.change_group.new.parts c.in-Err.error (stopped g c)
+
+pub returns-clause-ok : goal.returns-clause-ok
+returns-clause-ok g c =
+    let layout = g.L.UnprotectedStorage in
+    whole-done layout.part_at layout.events layout.emits (g.C.Change.changed c.args.change.now) (g.R.Join.value_at c.open-beside.result.1)
+    (g.R.Join.joins c.args.read) (has_member c.args.mask.now) (g.R.Mask.BitSetLike.members c.open-beside.result.0)
+    ((length c.layer0_as_slice-words.result.now + 63) / 64) c.args.parts.now c.requires
+    (in-range (has_member c.args.mask.now) (length c.layer0_as_slice-words.result.now) c.args.mask.now.room c.layer0_as_slice-words.ensures.within
+    c.layer0_as_slice-words.ensures.room c.layer0_as_slice-words.ensures.limit) c.open-beside.ensures.mask c.open-beside.ensures.values c.loop-top.parts (ended g c)
+
+pub returns-clause-events : goal.returns-clause-events
+returns-clause-events g c =
+    let layout = g.L.UnprotectedStorage in
+    whole-told layout.part_at layout.events layout.emits (g.C.Change.changed c.args.change.now) (g.R.Join.value_at c.open-beside.result.1)
+    (g.R.Join.joins c.args.read) (has_member c.args.mask.now) (g.R.Mask.BitSetLike.members c.open-beside.result.0)
+    ((length c.layer0_as_slice-words.result.now + 63) / 64) c.args.parts.now c.requires
+    (in-range (has_member c.args.mask.now) (length c.layer0_as_slice-words.result.now) c.args.mask.now.room c.layer0_as_slice-words.ensures.within
+    c.layer0_as_slice-words.ensures.room c.layer0_as_slice-words.ensures.limit) c.open-beside.ensures.mask c.open-beside.ensures.values c.loop-top.parts (ended g c)

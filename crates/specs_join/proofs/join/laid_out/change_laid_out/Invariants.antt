@@ -1,21 +1,15 @@
-use Rattle.std.proofs.Common.{◌≡◌, length}
+use Rattle.std.proofs.Common.{◌*◌, ◌&&◌, nat_lt}
 use Rattle.hibitset_sets.specs.BitSet.{has_member}
+use Rattle.hibitset_sets.specs.Operators.{members_of_and}
 use Rattle.specs_layouts.specs.Shows.{Shows}
-use Rattle.specs_join.specs.ChangeEach.{told_each, shared_indices}
-use Rattle.specs_join.specs.Steps.{still_shared}
-use Rattle.specs_join.proofs.ChangeEachLemmas.{IsUnderWay, IsReadyFor}
+use Rattle.specs_join.specs.Tested.{AreDone}
 use Rattle.specs_join.proofs.join.laid_out.change_laid_out.Given as goal
 
-abbrev pub invariant-loop-index : goal.invariant-loop-index
-invariant-loop-index g l =
-    let left = still_shared g.R.Mask.BitSetLike.members l.mask l.beside l.steps in
+abbrev pub invariant-loop-top : goal.invariant-loop-top
+invariant-loop-top g l =
+    let layout = g.L.UnprotectedStorage in
     record {
-      ready : IsReadyFor (has_member l.mask) (g.R.Join.value_at l.values) (g.R.Join.joins l.fn.read) left;
-      emission : g.L.UnprotectedStorage.emits l.parts ≡ g.L.UnprotectedStorage.emits l.fn.parts;
-      events : told_each (g.L.UnprotectedStorage.emits l.fn.parts) (g.L.UnprotectedStorage.events l.parts) left ≡ told_each (g.L.UnprotectedStorage.emits l.fn.parts) (g.L.UnprotectedStorage.events l.fn.parts) (shared_indices l.mask (g.R.Join.joins l.fn.read));
-      shows : Shows g.L.UnprotectedStorage.part_at g.L.UnprotectedStorage.events g.L.UnprotectedStorage.emits l.fn.parts l.parts;
-      under : IsUnderWay (g.C.Change.changed l.change) (g.L.UnprotectedStorage.part_at l.fn.parts) (g.R.Join.joins l.fn.read) (g.L.UnprotectedStorage.part_at l.parts) left;
+      shows : Shows layout.part_at layout.events layout.emits l.fn.parts l.parts;
+      done : AreDone layout.part_at layout.events layout.emits (g.C.Change.changed l.change) (g.R.Join.value_at l.values)
+          (λ i. nat_lt i (4096 * l.top) && members_of_and (has_member l.set.0.now) (g.R.Mask.BitSetLike.members l.set.1.now) i) l.fn.parts l.parts;
     }
-
-abbrev pub decreases-loop-index : goal.decreases-loop-index
-decreases-loop-index g l = length (still_shared g.R.Mask.BitSetLike.members l.mask l.beside l.steps)
