@@ -96,3 +96,31 @@ fn no_index_is_new_to_two_threads(rt: HostRuntime) -> Result<(), Fail> {
     }
     Ok(())
 }
+
+/// Whether a seat finds what another added, and not what nobody did.
+fn found_by_another(set: &SharedBitSet, one: BitSeat, other: BitSeat) -> (bool, bool)
+    requires { IsSeatOf set.now one × IsSeatOf set.now other }
+{
+    let mut one = one;
+    let mut other = other;
+    let _ = set.add_atomic(&mut one, 70_000);
+    (
+        set.contains(&mut other, 70_000),
+        set.contains(&mut other, 70_001),
+    )
+}
+
+/// The same of a set without members; none where a call was refused.
+fn found_in_a_set(alloc: Global) -> Option<(bool, bool)> {
+    let Ok((set, seat)) = AtomicBitSet::new(alloc).share() else {
+        return None;
+    };
+    let (one, other) = seat.split(&set, 1);
+    Some(found_by_another(&set, one, other))
+}
+
+#[test]
+fn what_one_seat_adds_another_finds(rt: HostRuntime) -> Result<(), Fail> {
+    assert_eq!(rt; found_in_a_set(rt.alloc()), Some((true, false)));
+    Ok(())
+}

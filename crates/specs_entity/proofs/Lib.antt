@@ -14,3 +14,4 @@ pub mod PhaseReserveLemmas
 pub mod PhaseAliveLemmas
 pub mod AcceptLemmas
 pub mod PhaseCloseLemmas
+pub mod PhaseHandLemmas

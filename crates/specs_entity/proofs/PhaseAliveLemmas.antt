@@ -1,13 +1,13 @@
 -- Who lives in a phase, by the last persistent birth of an index and its bit in the raised set.
-use Rattle.std.proofs.Common.{◌≡◌, ◌⊎◌, ℕ, ◌+◌, ◌*◌, ◌<◌, Bool, true, false, Option, Some, None, refl, sym, ap, ◌∙◌, subst, arith, inl, inr, ⊎_elim}
+use Rattle.std.proofs.Common.{◌≡◌, ◌⊎◌, ℕ, ◌+◌, ◌*◌, ◌<◌, ◌≤◌, Bool, true, false, Option, Some, None, refl, sym, ap, ◌∙◌, subst, arith, inl, inr, ⊎_elim}
 use Rattle.std.specs.FinSet as fin
 use Rattle.specs_entity.specs.Life.{Life, LifeAt}
 use Rattle.specs_entity.specs.Births.{persistent_at, alive_of, number_of, next_life, CanCreate, IsAlive}
 use Rattle.specs_entity.specs.Layout.{AreBirths}
 use Rattle.specs_entity.specs.declared.phase_rule.PhaseKey.{PhaseKey}
 use Rattle.specs_entity.specs.declared.phase_rule.EntityView.{EntityView}
-use Rattle.specs_entity.specs.PhaseCore.{index_at}
-use Rattle.specs_entity.specs.PhaseViews.{setting_of, reserved, IsAfter, IsNext, HasRaised, HasSeen, Knows, Finds, MayLive}
+use Rattle.specs_entity.specs.PhaseCore.{index_at, IsReserved}
+use Rattle.specs_entity.specs.PhaseViews.{setting_of, reserved, IsAfter, IsNext, IsGiven, HasRaised, HasSeen, Knows, Finds, MayLive}
 use Rattle.std.specs.Option.{is_some}
 use Rattle.specs_entity.proofs.BirthLemmas.{some-none, living-fresh, living-lasting, used-living}
 use Rattle.specs_entity.proofs.PhaseReserveLemmas.{reserved-next, index-reserved}
@@ -52,6 +52,17 @@ module _ (key : PhaseKey) (kept : AreBirths key.before) (entity : LifeAt) where
   pub next-after : (born : ℕ) → born ≡ number_of last → IsNext key.before entity → IsAfter born entity.generation
   next-after born is next = (ap (λ (life : Life). life.number) next.1 ∙ ap (λ n. n + 1) (sym is), ap (λ (life : Life). life.lives) next.1)
 
+  -- one that comes next, and at whose index was raised at `share` or by one of the first of the reserve, was alive at `share` or is one of these
+  given-at : CanCreate key.reserve key.before → (count : ℕ) → count ≤ key.reserve → IsNext key.before entity
+      → (fin.contains key.before.fresh entity.id ≡ true) ⊎ IsReserved (setting_of key) count entity.id → IsAlive key.before entity ⊎ IsGiven key count entity
+  given-at can count most next raised = ⊎_elim
+      (λ fresh. inl (living-fresh key.before entity.id fresh ∙ ap Some (sym next.1)))
+      (λ (at : IsReserved (setting_of key) count entity.id).
+      let low : at.0 < key.reserve = let below = at.1 in omega (arith, below, most) in
+      let index : (reserved key at.0).id ≡ entity.id = sym (index-reserved key kept at.0) ∙ at.2 in
+      let generation : (reserved key at.0).generation ≡ entity.generation = (reserved-next key kept can at.0 low).1 ∙ ap (λ i. next_life (persistent_at key.before i)) index ∙ sym next.1 in
+      inr (at.0, at.1, λ j. record { id = index j; generation = generation j })) raised
+
   module _ (view : EntityView) (same : view.key ≡ key) where
     -- an entity that the last persistent birth rules out isn't known
     pub unknown : (alive_of last ≡ Some entity.generation → ⊥) → (IsNext key.before entity → ⊥) → Knows view entity → ⊥
@@ -67,13 +78,18 @@ module _ (key : PhaseKey) (kept : AreBirths key.before) (entity : LifeAt) where
 
     -- and raised, it was alive at `share` or is of the reserve
     pub raised-may : CanCreate key.reserve key.before → IsNext key.before entity → MayRaise view entity.id → MayLive key entity
-    raised-may can next raised = ⊎_elim
-        (λ fresh. inl (living-fresh key.before entity.id (ap (λ (k : PhaseKey). fin.contains k.before.fresh entity.id) (sym same) ∙ fresh) ∙ ap Some (sym next.1)))
-        (λ (at : (place : ℕ) × (place < view.key.reserve) × (index_at (setting_of view.key) place ≡ entity.id)).
-        let low : at.0 < key.reserve = let most = at.1 in let equal : view.key.reserve ≡ key.reserve = ap (λ (k : PhaseKey). k.reserve) same in omega (arith, most, equal) in
-        let index : (reserved key at.0).id ≡ entity.id = sym (index-reserved key kept at.0) ∙ ap (λ (k : PhaseKey). index_at (setting_of k) at.0) (sym same) ∙ at.2 in
-        let generation : (reserved key at.0).generation ≡ entity.generation = (reserved-next key kept can at.0 low).1 ∙ ap (λ i. next_life (persistent_at key.before i)) index ∙ sym next.1 in
-        inr (at.0, low, λ j. record { id = index j; generation = generation j })) raised
+    raised-may can next raised = given-at can key.reserve (omega arith) next (subst (λ (k : PhaseKey). (fin.contains k.before.fresh entity.id ≡ true) ⊎ IsReserved (setting_of k) k.reserve entity.id) same raised)
+
+    -- who is known was alive at `share`, or is of the first of the reserve where these are all that were raised
+    pub known-given : CanCreate key.reserve key.before → (count : ℕ) → count ≤ key.reserve
+        → ((index : ℕ) → index < 64 * (setting_of key).sizes.first → HasRaised view index ⊎ HasSeen view index → (fin.contains key.before.fresh index ≡ true) ⊎ IsReserved (setting_of key) count index)
+        → Knows view entity → IsAlive key.before entity ⊎ IsGiven key count entity
+    known-given can count most raised known = ⊎_elim
+        (λ alive. inl (subst (λ (k : PhaseKey). IsAlive k.before entity) same alive))
+        (λ other.
+        let next : IsNext key.before entity = subst (λ (k : PhaseKey). IsNext k.before entity) same other.0 in
+        let within : entity.id < 64 * (setting_of key).sizes.first = subst (λ (k : PhaseKey). entity.id < 64 * (setting_of k).sizes.first) same other.1 in
+        given-at can count most next (raised entity.id within other.2)) known
 
 pub true-unless : (test : Bool) → (test ≡ false → ⊥) → test ≡ true
 true-unless true no_way = refl

@@ -1,8 +1,9 @@
 -- What a seat with all parts says of the last words of a phase.
-use Rattle.std.proofs.Common.{◌≡◌, ◌⊎◌, ℕ, zero, suc, ◌+◌, ◌*◌, ◌/◌, ◌%◌, ◌<◌, ◌≤◌, ◌==◌, ◌||◌, eqb, Bool, true, false, Option, Some, None, List, [], ◌∷◌, ◌++◌, map, length, get_or, refl, sym, ap, ◌∙◌, subst, arith, inl, inr, ⊎_elim, eq-eqb, ne_eqb}
+use Rattle.std.proofs.Common.{◌≡◌, ◌⊎◌, ℕ, zero, suc, ◌+◌, ◌*◌, ◌/◌, ◌%◌, ◌<◌, ◌≤◌, ◌==◌, ◌||◌, eqb, Bool, true, false, Option, Some, None, List, [], ◌∷◌, ◌++◌, map, length, get_or, slice_index, refl, sym, ap, ◌∙◌, subst, arith, inl, inr, ⊎_elim, eq-eqb, ne_eqb}
 use Rattle.std.proofs.lemmas.Bool.{true≢false}
 use Rattle.std.proofs.lemmas.List.{get_or-take, get_or-append-add}
 use Rattle.std.proofs.lemmas.List.Elements.{All-contains}
+use Rattle.std.specs.Int.{bit_at}
 use Rattle.std.specs.List.{All, Contains}
 use Rattle.std.specs.Option.{is_some}
 use Rattle.std.specs.FinSet as fin
@@ -14,7 +15,7 @@ use Rattle.atomic_table.specs.Table.{State, Final, Seen}
 use Rattle.atomic_table.proofs.Lists.{at_map}
 use Rattle.hibitset_sets.specs.Bits.{has_bit}
 use Rattle.hibitset.specs.declared.atomic_core.Caller.{Caller}
-use Rattle.hibitset.specs.AtomicCore.{word_count, bit, total, new_reports, in_flight, calls_of, HasAllBits}
+use Rattle.hibitset.specs.AtomicCore.{word_count, bit, total, new_reports, in_flight, calls_of, HasAllBits, StaysSet}
 use Rattle.hibitset.specs.AtomicRuns.{run_of}
 use Rattle.hibitset.proofs.AtomicRestLemmas.{reported-listed, set-reported, calls-idle}
 use Rattle.hibitset.proofs.RowLemmas.{has_bit-bit_at}
@@ -26,8 +27,8 @@ use Rattle.specs_entity.specs.declared.phase_core.Claimer.{Claimer}
 use Rattle.specs_entity.specs.declared.phase_rule.PhaseKey.{PhaseKey}
 use Rattle.specs_entity.specs.declared.phase_rule.EntityView.{EntityView}
 use Rattle.specs_entity.specs.PhaseCore.{occurrences, once_below, called, HasLived, IsReserved}
-use Rattle.specs_entity.specs.PhaseViews.{setting_of, reserved}
-use Rattle.specs_entity.specs.PhaseRule.{killer, claimer_of, phase_of, IsTable, Holds}
+use Rattle.specs_entity.specs.PhaseViews.{setting_of, reserved, HasRaised, HasSeen}
+use Rattle.specs_entity.specs.PhaseRule.{raiser, killer, claimer_of, phase_of, IsTable, Holds}
 use Rattle.specs_entity.proofs.BirthLemmas.{some-none, living-fresh}
 use Rattle.specs_entity.proofs.NewLemmas.{newborns-new, all_created-live_on}
 use Rattle.specs_entity.proofs.PhaseReserveLemmas.{newborns-length, first-newborns, index-reserved, reserve-length}
@@ -80,6 +81,7 @@ pub record IsClosed (key : PhaseKey) (view : EntityView) (words : List ℕ) : Ty
   pub killed : (index : ℕ) → index < 64 * (setting_of key).sizes.first → has_bit (get_or words (1 + word_count (setting_of key).sizes + index / 64) 0) (index % 64) ≡ true
       → (is_in (map called view.kill.calls) index ≡ true) ⊎ (fin.contains key.before.deletions index ≡ true)
   pub deleted : (index : ℕ) → is_in (map called view.kill.calls) index ≡ true → (index < 64 * (setting_of key).sizes.first) × (has_bit (get_or words (1 + word_count (setting_of key).sizes + index / 64) 0) (index % 64) ≡ true)
+  pub raised : (index : ℕ) → index < 64 * (setting_of key).sizes.first → HasRaised view index ⊎ HasSeen view index → (fin.contains key.before.fresh index ≡ true) ⊎ IsReserved (setting_of key) (get_or words 0 0) index
   pub lives : (index : ℕ) → index < 64 * (setting_of key).sizes.first → has_bit (get_or words (1 + word_count (setting_of key).sizes + index / 64) 0) (index % 64) ≡ true → living (all_created (get_or words 0 0) key.before) index ≡ None → ⊥
 
 abbrev parts_of : EntityView → ℕ
@@ -144,6 +146,14 @@ module _ (key : PhaseKey) (kept : AreBirths key.before) (can : CanCreate key.res
       (λ fresh. before-lives index _ (living-fresh key.before index fresh))
       (reserved-lives index) (raised-is (setting_of key) (phase_of table.claim table.raised table.killed state.views) table.phase index within on)) lived
 
+  -- what the view raised or saw raised has its bit
+  raised-bit : (index : ℕ) → HasRaised view index ⊎ HasSeen view index → bit table.raised index ≡ 1
+  raised-bit index seen =
+      let caller = table.phase.raised.each who view.raise (at_map raiser state.views who view at) in
+      ⊎_elim
+      (λ (made : HasRaised view index). subst (λ i. bit table.raised i ≡ 1) made.2 ((All-contains (λ call. HasAllBits (setting_of key).sizes table.raised call.0) view.raise.calls made.0 caller.ended made.1).1 0 (omega arith)))
+      (λ (look : HasSeen view index). subst (λ place. bit_at (slice_index table.raised place) (index % 64) ≡ 1) look.2 (All-contains (StaysSet table.raised) view.raise.seen look.0 caller.seen look.1 (index % 64) look.3)) seen
+
   pub closed : IsClosed key view state.words
   closed =
       let found : table.claim ≡ get_or state.words 0 0 = sym (ap (λ words. get_or words 0 0) table.laid) in
@@ -158,6 +168,8 @@ module _ (key : PhaseKey) (kept : AreBirths key.before) (can : CanCreate key.res
             inl (contains-is_in view.kill.calls index listed.0 listed.1))
             (set-reported (setting_of key).sizes (setting_of key).killed (run_of table.killed (map killer state.views)) table.phase.killed index within (bit-of index on));
         deleted = λ index is. let four = is_in-listed (HasAllBits (setting_of key).sizes table.killed) view.kill.calls index (table.phase.killed.each who view.kill (at_map killer state.views who view at)).ended is in (four.0, of-bit index (four.1 0 (omega arith)));
+        raised = λ index within seen. subst (λ n. (fin.contains key.before.fresh index ≡ true) ⊎ IsReserved (setting_of key) n index) found
+            (raised-is (setting_of key) (phase_of table.claim table.raised table.killed state.views) table.phase index within (raised-bit index seen));
         lives = λ index within on. subst (λ n. living (all_created n key.before) index ≡ None → ⊥) found (⊎_elim
             (λ old. let some_there = none-or (living key.before index) (kept.deletions index old) in before-lives index some_there.0 some_there.1)
             (λ (new : (other : ℕ) × (caller : Caller) × (get_elem? (map killer state.views) other ≡ some caller) × (0 < new_reports index (calls_of caller))).

@@ -28,7 +28,7 @@ once_below-le place limit = grind arith
 once_below-lt : (place limit : ℕ) → 0 < once_below place limit → place < limit
 once_below-lt place limit some_times = grind arith
 
-once_below-one : (place limit : ℕ) → place < limit → once_below place limit ≡ 1
+pub once_below-one : (place limit : ℕ) → place < limit → once_below place limit ≡ 1
 once_below-one place limit low = grind arith
 
 -- an index that calls report new is called at some place of the list

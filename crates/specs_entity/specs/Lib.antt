@@ -9,5 +9,6 @@ pub mod PhaseViews
 pub mod PhaseRule
 pub mod SharedPhase
 pub mod SharedSeats
+pub mod PhaseSeats
 pub mod SharedLayout
 pub mod Accepting

@@ -105,9 +105,13 @@ Knows view entity = IsAlive view.key.before entity ⊎ (IsNext view.key.before e
 abbrev pub Finds : EntityView → Entity → Type 0
 Finds view entity = IsAlive view.key.before entity ⊎ (IsNext view.key.before entity × IsWithin view entity.id × HasSeen view entity.id)
 
+-- the entity is one of the first so many of the reserve
+abbrev pub IsGiven : PhaseKey → ℕ → Entity → Type 0
+IsGiven key count entity = (place : ℕ) × (place < count) × (reserved key place ≡ entity)
+
 -- the entity was alive at `share` or is of the reserve
 abbrev pub MayLive : PhaseKey → Entity → Type 0
-MayLive key entity = IsAlive key.before entity ⊎ ((place : ℕ) × (place < key.reserve) × (reserved key place ≡ entity))
+MayLive key entity = IsAlive key.before entity ⊎ IsGiven key key.reserve entity
 
 -- at most one look at the word of an index changes a view
 abbrev pub LooksAt : EntityView → ℕ → EntityView → Type 0

@@ -10,9 +10,11 @@ pub record SharedPhase : Type 0 where
   pub table_id : TableId
   pub key : PhaseKey
 
+-- what a phase began with is stored as the pair of its parts
+abbrev pub key_code : Coded PhaseKey
+key_code = code_by (Births × ℕ) (coded× births_code coded_ℕ) (λ key. (key.before, key.reserve)) (λ p. record { before = p.0; reserve = p.1 }) (λ _. refl)
+
 -- it is stored as the tuple of its parts
 abbrev pub shared_phase_code : Coded SharedPhase
 shared_phase_code =
-    code_by (TableId × (Births × ℕ)) (coded× table_id_coded (coded× births_code coded_ℕ)) (λ s. (s.table_id, (s.key.before, s.key.reserve)))
-    (λ p. record { table_id = p.0; key = record { before = p.1.0; reserve = p.1.1 } })
-    (λ _. refl)
+    code_by (TableId × PhaseKey) (coded× table_id_coded key_code) (λ s. (s.table_id, s.key)) (λ p. record { table_id = p.0; key = p.1 }) (λ _. refl)

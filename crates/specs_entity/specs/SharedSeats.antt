@@ -1,13 +1,13 @@
 -- Seats of a phase: whose they are, and what a call makes of them.
-use Rattle.std.specs.Prelude.{◌≡◌, ℕ, ◌<◌, ◌≤◌, List, [], ◌∷◌, ◌++◌, map}
+use Rattle.std.specs.Prelude.{◌≡◌, ◌⊎◌, ℕ, ◌<◌, ◌≤◌, List, [], ◌∷◌, ◌++◌, map}
 use Rattle.specs_entity.specs.Life.{LifeAt}
-use Rattle.specs_entity.specs.Births.{Births, all_created}
+use Rattle.specs_entity.specs.Births.{Births, IsAlive, all_created}
 use Rattle.specs_entity.specs.declared.ids.Entity.{Entity}
 use Rattle.specs_entity.specs.declared.phase_rule.PhaseKey.{PhaseKey}
 use Rattle.specs_entity.specs.declared.phase_rule.EntityView.{EntityView}
 use Rattle.specs_entity.specs.declared.shared_entities.EntitySeat.{EntitySeat}
 use Rattle.specs_entity.specs.PhaseCore.{called, occurrences, once_below}
-use Rattle.specs_entity.specs.PhaseViews.{reserved, after_create, after_delete, LooksAt, all_accepted}
+use Rattle.specs_entity.specs.PhaseViews.{reserved, after_create, after_delete, IsGiven, Knows, LooksAt, all_accepted}
 use Rattle.specs_entity.specs.SharedPhase.{SharedPhase}
 
 -- what a seat holds, did and saw
@@ -46,9 +46,10 @@ pub record IsDeletion (before : EntityView) (index : ℕ) (after : EntityView) :
 abbrev pub AreFirst : ℕ → List ℕ → Type 0
 AreFirst count births = (place : ℕ) → occurrences place births ≡ once_below place count
 
--- the entities after so many births of the reserve, and the deletions that the view lists
+-- the entities after so many births of the reserve, and the deletions that the view lists; whoever the view knows was alive at `share` or is one of these births
 pub record AreSettled (key : PhaseKey) (view : EntityView) (after : Births) : Type 0 where
   pub claimed : ℕ
   pub most : claimed ≤ key.reserve
   pub births : AreFirst claimed view.claimer.births
   pub entities : after ≡ all_accepted (all_created claimed key.before) (map called view.kill.calls)
+  pub known : (entity : Entity) → Knows view entity → IsAlive key.before entity ⊎ IsGiven key claimed entity

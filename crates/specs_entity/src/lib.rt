@@ -13,6 +13,7 @@ pub mod laws;
 mod parts;
 pub mod phase_core;
 pub mod phase_rule;
+pub mod phase_seat;
 pub mod shared_entities;
 
 pub use builder::EntityResBuilder;
@@ -21,4 +22,5 @@ pub use entities_res::{Entities, EntitiesRes};
 pub use errors::{BoxedErr, Error, WrongGeneration};
 pub use hibitset::{Index, SeatsOut};
 pub use ids::{Entity, Generation};
+pub use phase_seat::PhaseSeat;
 pub use shared_entities::{AllowanceSpent, EntitySeat, SharedEntities};

@@ -1,5 +1,6 @@
 //! Storages behind a trait, for callers that take any.
-ghost use Rattle.std.specs.Prelude.{◌≡◌, ◌↔◌, ◌<◌, ℕ, Bool, false, IsOk, Option, Some, None, IsSome, is_some, option_copied};
+ghost use Rattle.std.specs.Prelude.{◌≡◌, ◌↔◌, ◌<◌, ℕ, Bool, false, IsOk};
+ghost use Rattle.std.specs.Prelude.{Option, Some, None, IsSome, is_some, option_copied};
 ghost use Rattle.std.specs.Prelude.{IfOk, IfErr, IsErrOf, OnOk, OnErr, if◌then◌else◌};
 ghost use Rattle.std.specs.Borrow.{sem, LendsIfOk, LendsSoOk};
 ghost use Rattle.std.specs.Option.{UnwrapsOrElse};

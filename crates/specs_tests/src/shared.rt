@@ -196,3 +196,51 @@ fn a_reserve_without_indices_is_refused(rt: HostRuntime) -> Result<(), Fail> {
     assert!(rt; three_of_two(rt.alloc())?);
     Ok(())
 }
+
+/// The index and the generation that a claim gives after the first entity of index 0 was killed.
+fn claim_after_a_kill(alloc: Global) -> Option<(u32, i32)> {
+    let mut entities = EntitiesRes::new(alloc);
+    let first = entities.allocate().ok()?;
+    entities.kill(&[first]).ok()?;
+    let Ok((phase, seat)) = entities.share(1) else {
+        return None;
+    };
+    let mut seat = seat;
+    let claimed = phase.create(&mut seat).ok()?;
+    Some((claimed.id(), claimed.generation().id()))
+}
+
+#[test]
+fn a_claim_follows_the_generations(rt: HostRuntime) -> Result<(), Fail> {
+    assert_eq!(rt; claim_after_a_kill(rt.alloc()), Some((0, 2)));
+    Ok(())
+}
+
+/// What one seat says of an entity before and after another creates it, and of one that the other deleted: alive until
+/// the next merge.
+fn seen_by_another(
+    phase: &SharedEntities,
+    one: EntitySeat,
+    other: EntitySeat,
+) -> Option<(bool, bool)>
+    requires { IsSeatOf phase.now one × IsSeatOf phase.now other }
+{
+    let mut one = one;
+    let mut other = other;
+    let created = phase.create(&mut one).ok()?;
+    let seen = phase.is_alive(&mut other, created);
+    phase.delete(&mut other, created).ok()?;
+    Some((seen, phase.is_alive(&mut one, created)))
+}
+
+/// The same in a phase of two seats.
+fn seen_in_a_phase(alloc: Global) -> Option<(bool, bool)> {
+    let (phase, one, other) = shared_by_two(alloc)?;
+    seen_by_another(&phase, one, other)
+}
+
+#[test]
+fn what_one_seat_creates_another_finds(rt: HostRuntime) -> Result<(), Fail> {
+    assert_eq!(rt; seen_in_a_phase(rt.alloc()), Some((true, true)));
+    Ok(())
+}

@@ -1,6 +1,7 @@
 //! What a shared set and its seats are asked.
 ghost use Rattle.std.specs.Prelude.{◌≡◌, ℕ, ◌<◌, ◌≤◌, ◌++◌, ◌∷◌, [], true, false, IfOk, MatchResult};
-ghost use Rattle.hibitset.specs.SeatViews.{whole_view, kept_view, given_view, joined_view, Knows, HasSeen, LooksAt, AreSettled};
+ghost use Rattle.hibitset.specs.SeatViews.{whole_view, kept_view, given_view, joined_view};
+ghost use Rattle.hibitset.specs.SeatViews.{Knows, HasSeen, LooksAt, AreSettled};
 ghost use Rattle.hibitset.specs.SharedSets.{view_of_seat, set_at_share, IsSeatOf};
 
 use crate::atomic::AtomicBitSet;
@@ -22,7 +23,8 @@ impl AtomicBitSet {
     /// Errors: `AllocError`, and the set comes back with the members that it had.
     pub fn share(self) -> Result<(SharedBitSet, BitSeat), (AllocError, AtomicBitSet)>
         ensures { MatchResult result
-            (λ shared. IsSeatOf shared.0 shared.1 × (view_of_seat shared.1 ≡ whole_view self) × (set_at_share shared.0 ≡ self))
+            (λ shared. IsSeatOf shared.0 shared.1 × (view_of_seat shared.1 ≡ whole_view self)
+            × (set_at_share shared.0 ≡ self))
             (λ refusal. refusal.1 ≡ self) }
     {
         let AtomicBitSet { mut bits } = self;
@@ -111,7 +113,8 @@ impl SharedBitSet {
         requires range { id < 16777216 }
         ensures seat { IsSeatOf self.entry.now seat.new }
         ensures parts { (view_of_seat seat.new).parts ≡ (view_of_seat seat.old).parts }
-        ensures listed { (view_of_seat seat.new).caller.calls ≡ (view_of_seat seat.old).caller.calls ++ (id, result) ∷ [] }
+        ensures listed { (view_of_seat seat.new).caller.calls
+            ≡ (view_of_seat seat.old).caller.calls ++ (id, result) ∷ [] }
         ensures seen { (view_of_seat seat.new).caller.seen ≡ (view_of_seat seat.old).caller.seen }
     {
         let shared = &self.table.shared;

@@ -27,7 +27,8 @@ pub(super) fn put_block(bits: &mut BitSet, closed: &Closed<(), Global>, block: u
     requires held { (index : ℕ) → index < 16777216 → has_member bits.old index ≡ true
         → has_bit (slice_index (slots_items closed.now.words) (index / 64)) (index % 64) ≡ true }
     ensures members { (index : ℕ) → has_member bits.new index ≡ (if index / 4096 == block
-        then has_bit (slice_index (slots_items closed.now.words) (index / 64)) (index % 64) else has_member bits.old index) }
+        then has_bit (slice_index (slots_items closed.now.words) (index / 64)) (index % 64)
+        else has_member bits.old index) }
     ensures room { bits.new.room ≡ bits.old.room }
 {
     for place in 64 * block..64 * block + 64 {

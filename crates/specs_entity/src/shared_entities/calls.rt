@@ -1,5 +1,6 @@
 //! What each thread asks of shared entities.
-ghost use Rattle.std.specs.Prelude.{◌≡◌, ℕ, ◌*◌, ◌+◌, ◌<◌, ◌≤◌, ◌↔◌, ◌⊎◌, true, false, IfOk, IfErr, OnOk, OnErr, MatchResult, None, Some};
+ghost use Rattle.std.specs.Prelude.{◌≡◌, ℕ, ◌*◌, ◌+◌, ◌<◌, ◌≤◌, ◌↔◌, ◌⊎◌, true, false};
+ghost use Rattle.std.specs.Prelude.{IfOk, IfErr, OnOk, OnErr, MatchResult, None, Some};
 ghost use Rattle.specs_entity.specs.Births.{wrong_generation};
 ghost use Rattle.specs_entity.specs.PhaseViews.{reserved, reach_of, IsNext, IsAfter, Knows, Finds, MayLive, LooksAt};
 ghost use Rattle.specs_entity.specs.SharedSeats.{IsSeatOf, IsBirth, IsDeletion, view_of_seat, births_of_seat};

@@ -1,5 +1,6 @@
 //! How shared entities are held alone again.
-ghost use Rattle.std.specs.Prelude.{◌≡◌, ◌≢◌, ℕ, ◌+◌, ◌*◌, ◌/◌, ◌%◌, ◌<◌, ◌≤◌, ◌==◌, true, None, List, length, if◌then◌else◌, IfOk, MatchResult};
+ghost use Rattle.std.specs.Prelude.{◌≡◌, ◌≢◌, ℕ, ◌+◌, ◌*◌, ◌/◌, ◌%◌, ◌<◌, ◌≤◌, ◌==◌, true, None, List};
+ghost use Rattle.std.specs.Prelude.{length, if◌then◌else◌, IfOk, MatchResult};
 ghost use Rattle.std.specs.Int.{bit_at};
 ghost use Rattle.std.specs.FinSet as set;
 ghost use Rattle.hibitset_sets.specs.Bits.{has_bit};
@@ -79,7 +80,8 @@ impl EntitiesRes {
         requires place { place < 262144 }
         requires alive { (bit : ℕ) → bit < 64 → bit_at word bit ≡ 1 → living self.old (place * 64 + bit) ≢ None }
         ensures same { IsSameBut self.old self.new }
-        ensures deletions { (index : ℕ) → set.contains self.new.deletions index ≡ accepted_in word place 64 self.old index }
+        ensures deletions { (index : ℕ) → set.contains self.new.deletions index
+            ≡ accepted_in word place 64 self.old index }
     {
         for bit in 0..64 {
             if (word >> bit) & 1 == 1 {

@@ -1,4 +1,4 @@
-use Rattle.std.proofs.Common.{arith, ◌≡◌, ℕ, ◌+◌, ◌*◌, ◌/◌, ◌%◌, ◌<◌, ◌==◌, ◌&&◌, ◌||◌, nat_lt, eqb, true, List, map, length, get_or, refl, inl, inr, ⊎_elim, sym, ap, subst, ◌∙◌}
+use Rattle.std.proofs.Common.{arith, ◌≡◌, ◌⊎◌, ℕ, ◌+◌, ◌*◌, ◌/◌, ◌%◌, ◌<◌, ◌==◌, ◌&&◌, ◌||◌, nat_lt, eqb, true, List, map, length, get_or, refl, inl, inr, ⊎_elim, sym, ap, subst, ◌∙◌}
 use Rattle.std.specs.Slots.{slots_items}
 use Rattle.std.specs.FinSet as set
 use Rattle.hibitset_sets.specs.Bits.{has_bit}
@@ -11,10 +11,11 @@ use Rattle.specs_entity.specs.Accepting.{IsSameBut}
 use Rattle.specs_entity.specs.declared.phase_rule.PhaseKey.{PhaseKey}
 use Rattle.specs_entity.specs.declared.phase_rule.EntityView.{EntityView}
 use Rattle.specs_entity.specs.SharedPhase.{SharedPhase}
-use Rattle.specs_entity.specs.PhaseCore.{called, once_below}
+use Rattle.specs_entity.specs.PhaseCore.{called, once_below, IsReserved}
 use Rattle.specs_entity.specs.PhaseViews.{setting_of, all_accepted}
 use Rattle.specs_entity.specs.SharedSeats.{AreSettled}
 use Rattle.specs_entity.proofs.PhaseReserveLemmas.{newborns-length}
+use Rattle.specs_entity.proofs.PhaseAliveLemmas.{known-given}
 use Rattle.specs_entity.proofs.PhaseCloseLemmas.{IsClosed, closed-is, deletions-created}
 use Rattle.specs_entity.proofs.AcceptLemmas.{accepted-whole, living-same, same-but-through, word-next, no-bits, all-words, accepted-list, births-equal}
 use Rattle.specs_entity.proofs.shared_entities.SharedEntities.settle.Goals.{then-word-ne0, else-word-ne0}
@@ -165,6 +166,8 @@ returns-clause-ok c =
       claimed = c.word-claimed.result;
       most = let most = known.most in omega (arith, claimed, most);
       births = λ place. known.births place ∙ ap (once_below place) claimed;
+      known = λ entity knows. known-given key c.self.invariant.kept entity view (c.requires.key ∙ ap (λ (s : SharedPhase). s.key) (sym c.self.view_is)) c.self.invariant.can c.word-claimed.result (let most = known.most in omega (arith, claimed, most))
+          (λ index within seen. subst (λ n. (set.contains before.fresh index ≡ true) ⊎ IsReserved (setting_of key) n index) claimed (known.raised index within seen)) knows;
       entities = births-equal opening now (all_accepted opening calls) same listed.0
           (λ index. c.loop-place.invariant.deletions index ∙ (ap (λ (b : Births). (nat_lt (index / 64) c.loop-place.place && has_bit (bits (index / 64)) (index % 64)) || set.contains b.deletions index) opened
           ∙ (ap (λ n. (nat_lt (index / 64) n && has_bit (bits (index / 64)) (index % 64)) || set.contains opening.deletions index) end ∙ (words_are index ∙ sym (listed.1 index)))));
