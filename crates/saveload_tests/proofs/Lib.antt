@@ -1,2 +1,3 @@
 pub mod LoadLemmas
 pub mod RoundLemmas
+pub mod ValueLemmas

@@ -16,10 +16,15 @@ pub mod tasks;
 mod uuids;
 pub mod values;
 
-use stories::{numbers_are_marked, uuids_are_marked};
+use stories::{markers_go, numbers_are_marked, uuids_are_marked};
 
 #[test]
 fn all_are_marked_once_the_world_is_maintained(rt: HostRuntime) {
     assert!(rt; matches!(numbers_are_marked(&rt), Ok(true)));
     assert!(rt; matches!(uuids_are_marked(&rt), Ok(true)));
+}
+
+#[test]
+fn markers_go_with_their_entities(rt: HostRuntime) {
+    assert!(rt; matches!(markers_go(&rt), Ok(true)));
 }

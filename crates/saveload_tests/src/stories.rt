@@ -1,7 +1,7 @@
 //! Entities that were loaded into a world, and others that are marked there.
 use crate::kinds::Health;
 use crate::tasks::Task;
-use crate::values::{Plain, Random, Value};
+use crate::values::{Net, Plain, Random, Value};
 use rand_core::SeedableRng;
 use rand_pcg::Pcg32;
 use shred_world::{Resource, World};
@@ -246,4 +246,27 @@ pub fn numbers_are_marked<R: AllocGlobal + Wait>(rt: &R) -> Result<bool, Error> 
 /// Whether those that are marked with UUIDs do.
 pub fn uuids_are_marked<R: AllocGlobal + Wait>(rt: &R) -> Result<bool, Error> {
     are_marked::<R, Random>(rt, random(rt.alloc(), 7), random(rt.alloc(), 8))
+}
+
+/// Registers both kinds of markers.
+fn register_markers(world: &mut World<Value>) -> Result<(), Error> {
+    world.register::<Plain>()?;
+    world.register::<Random>()
+}
+
+/// Whether entities that die lose their markers of either kind.
+pub fn markers_go<R: AllocGlobal>(rt: &R) -> Result<bool, Error> {
+    let mut world: World<Value> = LazyWorld::<Value, Task>::with_queues(rt.alloc())?;
+    register_markers(&mut world)?;
+    let plain: SimpleMarkerAllocator<Net> = SimpleMarkerAllocator::new(rt.alloc());
+    put(&mut world, plain)?;
+    put(
+        &mut world,
+        UuidMarkerAllocator::new(rt.alloc(), Pcg32::seed_from_u64(7)),
+    )?;
+    build_marked::<Plain>(&mut world)?;
+    build_marked::<Random>(&mut world)?;
+    let marked = count_marked::<Plain>(&world) == 1 && count_marked::<Random>(&world) == 1;
+    world.delete_all()?;
+    Ok(marked && count_marked::<Plain>(&world) == 0 && count_marked::<Random>(&world) == 0)
 }

@@ -1,7 +1,9 @@
 //! The values of the tests: entities, a table of kinds, two kinds of markers with what gives each, and queues of tasks.
-ghost use Rattle.std.specs.Prelude.{◌≡◌, Some, None, refl, false};
-ghost use Rattle.std.proofs.Common.{rules, ◌∙◌};
-ghost use Rattle.saveload_tests.specs.Values.{none-stays};
+ghost use Rattle.std.specs.Prelude.{◌≡◌, Some, None, refl};
+ghost use Rattle.std.proofs.Common.{rules};
+ghost use Rattle.specs_layouts.specs.DropLemmas.{dropped-parts, drops-none, drops-append};
+ghost use Rattle.saveload_tests.specs.Values.{value_has_part, value_has_room, value_drops, value-parts, value-none};
+ghost use Rattle.saveload_tests.specs.Values.{value-append};
 ghost use Rattle.saveload_tests.specs.declared.values.Value.TheVariants.{EntitiesValue, TableValue, PlainMarksValue};
 ghost use Rattle.saveload_tests.specs.declared.values.Value.TheVariants.{PlainGiverValue, RandomMarksValue};
 ghost use Rattle.saveload_tests.specs.declared.values.Value.TheVariants.{RandomGiverValue, QueueValue, SharedValue};
@@ -12,7 +14,7 @@ use shred_world::{MetaTable, Resource};
 use specs_entity::{EntitiesRes, Entity};
 use specs_layouts::{AnyStorage, MaskedStorage};
 use specs_markers::{SimpleMarker, SimpleMarkerAllocator, UuidMarker, UuidMarkerAllocator};
-use specs_world::{LazyUpdate, SharedLazy};
+use specs_world::{LazyUpdate, Registrable, SharedLazy};
 use std::alloc::AllocError;
 
 /// What the markers are for.
@@ -24,7 +26,7 @@ pub type Plain = SimpleMarker<Net>;
 /// Markers with random UUIDs.
 pub type Random = UuidMarker<Pcg32>;
 
-/// What the worlds of the tests hold. The kinds of markers aren't registered: no entity dies in the tests.
+/// What the worlds of the tests hold.
 #[derive(Drop)]
 pub enum Value {
     EntitiesValue(EntitiesRes),
@@ -437,25 +439,66 @@ impl Resource<Value> for SharedLazy<Task> {
     }
 }
 
-/// No value is a storage of a registered kind.
 impl AnyStorage for Value {
-    ghost has_part = { λ _ _. false };
+    ghost has_part = { value_has_part ⟦<MaskedStorage<Plain> as AnyStorage>⟧.has_part
+        ⟦<MaskedStorage<Random> as AnyStorage>⟧.has_part };
 
-    ghost has_room = { λ _ _. Unit {0} };
+    ghost has_room = { value_has_room ⟦<MaskedStorage<Plain> as AnyStorage>⟧.has_room
+        ⟦<MaskedStorage<Random> as AnyStorage>⟧.has_room };
 
-    ghost drops = { λ before _ after. after ≡ before };
+    ghost drops = { value_drops ⟦<MaskedStorage<Plain> as AnyStorage>⟧.drops
+        ⟦<MaskedStorage<Random> as AnyStorage>⟧.drops };
 
-    ghost drops_parts = { λ _ _ indices _ index. none-stays indices index };
+    ghost drops_parts = { value-parts
+        ⟦<MaskedStorage<Plain> as AnyStorage>⟧.has_part ⟦<MaskedStorage<Random> as AnyStorage>⟧.has_part
+        ⟦<MaskedStorage<Plain> as AnyStorage>⟧.drops ⟦<MaskedStorage<Random> as AnyStorage>⟧.drops
+        (λ _ _ indices dropped. dropped-parts _ _ indices dropped.parts)
+        (λ _ _ indices dropped. dropped-parts _ _ indices dropped.parts) };
 
-    ghost drops_none = { λ _. refl };
+    ghost drops_none = { value-none
+        ⟦<MaskedStorage<Plain> as AnyStorage>⟧.drops ⟦<MaskedStorage<Random> as AnyStorage>⟧.drops
+        (λ _. drops-none _ _ _) (λ _. drops-none _ _ _) };
 
-    ghost drops_append = { λ _ _ _ _ _ one other. other ∙ one };
+    ghost drops_append = { value-append
+        ⟦<MaskedStorage<Plain> as AnyStorage>⟧.drops ⟦<MaskedStorage<Random> as AnyStorage>⟧.drops
+        (λ _ _ _ indices others one other. drops-append _ _ _ _ _ _ _ _ _ indices others one other)
+        (λ _ _ _ indices others one other. drops-append _ _ _ _ _ _ _ _ _ indices others one other) };
 
-    fn drop(&mut self, _entities: &[Entity]) -> Result<(), AllocError> {
-        Ok(())
+    fn drop(&mut self, entities: &[Entity]) -> Result<(), AllocError> {
+        match self {
+            Value::EntitiesValue(_) => Ok(()),
+            Value::TableValue(_) => Ok(()),
+            Value::PlainMarksValue(storage) => AnyStorage::drop(storage, entities),
+            Value::PlainGiverValue(_) => Ok(()),
+            Value::RandomMarksValue(storage) => AnyStorage::drop(storage, entities),
+            Value::RandomGiverValue(_) => Ok(()),
+            Value::QueueValue(_) => Ok(()),
+            Value::SharedValue(_) => Ok(()),
+        }
     }
 
-    fn make_room(&mut self, _count: usize) -> Result<(), AllocError> {
-        Ok(())
+    fn make_room(&mut self, count: usize) -> Result<(), AllocError> {
+        match self {
+            Value::EntitiesValue(_) => Ok(()),
+            Value::TableValue(_) => Ok(()),
+            Value::PlainMarksValue(storage) => AnyStorage::make_room(storage, count),
+            Value::PlainGiverValue(_) => Ok(()),
+            Value::RandomMarksValue(storage) => AnyStorage::make_room(storage, count),
+            Value::RandomGiverValue(_) => Ok(()),
+            Value::QueueValue(_) => Ok(()),
+            Value::SharedValue(_) => Ok(()),
+        }
     }
+}
+
+impl Registrable<Value> for Plain {
+    ghost parts_within = { λ _ _. refl };
+
+    ghost drops_within = { λ _ _ _ dropped. dropped };
+}
+
+impl Registrable<Value> for Random {
+    ghost parts_within = { λ _ _. refl };
+
+    ghost drops_within = { λ _ _ _ dropped. dropped };
 }

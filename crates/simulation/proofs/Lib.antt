@@ -3,3 +3,4 @@ pub mod ReapingLemmas
 pub mod FrameLemmas
 pub mod MergeLemmas
 pub mod SetupLemmas
+pub mod ColonyLemmas

@@ -82,7 +82,7 @@ Does Movement = Moves
 Does Reaping = Reaps
 
 -- a system that accepts did its work; of one that refuses nothing is said
-abbrev pub Accepted : (Holding Value → Holding Value → Type 0) → Holding Value → Option Stop → Holding Value → Type 0
+abbrev pub Accepted : {V : Type 0} → (Holding V → Holding V → Type 0) → Holding V → Option Stop → Holding V → Type 0
 Accepted does seen None left = does seen left
 Accepted does seen (Some stop) left = Unit {0}
 

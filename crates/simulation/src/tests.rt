@@ -1,4 +1,6 @@
 //! Three frames, whatever the number of workers.
+use crate::colonies::runs as colonies;
+use crate::colonies::values::Held;
 use crate::frames::{Stopped, dispatcher, run_three};
 use crate::setup::{empty_world, spawn};
 use crate::values::{Position, Value, Velocity};
@@ -75,6 +77,23 @@ fn registers_by_setup(alloc: Global) -> Result<bool, Failure> {
     Ok(begun && !has_velocity(&world, entity))
 }
 
+/// Whether two colonies leave four births, of which the next merge lets two die.
+fn colonies_come_out<R: AllocGlobal>(rt: &R, alloc: Global) -> Result<bool, Failure> {
+    let mut world: World<Held> = WorldExt::new(alloc)?;
+    let mut both = colonies::dispatcher(alloc, 0).map_err(|_| Failure::Dispatch)?;
+    colonies::grow_apart(rt, &mut both, &mut world)?;
+    let born = world
+        .entities()?
+        .living_entities()
+        .map_err(|_| Failure::World)?;
+    let dead = world.merge()?;
+    let left = world
+        .entities()?
+        .living_entities()
+        .map_err(|_| Failure::World)?;
+    Ok(born.len() == 4 && dead.len() == 2 && left.len() == 2)
+}
+
 /// Whether a world has a velocity at an entity's index.
 fn has_velocity(world: &World<Value>, entity: Entity) -> bool {
     match world.try_fetch::<MaskedStorage<Velocity>>() {
@@ -96,4 +115,9 @@ fn courses_come_out_alone(rt: HostRuntime) {
 #[test]
 fn courses_come_out_with_two_workers(rt: HostRuntime) {
     assert_eq!(rt; courses_come_out(&rt, rt.alloc(), 2), Ok(true));
+}
+
+#[test]
+fn colonies_grow_in_one_phase(rt: HostRuntime) {
+    assert_eq!(rt; colonies_come_out(&rt, rt.alloc()), Ok(true));
 }

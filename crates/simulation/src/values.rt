@@ -10,6 +10,7 @@ ghost use Rattle.simulation.specs.declared.values.Value.TheVariants.{VelocityVal
 use shred_world::{MetaTable, Resource};
 use specs_entity::{EntitiesRes, Entity};
 use specs_layouts::{AnyStorage, Component, DenseVecStorage, MaskedStorage, VecStorage};
+use specs_world::Registrable;
 use std::alloc::AllocError;
 
 /// How far along its way an entity is, in steps.
@@ -263,4 +264,16 @@ impl AnyStorage for Value {
             Value::VelocityValue(storage) => AnyStorage::make_room(storage, count),
         }
     }
+}
+
+impl Registrable<Value> for Position {
+    ghost parts_within = { λ _ _. refl };
+
+    ghost drops_within = { λ _ _ _ dropped. dropped };
+}
+
+impl Registrable<Value> for Velocity {
+    ghost parts_within = { λ _ _. refl };
+
+    ghost drops_within = { λ _ _ _ dropped. dropped };
 }

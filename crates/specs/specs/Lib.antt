@@ -1,2 +1,4 @@
 pub mod Histories
 pub mod Marking
+pub mod Phases
+pub mod Asking

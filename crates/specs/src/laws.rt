@@ -1,11 +1,18 @@
 //! Laws of entities over every list of calls, and of their hashes. All functions but the last have no code; each contract is the law.
-ghost use Rattle.std.specs.Prelude.{◌≡◌, ◌++◌, List, fold};
+ghost use Rattle.std.specs.Prelude.{◌≡◌, ◌++◌, List, Result, fold};
 ghost use Rattle.std.specs.Hash as fed;
 ghost use Rattle.specs_entity.specs.Life.{id_of};
 ghost use Rattle.specs_entity.specs.Births.{Births, Continues, IsAlive, IsBorn, IsDead};
+ghost use Rattle.shred_stages.specs.declared.error.DispatchError.{DispatchError};
+ghost use Rattle.shred_world.specs.Bundles.{Holding};
+ghost use Rattle.shred_world.specs.declared.resource_id.ResourceId.{ResourceId as Id};
+ghost use Rattle.shred.specs.Dispatching.{Dispatching, DispatchesAll};
 ghost use Rattle.specs.specs.Histories.{ContinuesAlong, last_of};
+ghost use Rattle.specs.specs.Phases.{KeepPhases, StaysSeated};
 
-use specs_entity::Entity;
+use shred::{RunNow, System};
+use shred_world::Resource;
+use specs_entity::{Entity, PhaseSeat};
 use std::hash::{Hash, Hasher};
 
 /// Over every list of calls no birth is lost, and who lives at the end lived at the beginning or was born since.
@@ -32,6 +39,18 @@ pub fn the_stale_are_dead(stale: Entity, newer: Entity)
     ensures { (first : Births) (later : List Births) → ContinuesAlong first later → IsBorn first stale
         → stale.id ≡ newer.id → (stale ≡ newer → ⊥) → IsAlive (last_of first later) newer
         → IsDead (last_of first later) stale }
+{}
+
+/// Where no system takes a seat out of its phase, no dispatch does, whatever it answers: under each id at which a seat of a
+/// phase stood, one of that phase stands.
+pub fn a_dispatch_keeps_phases<V, S: System<V>, L: RunNow<V>>()
+where
+    PhaseSeat: Resource<V>,
+    ensures { KeepPhases ⟦<PhaseSeat as Resource<V>>⟧.part S.meets
+        → KeepPhases ⟦<PhaseSeat as Resource<V>>⟧.part L.meets
+        → (before after : Dispatching S L) (w w_after : Holding V) (result : Result (Unit {0}) DispatchError)
+        → DispatchesAll S.meets L.meets before w result after w_after
+        → (id : Id) → StaysSeated ⟦<PhaseSeat as Resource<V>>⟧.part (w id) (w_after id) }
 {}
 
 /// A hasher is fed an entity's index, and then its signed generation: so two entities of one index are told apart.

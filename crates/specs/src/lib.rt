@@ -4,6 +4,7 @@
 //! entries in `storage`, joins in `join`, markers and saving in `saveload`.
 #![tactic(auto)]
 
+pub mod asking;
 pub mod building;
 pub mod laws;
 pub mod mark;
@@ -11,6 +12,7 @@ mod marking;
 pub mod prelude;
 mod taking;
 
+pub use asking::{OwnQueue, add_queues_for, ask, own_queue};
 pub use hibitset::{BitSet, BitSetLike, Index};
 pub use shred::{
     Accessor, AsyncDispatcher, BatchAccessor, BatchController, Dispatcher, DispatcherBuilder,
@@ -28,8 +30,8 @@ pub use specs_layouts::{
 };
 pub use specs_storage::Storage;
 pub use specs_world::{
-    EntityBuilder, Insert, InsertAll, Job, LazyBuilder, LazyUpdate, LazyWorld, Maintained,
-    ReadStorage, Remove, SharedLazy, WorldExt, WriteStorage,
+    Builder, EntityBuilder, Insert, InsertAll, Job, LazyBuilder, LazyUpdate, LazyWorld, Maintained,
+    ReadStorage, Registrable, Remove, SharedLazy, WorldExt, WriteStorage,
 };
 
 /// Storages and what is lent of them.

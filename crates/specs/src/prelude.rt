@@ -11,4 +11,6 @@ pub use specs_layouts::{
     NullStorage, ReaderId, Tracked, VecStorage,
 };
 pub use specs_storage::Storage;
-pub use specs_world::{EntityBuilder, LazyUpdate, LazyWorld, ReadStorage, WorldExt, WriteStorage};
+pub use specs_world::{
+    Builder, EntityBuilder, LazyUpdate, LazyWorld, ReadStorage, WorldExt, WriteStorage,
+};

@@ -1,4 +1,9 @@
--- What callers of worlds with queues need: a queue whose first job is known gives that job.
+-- What callers of worlds need: the lemmas on what stands in one after a call, and that a queue whose first job is known gives that job.
+pub use Rattle.specs_world.proofs.DroppingLemmas.{get-insert_other}
+pub use Rattle.specs_world.proofs.WorldLemmas.{Stands, stands-held, stands-is, held-stands, became, became-apart}
+pub use Rattle.specs_world.proofs.WorldLemmas.{put-by-builder, put-parts, dropped-each}
+pub use Rattle.specs_world.proofs.WorldLemmas.{IsRegistered, registered-anew, registered-again, begun-births, begun-table, begun-others}
+pub use Rattle.specs_world.proofs.WorldLemmas.{deleted-parts, deleted-others, none-to-run}
 use Rattle.std.proofs.Common.{◌≡◌, ℕ, zero, suc, arith, Option, Some, None, List, [], ◌∷◌, ◌⊎◌, inl, inr, Result, Ok, Err, refl, sym, ap, subst, ◌∙◌}
 use Rattle.std.specs.Prelude.{unwrap_or}
 use Rattle.std.specs.FinMap as map

@@ -5,3 +5,4 @@ pub mod CallerLemmas
 pub mod JobLemmas
 pub mod QueueLemmas
 pub mod RunLemmas
+pub mod WorldLemmas

@@ -7,3 +7,4 @@ pub mod Building
 pub mod Jobs
 pub mod Maintaining
 pub mod Queues
+pub mod Phases

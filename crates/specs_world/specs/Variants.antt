@@ -1,6 +1,14 @@
 -- Values of several kinds as storages of any kind: what one with a storage in it drops, and that one with none stays.
-use Rattle.std.proofs.Common.{◌≡◌, ℕ, Bool, true, false, not, ◌&&◌, eqb, List, [], ◌++◌, refl, ap, subst, ◌∙◌}
+use Rattle.std.proofs.Common.{◌≡◌, ℕ, Bool, true, false, not, ◌&&◌, eqb, List, [], ◌++◌, Option, refl, ap, subst, ◌∙◌}
 use Rattle.std.specs.List.{list_any}
+use Rattle.specs_layouts.specs.Channels.{Log}
+use Rattle.specs_layouts.specs.declared.track.ComponentEvent.{ComponentEvent}
+use Rattle.specs_layouts.specs.Drops.{DropsAll}
+use Rattle.specs_layouts.specs.Masked.{Masked}
+
+-- a storage dropped the parts of these indices, one after the other, each was told, and the emission stays
+abbrev pub drops_of : {S T : Type 0} → (S → ℕ → Option T) → (S → Log ComponentEvent) → (S → Bool) → Masked S → List ℕ → Masked S → Type 0
+drops_of part_at events emits was indices now = DropsAll (part_at was.inner) (events was.inner) (emits was.inner) indices (part_at now.inner) (events now.inner) (emits now.inner)
 
 -- the storage in a value dropped the parts of these indices, and the value holds it still
 abbrev pub DropsWithin : {V S : Type 0} → (S → V) → (S → List ℕ → S → Type 0) → S → List ℕ → V → Type 0

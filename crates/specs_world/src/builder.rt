@@ -1,5 +1,5 @@
 //! Entities of a world in the making.
-ghost use Rattle.std.specs.Prelude.{◌≡◌, IsOk, IfOk, IfErr, Option, Some, None};
+ghost use Rattle.std.specs.Prelude.{◌≡◌, IsOk, IfOk, IfErr, OnErr, Option, Some, None};
 ghost use Rattle.std.specs.Option.{MatchOption};
 ghost use Rattle.specs_world.specs.Resources.{place, held, DeletesLater};
 ghost use Rattle.specs_world.specs.Inserting.{PutsPart, KeepsStorage, RefusesPart, AcceptsPart};
@@ -11,8 +11,8 @@ use specs_entity::{EntitiesRes, Entity, Error};
 use specs_layouts::{AnyStorage, Component, MaskedStorage, UnprotectedStorage};
 use std::marker::PhantomData;
 
-/// An entity of a world that was created and is being built. Dropped without `build` it has its deletion accepted, and is gone at
-/// the next merge.
+/// An entity of a world that was created and is being built. Dropped without `build` it has its deletion accepted, and
+/// is gone at the next merge.
 pub struct EntityBuilder<'a, V: AnyStorage + Drop, W: WorldExt<V>>
 where
     EntitiesRes: Resource<V>,
@@ -34,7 +34,8 @@ where
     ///
     /// A storage that emits writes `Modified` where a part was, else `Inserted`.
     ///
-    /// Errors: those of `WorldExt::insert_part`. All hand builder and `part` back, and each index has the part that it had.
+    /// Errors: those of `WorldExt::insert_part`. All hand builder and `part` back, and each index has the part that it
+    /// had.
     pub fn with<T: Component>(self, part: T) -> Result<Self, (Error, Self, T)>
     where
         MaskedStorage<T>: Resource<V>,
@@ -81,6 +82,37 @@ where
                 part,
             )),
         }
+    }
+
+    /// Puts `part` at the entity, as `with` does, and answers the part that it had. The builder stays where it is, so
+    /// that what the world has become is known at each step.
+    ///
+    /// Errors: those of `WorldExt::insert_part`. All hand `part` back, and each index has the part that it had.
+    pub fn put<T: Component>(&mut self, part: T) -> Result<Option<T>, (Error, T)>
+    where
+        MaskedStorage<T>: Resource<V>,
+        ensures same_entity { self.new.entity ≡ self.old.entity }
+        ensures same_reference { self.new.world.ghost_name ≡ self.old.world.ghost_name }
+        ensures ok { IfOk result (λ had. PutsPart
+            ⟦<MaskedStorage<T> as Held<V>>⟧.stands_at
+            T.Storage.part_at T.Storage.events T.Storage.emits self.old.entity part had
+            (held W.entities_at (W.slots self.old.world.now))
+            (W.slots self.old.world.now) (W.slots self.new.world.now)) }
+        ensures err { OnErr result (KeepsStorage
+            ⟦<MaskedStorage<T> as Held<V>>⟧.stands_at
+            T.Storage.part_at T.Storage.events T.Storage.emits (W.slots self.old.world.now)
+            (W.slots self.new.world.now)) }
+        ensures handed_back { IfErr result (λ refused. refused.1 ≡ part) }
+        ensures refused { IfErr result (λ refused. RefusesPart (held W.entities_at (W.slots self.old.world.now))
+            (held ⟦<MaskedStorage<T> as Held<V>>⟧.stands_at (W.slots self.old.world.now))
+            self.old.entity refused.0) }
+        ensures succeeds { AcceptsPart T.Storage.part_at T.Storage.emits
+            (held W.entities_at (W.slots self.old.world.now))
+            (held ⟦<MaskedStorage<T> as Held<V>>⟧.stands_at (W.slots self.old.world.now))
+            self.old.entity → IsOk result }
+    {
+        let entity = self.entity;
+        self.world.insert_part(entity, part)
     }
 
     /// Puts `part` at the entity, where there is one, and answers the builder.

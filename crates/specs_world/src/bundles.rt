@@ -7,11 +7,12 @@ ghost use Rattle.specs_world.specs.Resources.{place, IsNew, SetsUpStorage};
 
 use crate::held::Held;
 use crate::registering::{put_default, register_default};
+use crate::registrable::Registrable;
 use shred_world::{
     Holder, MetaTable, Missing, Read, Resource, ResourceId, SetupHandler, SystemData, World, Write,
 };
 use specs_entity::EntitiesRes;
-use specs_layouts::{Component, MaskedStorage, TryDefault, UnprotectedStorage};
+use specs_layouts::{AnyStorage, MaskedStorage, TryDefault, UnprotectedStorage};
 use std::alloc::{AllocError, Global};
 use std::marker::PhantomData;
 
@@ -25,7 +26,7 @@ pub type WriteStorage<T> = (Write<MaskedStorage<T>, Registers>, Declared<Entitie
 #[derive(Drop)]
 pub struct Registers;
 
-impl<V: Drop, T: Component> SetupHandler<V, MaskedStorage<T>> for Registers
+impl<V: AnyStorage + Drop, T: Registrable<V>> SetupHandler<V, MaskedStorage<T>> for Registers
 where
     MetaTable: Resource<V>,
     MaskedStorage<T>: Resource<V>,

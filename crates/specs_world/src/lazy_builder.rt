@@ -43,6 +43,28 @@ impl<'a, J> LazyBuilder<'a, J> {
         }
     }
 
+    /// Queues the job that puts `part` at the entity, as `with` does. The builder stays where it is, so that what the
+    /// queue has become is known at each step.
+    ///
+    /// Errors: `Memory`, which hands `part` back and leaves the queue as it was.
+    pub fn put<C: Component>(&mut self, part: C) -> Result<(), (Error, C)>
+    where
+        J: From<Insert<C>>,
+        ensures same_entity { self.new.entity ≡ self.old.entity }
+        ensures same_reference { self.new.lazy.ghost_name ≡ self.old.lazy.ghost_name }
+        ensures ok { OnOk result (Adds (J.from_gives (record { entity = self.old.entity; part = part }))
+            self.old.lazy.now self.new.lazy.now) }
+        ensures memory { IfErr result (λ refused. refused.0 ≡ refusal.Memory) }
+        ensures err { OnErr result (self.new.lazy.now ≡ self.old.lazy.now) }
+        ensures handed_back { IfErr result (λ refused. refused.1 ≡ part) }
+    {
+        let entity = self.entity;
+        match self.lazy.insert(entity, part) {
+            Ok(()) => Ok(()),
+            Err(refused) => Err((Error::Memory, refused.value)),
+        }
+    }
+
     /// Queues the job that puts `part` at the entity, where there is one, and answers the builder.
     ///
     /// Errors: those of `with`.

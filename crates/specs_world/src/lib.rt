@@ -4,6 +4,7 @@
 
 mod adding;
 pub mod builder;
+pub mod builders;
 pub mod bundles;
 mod counting;
 mod deleting;
@@ -17,6 +18,7 @@ pub mod lazy_world;
 pub mod maintained;
 mod queues;
 mod registering;
+pub mod registrable;
 mod removing;
 mod running;
 pub mod setup;
@@ -25,6 +27,7 @@ mod taking;
 pub mod world_ext;
 
 pub use builder::EntityBuilder;
+pub use builders::Builder;
 pub use bundles::{Declared, ReadStorage, Registers, WriteStorage};
 pub use held::Held;
 pub use job::{Insert, InsertAll, Job, Remove};
@@ -32,6 +35,7 @@ pub use lazy::LazyUpdate;
 pub use lazy_builder::LazyBuilder;
 pub use lazy_world::LazyWorld;
 pub use maintained::Maintained;
+pub use registrable::Registrable;
 pub use setup::NewQueue;
 pub use shared::SharedLazy;
 pub use world_ext::WorldExt;

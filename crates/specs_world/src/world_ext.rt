@@ -13,6 +13,8 @@ ghost use Rattle.specs_world.specs.Resources.{RefusesBirthIn, RefusesBirthsIn, D
 ghost use Rattle.specs_world.specs.Dropping.{Rests, DeletesIn, DeletesAll, MergesIn, DropsComponents};
 ghost use Rattle.specs_world.specs.Dropping.{RefusesDeletion, RefusesMerge};
 ghost use Rattle.specs_world.specs.Lending.{LendsIn};
+ghost use Rattle.specs_world.specs.Phases.{OpensPhase, ClosesPhase};
+ghost use Rattle.specs_entity.specs.PhaseSeats.{view_at};
 ghost use Rattle.specs_world.specs.Inserting.{PutsPart, KeepsStorage, RefusesPart, AcceptsPart};
 
 use crate::builder::EntityBuilder;
@@ -21,9 +23,10 @@ use crate::deleting::{drop_registered, kill_living, kill_registered, merge_regis
 use crate::held::Held;
 use crate::inserting::{lives, put_part, refusal_of};
 use crate::registering::{enter_there, put_and_enter, register_default};
+use crate::registrable::Registrable;
 use crate::taking::{put_in, take_out};
 use shred_world::{MetaTable, Resource, SystemData, World};
-use specs_entity::{CreateIter, EntitiesRes, Entity, Error};
+use specs_entity::{CreateIter, EntitiesRes, Entity, Error, PhaseSeat, SeatsOut};
 use specs_layouts::{AnyStorage, Component, MaskedStorage, TryDefault, UnprotectedStorage};
 use specs_storage::LentStorage;
 use std::alloc::Global;
@@ -62,7 +65,7 @@ where
     /// Registers a kind of parts whose layout always has a default, by `register_with_storage`.
     ///
     /// Errors: those of `register_with_storage`.
-    fn register<T: Component>(&mut self) -> Result<(), Error>
+    fn register<T: Registrable<V>>(&mut self) -> Result<(), Error>
     where
         MaskedStorage<T>: Resource<V>,
         requires default { T.Storage.TryDefault.always ≡ true }
@@ -78,7 +81,7 @@ where
     /// Of a kind that is registered nothing changes. One that is registered late has no part, whatever entities were made before.
     ///
     /// Errors: `NotRegistered`, exactly where the world has no table of kinds; `Memory`. Both leave the world as it was.
-    fn register_with_storage<T: Component, F: FnOnce() -> T::Storage + Drop>(
+    fn register_with_storage<T: Registrable<V>, F: FnOnce() -> T::Storage + Drop>(
         &mut self,
         make: F,
     ) -> Result<(), Error>
@@ -209,6 +212,27 @@ where
         ensures named { IfErr result (λ error. error ≡ refusal.NotRegistered) }
         ensures not_registered { OnErr result (held entities_at (slots self.now) ≡ None) };
 
+    /// Takes the entities out of the world and shares them, as `EntitiesRes::open_phase` does. The seat and those split off from
+    /// it create and delete, each in a system of its own, until `close_phase` brings the entities back; for the while the world has
+    /// none, and their slot stays.
+    ///
+    /// Errors: `NotRegistered`, where the world has no entities; those of `EntitiesRes::open_phase`. All leave the world as it was.
+    fn open_phase(&mut self, reserve: u32) -> Result<PhaseSeat, Error>
+        ensures ok { IfOk result (λ seat. OpensPhase entities_at reserve seat (slots self.old) (slots self.new)) }
+        ensures refused { IfErr result (RefusesBirthsIn reserve (held entities_at (slots self.old))) }
+        ensures err { OnErr result (slots self.new ≡ slots self.old) };
+
+    /// Ends a phase: what its entities settle to, by `PhaseSeat::settle`, is put into the slot that `open_phase` left. Births are
+    /// fresh and deletions accepted until the next merge, as those of `EntitiesRes::create` and `delete` are. Takes no memory.
+    ///
+    /// Errors: `SeatsOut`, that of `settle`: the seat comes back, and the world is as it was.
+    fn close_phase(&mut self, seat: PhaseSeat) -> Result<(), (SeatsOut, PhaseSeat)>
+        requires is_out { map.get (slots self.old) entities_at.id ≡ Some None }
+        ensures ok { OnOk result (ClosesPhase entities_at seat (slots self.old) (slots self.new)) }
+        ensures all { OnOk result ((view_at seat).parts ≡ 65536) }
+        ensures err { OnErr result (slots self.new ≡ slots self.old) }
+        ensures handed_back { IfErr result (λ refused. refused.1 ≡ seat) };
+
     /// The parts of one kind, lent for reading together with the entities.
     ///
     /// Errors: `NotRegistered`, exactly where the world has no storage of the kind, or no entities.
@@ -244,7 +268,7 @@ where
     /// is there without them. Takes no memory.
     ///
     /// Errors: `NotRegistered`, exactly where the world has no storage of the kind, and the world is as it was.
-    fn write_storage<T: Component>(&mut self) -> Result<WriteStorage<T>, Error>
+    fn write_storage<T: Registrable<V>>(&mut self) -> Result<WriteStorage<T>, Error>
     where
         MaskedStorage<T>: Resource<V>,
         ensures parts { IfOk result (λ bundle. held ⟦<MaskedStorage<T> as Held<V>>⟧.stands_at (slots self.old)
@@ -258,7 +282,7 @@ where
     /// The same as `write_storage`.
     ///
     /// Errors: those of `write_storage`.
-    final fn write_component<T: Component>(&mut self) -> Result<WriteStorage<T>, Error>
+    final fn write_component<T: Registrable<V>>(&mut self) -> Result<WriteStorage<T>, Error>
     where
         MaskedStorage<T>: Resource<V>,
         ensures parts { IfOk result (λ bundle. held ⟦<MaskedStorage<T> as Held<V>>⟧.stands_at (slots self.old)
@@ -322,7 +346,7 @@ where
         Ok(world)
     }
 
-    fn register<T: Component>(&mut self) -> Result<(), Error>
+    fn register<T: Registrable<V>>(&mut self) -> Result<(), Error>
     where
         MaskedStorage<T>: Resource<V>,
     {
@@ -333,7 +357,7 @@ where
         Ok(())
     }
 
-    fn register_with_storage<T: Component, F: FnOnce() -> T::Storage + Drop>(
+    fn register_with_storage<T: Registrable<V>, F: FnOnce() -> T::Storage + Drop>(
         &mut self,
         make: F,
     ) -> Result<(), Error>
@@ -449,6 +473,25 @@ where
         }
     }
 
+    fn open_phase(&mut self, reserve: u32) -> Result<PhaseSeat, Error> {
+        let Some(entities) = take_out::<V, EntitiesRes>(self) else {
+            return Err(Error::NotRegistered);
+        };
+        match entities.open_phase(reserve) {
+            Ok(seat) => Ok(seat),
+            Err((error, entities)) => {
+                put_in(self, entities);
+                Err(error)
+            }
+        }
+    }
+
+    fn close_phase(&mut self, seat: PhaseSeat) -> Result<(), (SeatsOut, PhaseSeat)> {
+        let entities = seat.settle()?;
+        put_in(self, entities);
+        Ok(())
+    }
+
     fn read_storage<'w, T: Component + 'w>(&'w self) -> Result<LentStorage<'w, T>, Error>
     where
         MaskedStorage<T>: Resource<V>,
@@ -463,7 +506,7 @@ where
         }
     }
 
-    fn write_storage<T: Component>(&mut self) -> Result<WriteStorage<T>, Error>
+    fn write_storage<T: Registrable<V>>(&mut self) -> Result<WriteStorage<T>, Error>
     where
         MaskedStorage<T>: Resource<V>,
     {

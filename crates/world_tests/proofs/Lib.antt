@@ -2,3 +2,4 @@ pub mod ValueLemmas
 pub mod HistoryLemmas
 pub mod GivingLemmas
 pub mod LazyValueLemmas
+pub mod StockLemmas

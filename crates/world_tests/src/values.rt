@@ -10,6 +10,7 @@ ghost use Rattle.world_tests.specs.declared.values.Value.TheVariants.{SpeedValue
 use shred_world::{MetaTable, Resource};
 use specs_entity::{EntitiesRes, Entity};
 use specs_layouts::{AnyStorage, Component, DenseVecStorage, MaskedStorage, VecStorage};
+use specs_world::Registrable;
 use std::alloc::AllocError;
 
 /// How much an entity can bear.
@@ -263,4 +264,16 @@ impl AnyStorage for Value {
             Value::SpeedValue(storage) => AnyStorage::make_room(storage, count),
         }
     }
+}
+
+impl Registrable<Value> for Health {
+    ghost parts_within = { λ _ _. refl };
+
+    ghost drops_within = { λ _ _ _ dropped. dropped };
+}
+
+impl Registrable<Value> for Speed {
+    ghost parts_within = { λ _ _. refl };
+
+    ghost drops_within = { λ _ _ _ dropped. dropped };
 }

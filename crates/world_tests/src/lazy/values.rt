@@ -11,7 +11,7 @@ use crate::lazy::tasks::{Health, Notes, Task};
 use shred_world::{MetaTable, Resource};
 use specs_entity::{EntitiesRes, Entity};
 use specs_layouts::{AnyStorage, MaskedStorage};
-use specs_world::{LazyUpdate, SharedLazy};
+use specs_world::{LazyUpdate, Registrable, SharedLazy};
 use std::alloc::AllocError;
 
 /// What the worlds of the tests hold.
@@ -342,4 +342,10 @@ impl AnyStorage for Value {
             _ => Ok(()),
         }
     }
+}
+
+impl Registrable<Value> for Health {
+    ghost parts_within = { λ _ _. refl };
+
+    ghost drops_within = { λ _ _ _ dropped. dropped };
 }
