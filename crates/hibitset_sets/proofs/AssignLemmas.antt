@@ -1,5 +1,5 @@
 -- Assignments word by word: the words before a place are done, those from it on are left.
-use Rattle.std.proofs.Common.{◌≡◌, ℕ, zero, suc, ◌+◌, ◌/◌, ◌%◌, ◌<◌, ◌≤◌, Bool, true, false, cond, eqb, ◌⊎◌, inl, inr, sym, ap, ◌∙◌, arith, List, ◌∷◌}
+use Rattle.std.proofs.Common.{◌≡◌, ℕ, zero, suc, ◌+◌, ◌/◌, ◌%◌, ◌<◌, ◌≤◌, Bool, true, false, cond, eqb, inl, inr, sym, ap, ◌∙◌, arith, ◌∷◌}
 use Rattle.std.specs.List.{All, list_any, range_with_len}
 use Rattle.std.proofs.lemmas.List.Elements.{filter_passes}
 use Rattle.std.proofs.Common.{filter}
@@ -48,13 +48,6 @@ any-walk p i within member = walked 16777216 0 p i (omega arith) (omega arith) m
 pub members-walked : (p : ℕ → Bool) → All (λ i. p i ≡ true) (walk p)
 unfolding walk
 members-walked p = filter_passes p (range_with_len 0 16777216)
-
--- each member is below the bound or still to come
-abbrev pub IsBoundedOrLeft : (ℕ → Bool) → ℕ → List ℕ → Type 0
-IsBoundedOrLeft members bound left = (i : ℕ) → i < 16777216 → members i ≡ true → (i < bound) ⊎ (list_any (eqb i) left ≡ true)
-
-pub bounded-first : (members : ℕ → Bool) (left : List ℕ) → left ≡ walk members → IsBoundedOrLeft members 0 left
-bounded-first members left is i within member = inr (ap (list_any (eqb i)) is ∙ any-walk members i within member)
 
 -- ---- the bits of one word of layer 0
 

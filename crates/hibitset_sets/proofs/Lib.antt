@@ -9,4 +9,6 @@ pub mod ExtendLemmas
 pub mod LawLemmas
 pub mod CostLemmas
 pub mod AssignLemmas
+pub mod UniteLemmas
+pub mod WordWalkLemmas
 pub mod CallerLemmas

@@ -12,7 +12,7 @@ filter-same (suc n) a p q same =
     ap (λ b. cond b (a ∷ filter p (range_with_len (a + 1) n)) (filter p (range_with_len (a + 1) n))) (same a (omega arith) (omega arith))
     ∙ ap (λ xs. cond (q a) (a ∷ xs) xs) rest
 
-filter-first : (n a : ℕ) (p q : ℕ → Bool) (first : ℕ) → a ≤ first → first < a + n → p first ≡ true → ((i : ℕ) → a ≤ i → i < first → p i ≡ false) → q first ≡ false → ((i : ℕ) → a ≤ i → i < a + n → i ≢ first → p i ≡ q i) → filter p (range_with_len a n) ≡ first ∷ filter q (range_with_len a n)
+pub filter-first : (n a : ℕ) (p q : ℕ → Bool) (first : ℕ) → a ≤ first → first < a + n → p first ≡ true → ((i : ℕ) → a ≤ i → i < first → p i ≡ false) → q first ≡ false → ((i : ℕ) → a ≤ i → i < a + n → i ≢ first → p i ≡ q i) → filter p (range_with_len a n) ≡ first ∷ filter q (range_with_len a n)
 filter-first zero a p q first low high is before gone same = absurd (omega arith)
 filter-first (suc n) a p q first low high is before gone same =
     elim (cases_eq a first) [

@@ -7,6 +7,10 @@ use Rattle.hibitset_sets.specs.Bits.{has_bit}
 unfoldable pub walk : (ℕ → Bool) → List ℕ
 walk members = filter members (range_with_len 0 16777216)
 
+-- the indices of the bits of a word of layer 0, ascending
+unfoldable pub word_indices : ℕ → ℕ → List ℕ
+word_indices place bits = filter (λ index. has_bit bits (index % 64)) (range_with_len (64 * place) 64)
+
 -- the bit of that number in the layer is left in the layer's mask. A mask is the rest of a word, and its prefix the number of the word's first bit, 0 in layer 3
 unfoldable pub is_left : List ℕ → List ℕ → ℕ → ℕ → Bool
 is_left masks prefix layer number = (number / 64 == slice_index prefix layer / 64) && has_bit (slice_index masks layer) (number % 64)

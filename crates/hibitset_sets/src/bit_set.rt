@@ -93,7 +93,7 @@ impl BitSet {
     /// Makes room for that many words of layer 0, and for their summaries.
     #[cold]
     #[inline(never)]
-    fn grow(&mut self, words: usize) -> Result<(), AllocError>
+    pub(crate) fn grow(&mut self, words: usize) -> Result<(), AllocError>
         requires { words ≤ 262144 }
         ensures ok { OnOk result (self.new.members ≡ self.old.members) }
         ensures room { OnOk result (self.new.room ≡ max self.old.room (64 * words)) }

@@ -1,6 +1,6 @@
 //! Walks: the members of a set below `MAX_EID`, in ascending order.
-ghost use Rattle.std.specs.Prelude.{◌≡◌, ◌≢◌, ℕ, ◌+◌, ◌-◌, ◌<◌, ◌≤◌, ◌∷◌, false, IsTrue};
-ghost use Rattle.std.specs.Prelude.{◌↔◌, Bool, IfSome, IfNone, slice_index};
+ghost use Rattle.std.specs.Prelude.{◌≡◌, ◌≢◌, ℕ, ◌+◌, ◌-◌, ◌/◌, ◌<◌, ◌≤◌, [], ◌∷◌, ◌++◌, false};
+ghost use Rattle.std.specs.Prelude.{◌↔◌, Bool, IsTrue, IfSome, IfNone, slice_index};
 ghost use Rattle.std.specs.Iterator.{YieldsFirst, item_count};
 ghost use Rattle.hibitset_sets.specs.Walk.{walk, is_pending, IsPlaced};
 ghost use Rattle.hibitset_sets.specs.Steps.{TakesLowest};
@@ -51,7 +51,7 @@ pub fn take_in_word(masks: &mut [u64; LAYERS], prefix: &[u32; 3]) -> Index
 }
 
 impl<T: BitSetLike> BitIter<T> {
-    ghost use Rattle.hibitset_sets.specs.Walk.{words_left};
+    ghost use Rattle.hibitset_sets.specs.Walk.{word_indices, words_left};
     ghost use Rattle.hibitset_sets.specs.Iter.{left_of, unread, walked_set, masks_left, prefixes};
 
     /// A walk that goes on from these masks and prefixes.
@@ -120,6 +120,7 @@ impl<T: BitSetLike> BitIter<T> {
         ensures set { self.new.set ≡ self.old.set }
         ensures items { left_of T.members self.old ≡ result ∷ left_of T.members self.new }
         ensures range { result < 16777216 }
+        ensures word { result / 64 ≡ slice_index self.new.prefix 0 / 64 }
         ensures gone { is_pending (T.members self.old.set) self.new.masks self.new.prefix result ≡ false }
         ensures unread { unread T.reads T.words self.new ≡ unread T.reads T.words self.old }
     {
@@ -151,6 +152,7 @@ impl<T: BitSetLike> BitIter<T> {
     pub fn next_counted<C: Counter>(&mut self, count: &mut C) -> Option<Index>
         ensures item { YieldsFirst (left_of T.members) self.old result self.new }
         ensures range { IfSome result (λ i. i < 16777216) }
+        ensures word { IfSome result (λ i. i / 64 ≡ slice_index (prefixes self.new) 0 / 64) }
         ensures gone { IfSome result (λ i. is_pending (T.members (walked_set self.old)) (masks_left self.new)
             (prefixes self.new) i ≡ false) }
         ensures set { walked_set self.new ≡ walked_set self.old }
@@ -167,6 +169,21 @@ impl<T: BitSetLike> BitIter<T> {
             self.load(layer, count);
         }
         Some(self.take())
+    }
+
+    /// The next index, and the bits of its word that are left behind it: the items go on with their indices, and then with
+    /// those of later words, which alone are left.
+    pub fn next_word(&mut self) -> Option<(Index, u64)>
+        ensures items { IfSome result (λ word. left_of T.members self.old
+            ≡ word.0 ∷ word_indices (word.0 / 64) word.1 ++ left_of T.members self.new) }
+        ensures none { IfNone result (left_of T.members self.old ≡ []) }
+        ensures range { IfSome result (λ word. word.0 < 16777216) }
+        ensures set { walked_set self.new ≡ walked_set self.old }
+    {
+        let index = self.next_counted(&mut Uncounted)?;
+        let more = self.masks[0];
+        self.masks[0] = 0;
+        Some((index, more))
     }
 }
 

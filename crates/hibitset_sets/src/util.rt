@@ -1,5 +1,6 @@
 //! Indices, and where their bits stand in the four layers.
-ghost use Rattle.std.specs.Prelude.{◌≡◌, ℕ, ◌/◌, ◌%◌, ◌^◌, ◌<◌};
+ghost use Rattle.std.specs.Prelude.{◌≡◌, ◌≢◌, ℕ, ◌/◌, ◌%◌, ◌^◌, ◌<◌};
+ghost use Rattle.hibitset_sets.specs.Bits.{TakesBit};
 
 /// The number of an entity or of another thing that a set tells apart.
 pub type Index = u32;
@@ -71,4 +72,14 @@ pub fn offsets(bit: Index) -> (usize, usize, usize)
     ensures third { result.2 ≡ bit / 262144 }
 {
     (bit.offset(SHIFT1), bit.offset(SHIFT2), bit.offset(SHIFT3))
+}
+
+/// The place of the lowest bit of a word that has one, and the word without it.
+#[inline(always)]
+pub fn take_bit(word: u64) -> (u32, u64)
+    requires { word ≢ 0 }
+    ensures { TakesBit word result.0 result.1 }
+{
+    let place = word.trailing_zeros();
+    (place, word & !(1 << place))
 }

@@ -1,18 +1,20 @@
-use Rattle.std.proofs.Common.{◌∙◌, arith, ◌||◌}
+use Rattle.std.proofs.Common.{◌≡◌, ◌*◌, length, sym, subst, ◌∙◌, arith}
+use Rattle.std.proofs.lemmas.Bool.{eqb-true}
+use Rattle.hibitset_sets.specs.Assign.{EndsBelow}
 use Rattle.hibitset_sets.specs.BitSet.{has_member}
-use Rattle.hibitset_sets.specs.BitLemmas.{has_bit-or}
-use Rattle.hibitset_sets.proofs.AssignLemmas.{assigned-more, own-bit, other-bit}
+use Rattle.hibitset_sets.proofs.UniteLemmas.{united-all, united-none}
 use Rattle.hibitset_sets.proofs.bit_set.BitSet.unite.Goals as goal
 
-pub loop-place-preserved : goal.loop-place-preserved
-loop-place-preserved g c =
-    let room = c.layer0_as_slice-words.ensures.room in
-    let limit = c.layer0_as_slice-words.ensures.limit in
-    record {
-      room = c.put_word.ensures.room ∙ c.loop-place.invariant.room;
-      assigned = assigned-more (λ a b. a || b) _ _ c.loop-place.place _ (has_member c.loop-place.self) _ c.loop-place.invariant.assigned c.put_word.ensures.members
-          (λ i here.
-          let own = own-bit (has_member c.loop-place.self) c.loop-place.place c.layer0-own.result i c.layer0-own.ensures here in
-          let other = other-bit (g.B.BitSetLike.members c.args.rhs.now) (g.B.BitSetLike.words c.args.rhs.now) (g.met.B.BitSetLike.words_agree c.args.rhs.now) c.loop-place.place c.layer0.result i c.layer0.ensures here (omega arith) in
-          has_bit-or c.layer0-own.result c.layer0.result _ ∙ (λ j. own j || other j));
-    }
+pub returns-then-not-is_empty : goal.returns-then-not-is_empty
+returns-then-not-is_empty g c =
+    united-all (g.B.BitSetLike.members c.args.rhs.now) (has_member c.args.self.now) (has_member c.unite_under.new.self)
+    (λ i member. let below = c.layer0_as_slice.ensures.within i member in let limit = c.layer0_as_slice.ensures.limit in omega (arith, below, limit)) c.unite_under.ensures.members
+
+pub returns-else-not-is_empty : goal.returns-else-not-is_empty
+returns-else-not-is_empty g c =
+    let empty : length c.layer0_as_slice.result.now ≡ 0 = eqb-true _ _ (sym c.is_empty.ensures ∙ c.if-not-is_empty.false) in
+    let room : 64 * length c.layer0_as_slice.result.now ≡ c.args.self.now.room = c.layer0_as_slice.ensures.room in
+    let none : c.args.self.now.room ≡ 0 = omega (arith, empty, room) in
+    united-none (g.B.BitSetLike.members c.args.rhs.now) (has_member c.args.self.now)
+    (λ i member. let below = c.layer0_as_slice.ensures.within i member in omega (arith, below, none))
+    (subst (EndsBelow (g.B.BitSetLike.members c.args.rhs.now) 0) none c.requires)

@@ -45,3 +45,11 @@ returns-clause-gone g c =
     let first = first-placed c.args.self.now.masks c.args.self.now.prefix 0 three c.args.self.now.placed (omega arith) c.requires in
     let taken = taken-is c.args.self.now.masks c.take_lowest-place.new.masks c.args.self.now.prefix 0 _ first c.take_lowest-place.ensures in
     pending-gone c.args.self.now.placed taken c.take_lowest-place.ensures.others (g.T.BitSetLike.members c.args.self.now.set)
+
+pub returns-clause-word : goal.returns-clause-word
+returns-clause-word g c =
+    let three : length c.args.self.now.prefix ≡ 3 = omega arith in
+    let first = first-placed c.args.self.now.masks c.args.self.now.prefix 0 three c.args.self.now.placed (omega arith) c.requires in
+    let aligned = first.aligned in
+    let place = c.take_lowest-place.ensures.within in
+    omega arith
