@@ -2,6 +2,7 @@ pub mod CutLemmas
 pub mod FoldLemmas
 pub mod FreshLemmas
 pub mod CallerLemmas
+pub mod SyncLemmas
 pub mod AtomicWordLemmas
 pub mod AtomicStepLemmas
 pub mod AtomicRunLemmas

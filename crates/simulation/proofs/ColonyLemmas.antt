@@ -19,7 +19,7 @@ use Rattle.shred_stages.specs.Views.{cut, error_of}
 use Rattle.shred_stages.specs.Changes.{with_values}
 use Rattle.shred_stages.specs.Runs.{State, Turn}
 use Rattle.shred_stages.specs.Staging.{Staging}
-use Rattle.shred_stages.specs.Orders.{RunsInAnyOrder, RunsUpToOrder, TakeTurns}
+use Rattle.shred_stages.specs.Orders.{RunsUpToOrder, TakeTurns}
 use Rattle.shred_stages.proofs.CallerLemmas.{lent-owned, leaves-one, same-itself, step-lifted, turn-of, turns-in-any-order}
 use Rattle.shred.specs.declared.work.Work.{Work}
 use Rattle.shred.specs.declared.work.Work.TheVariants.{System}
@@ -27,7 +27,8 @@ use Rattle.shred.specs.declared.nothing.NoBatch.{NoBatch}
 use Rattle.shred.specs.declared.nothing.NoLocal.{NoLocal}
 use Rattle.shred.specs.Batches.{Batched}
 use Rattle.shred.specs.Works.{WorkMeets}
-use Rattle.shred.specs.Dispatching.{Dispatching}
+use Rattle.shred.specs.Dispatching.{Dispatching, StepsThenLocals, DispatchesInAnyOrder}
+use Rattle.shred.specs.Locals.{LocalsRun}
 use Rattle.specs_entity.specs.Births.{Births}
 use Rattle.specs_entity.specs.declared.ids.Entity.{Entity}
 use Rattle.specs_entity.specs.declared.phase_rule.EntityView.{EntityView}
@@ -158,11 +159,21 @@ module _ (batch_meets : Batched Growth NoBatch → Holding Held → Option Stop 
   same-seat : (one other : PhaseSeat) → owned (SeatHeld one) ≡ owned (SeatHeld other) → one ≡ other
   same-seat one other is = same_Some one other (ap (λ slot. option_and_then seat_part (takable slot)) is)
 
+  -- where no system is local, a dispatch comes to what its stages do
+  stages-alone : (local_meets : NoLocal → Holding Held → Option Stop → NoLocal → Holding Held → Type 0) (before after : Dispatching Staged NoLocal) (w w_after : Holding Held) → before.locals ≡ []
+      → StepsThenLocals meets local_meets before w None after w_after
+      → RunsUpToOrder meets (plan_order before.staging.planning.stages) (record { systems = before.staging.systems; held = w }) (record { systems = after.staging.systems; held = w_after })
+  stages-alone local_meets before after w w_after bare ran =
+      let ended = subst (λ locals. LocalsRun local_meets 0 locals ran.w_between None after.locals w_after) bare ran.locals in
+      subst (λ held. RunsUpToOrder meets (plan_order before.staging.planning.stages) (record { systems = before.staging.systems; held = w }) (record { systems = after.staging.systems; held = held }))
+      (sym ended.2)
+      ran.steps
+
   -- so the seats that stood there have grown
-  pub dispatch-grows : (before after : Dispatching Staged NoLocal) (w w_after : Slots Held) (done : Unit {0}) → IsPair before
-      → RunsInAnyOrder meets before.staging (holding_of w) (done_with done) after.staging (holding_of w_after) → GrowsBoth w w_after
-  dispatch-grows before after w w_after done two ran one other sits =
-      let t = turned before after (holding_of w) (holding_of w_after) two ran in
+  pub dispatch-grows : (local_meets : NoLocal → Holding Held → Option Stop → NoLocal → Holding Held → Type 0) (before after : Dispatching Staged NoLocal) (w w_after : Slots Held) (done : Unit {0}) → IsPair before
+      → DispatchesInAnyOrder meets local_meets before (holding_of w) (done_with done) after (holding_of w_after) → GrowsBoth w w_after
+  dispatch-grows local_meets before after w w_after done two ran one other sits =
+      let t = turned before after (holding_of w) (holding_of w_after) two (stages-alone local_meets before after (holding_of w) (holding_of w_after) two.locals ran) in
       let one_is : t.first.before ≡ one = same-seat t.first.before one (sym t.first.there ∙ ap slot_of sits.first) in
       let other_is : t.second.before ≡ other = same-seat t.second.before other (sym t.second.there ∙ (ap (λ h. h (seat_id 2)) t.first.others ∙ ap slot_of sits.second)) in (
         t.first.after,

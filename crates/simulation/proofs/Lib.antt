@@ -4,3 +4,4 @@ pub mod FrameLemmas
 pub mod MergeLemmas
 pub mod SetupLemmas
 pub mod ColonyLemmas
+pub mod CrossingLemmas

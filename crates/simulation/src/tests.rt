@@ -78,9 +78,13 @@ fn registers_by_setup(alloc: Global) -> Result<bool, Failure> {
 }
 
 /// Whether two colonies leave four births, of which the next merge lets two die.
-fn colonies_come_out<R: AllocGlobal>(rt: &R, alloc: Global) -> Result<bool, Failure> {
+fn colonies_come_out<R: AllocGlobal + Threads + Wait + Sync>(
+    rt: &R,
+    alloc: Global,
+    workers: usize,
+) -> Result<bool, Failure> {
     let mut world: World<Held> = WorldExt::new(alloc)?;
-    let mut both = colonies::dispatcher(alloc, 0).map_err(|_| Failure::Dispatch)?;
+    let mut both = colonies::dispatcher(alloc, workers).map_err(|_| Failure::Dispatch)?;
     colonies::grow_apart(rt, &mut both, &mut world)?;
     let born = world
         .entities()?
@@ -119,5 +123,10 @@ fn courses_come_out_with_two_workers(rt: HostRuntime) {
 
 #[test]
 fn colonies_grow_in_one_phase(rt: HostRuntime) {
-    assert_eq!(rt; colonies_come_out(&rt, rt.alloc()), Ok(true));
+    assert_eq!(rt; colonies_come_out(&rt, rt.alloc(), 0), Ok(true));
+}
+
+#[test]
+fn colonies_grow_in_one_phase_by_two_workers(rt: HostRuntime) {
+    assert_eq!(rt; colonies_come_out(&rt, rt.alloc(), 2), Ok(true));
 }

@@ -6,6 +6,7 @@ pub mod LawLemmas
 pub mod NewLemmas
 pub mod AliveLemmas
 pub mod CallerLemmas
+pub mod SyncLemmas
 pub mod PhaseCoreLemmas
 pub mod PhaseRestLemmas
 pub mod PhaseSeatLemmas

@@ -10,6 +10,8 @@ use shred::{AddError, Batch, Dispatcher, DispatcherBuilder, NoBatch, NoLocal, Wo
 use specs_entity::PhaseSeat;
 use specs_world::WorldExt;
 use std::alloc::Global;
+use std::sync::Wait;
+use std::thread::Threads;
 
 /// What the two systems stand in.
 pub type Staged = Work<Growth, Batch<Held, Growth, NoBatch>>;
@@ -82,7 +84,8 @@ pub fn gather(world: &mut World<Held>) -> Result<(), Stopped>
 /// Both colonies grow, each once, in a stage of both.
 ///
 /// Errors: `Stopped`, where a system was refused.
-pub fn grow_both<R: AllocGlobal>(
+#[tactic(auto, using(crate::proofs::CrossingLemmas::held_sync))]
+pub fn grow_both<R: AllocGlobal + Threads + Wait + Sync>(
     rt: &R,
     dispatcher: &mut Dispatcher<Held, Staged, NoLocal>,
     world: &mut World<Held>,
@@ -90,7 +93,7 @@ pub fn grow_both<R: AllocGlobal>(
     requires { IsPair dispatcher.old }
     ensures { OnOk result (GrowsBoth world.old world.new) }
 {
-    match dispatcher.dispatch_seq(rt, world) {
+    match dispatcher.dispatch(rt, world) {
         Ok(()) => Ok(()),
         Err(_) => Err(Stopped),
     }
@@ -100,7 +103,7 @@ pub fn grow_both<R: AllocGlobal>(
 /// and the deletions that both list.
 ///
 /// Errors: `Stopped`, where a system or memory was wanting; the phase may be open then.
-pub fn grow_apart<R: AllocGlobal>(
+pub fn grow_apart<R: AllocGlobal + Threads + Wait + Sync>(
     rt: &R,
     dispatcher: &mut Dispatcher<Held, Staged, NoLocal>,
     world: &mut World<Held>,
