@@ -25,8 +25,8 @@ pub use specs_entity::{
 pub use specs_join::{ChangeSet, Join, JoinCursor, JoinIter, ParJoin, change_each, store_all};
 pub use specs_layouts::{
     AnyStorage, BTreeStorage, Component, ComponentEvent, DefaultVecStorage, DenseVecStorage,
-    EventChannel, FlaggedStorage, HashMapStorage, MaskedStorage, NullStorage, ReaderId, Tracked,
-    VecStorage,
+    EventChannel, FlaggedStorage, HashMapStorage, IndexEvent, MaskedStorage, NullStorage, ReaderId,
+    Tracked, VecStorage,
 };
 pub use specs_storage::Storage;
 pub use specs_world::{

@@ -1,35 +1,13 @@
 -- Words whose bits are gone through, the lowest first.
-use Rattle.std.proofs.Common.{◌≡◌, ◌≢◌, ℕ, ◌+◌, ◌*◌, ◌/◌, ◌%◌, ◌^◌, ◌<◌, ◌≤◌, ltb, eqb, bit_and, Bool, true, false, not, ◌&&◌, ◌||◌, inl, inr, refl, sym, ap, subst, ◌∙◌, arith}
-use Rattle.std.specs.Int.{bit_not, trailing_zeros, w64}
-use Rattle.std.proofs.lemmas.Nat.{and_le_l}
+use Rattle.std.proofs.Common.{◌≡◌, ◌≢◌, ℕ, ◌+◌, ◌*◌, ◌/◌, ◌%◌, ◌<◌, ◌≤◌, ltb, eqb, Bool, true, false, not, ◌&&◌, ◌||◌, inl, inr, refl, sym, ap, subst, ◌∙◌, arith}
 use Rattle.std.proofs.lemmas.Bool.{cases_eq, cases_lt, true≢false, eq-eqb, ne_eqb, eqb-true, lt-ltb, le-ltb, and_parts}
-use Rattle.hibitset_sets.specs.Bits.{has_bit}
+use Rattle.hibitset_sets.specs.Bits.{has_bit, TakesBit}
 use Rattle.hibitset_sets.specs.Words.{is_marked, StandsOver}
-use Rattle.hibitset_sets.specs.BitLemmas.{has_bit-zero, has_bit-not, lowest_bit, has_bit-cleared_same, has_bit-cleared_other}
-use Rattle.specs_join.specs.Tested.{in_word, in_group, TakesBit, IsRest}
+use Rattle.hibitset_sets.specs.BitLemmas.{has_bit-zero, has_bit-not}
+use Rattle.specs_join.specs.Tested.{in_word, in_group, IsRest}
 use Rattle.specs_join.proofs.TestedLemmas.{Precedes}
 
 -- ---- what is left of a word
-
--- the word without its lowest bit
-pub takes-lowest : (word : ℕ) → 0 < word → word < 2 ^ 64 → TakesBit word (trailing_zeros w64 word) (bit_and word (bit_not w64 (1 * 2 ^ trailing_zeros w64 word % 2 ^ 64)))
-takes-lowest word some fits =
-    let place = trailing_zeros w64 word in
-    let rest = bit_and word (bit_not w64 (1 * 2 ^ place % 2 ^ 64)) in
-    let lowest = lowest_bit word some fits in
-    let gone : has_bit rest place ≡ false = has_bit-cleared_same word place lowest.0 in
-    let most : rest ≤ word = and_le_l word (bit_not w64 (1 * 2 ^ place % 2 ^ 64)) in
-    record {
-      less = elim (cases_eq rest word) [
-        | inl same ↦ absurd (true≢false (sym lowest.1 ∙ (ap (λ w. has_bit w place) (sym same) ∙ gone)))
-        | inr other ↦ omega (arith, most, other)
-      ];
-      within = lowest.0;
-      was = lowest.1;
-      least = lowest.2;
-      gone = gone;
-      stay = λ bit within other. has_bit-cleared_other word place lowest.0 bit within other;
-    }
 
 pub rest-first : (word : ℕ) → IsRest word word
 rest-first word = record { within = λ bit low has. has; later = λ one other low low' has not_left left. absurd (true≢false (sym has ∙ not_left)) }

@@ -1,5 +1,5 @@
 -- What becomes of the parts at the indices that pass a test, where each that has an item is changed.
-use Rattle.std.specs.Prelude.{◌≡◌, ◌≢◌, ℕ, ◌/◌, ◌%◌, ◌<◌, ◌==◌, ◌&&◌, Bool, true, false, if◌then◌else◌, Option, None, IsSome, Result, Ok, Err}
+use Rattle.std.specs.Prelude.{◌≡◌, ℕ, nat_lt, ◌*◌, ◌/◌, ◌%◌, ◌<◌, ◌==◌, ◌&&◌, Bool, true, false, if◌then◌else◌, Option, None, IsSome, Result, Ok, Err}
 use Rattle.hibitset_sets.specs.Bits.{has_bit}
 use Rattle.hibitset_sets.specs.Walk.{walk}
 use Rattle.specs_layouts.specs.Channels.{Log}
@@ -55,14 +55,9 @@ in_word bits word index = (index / 64 == word) && has_bit bits (index % 64)
 abbrev pub in_group : (ℕ → Bool) → ℕ → ℕ → Bool
 in_group members top index = (index / 4096 == top) && members index
 
--- the lowest bit left the word, and all else stayed
-pub record TakesBit (word place rest : ℕ) : Type 0 where
-  pub less : rest < word
-  pub within : place < 64
-  pub was : has_bit word place ≡ true
-  pub least : (bit : ℕ) → bit < place → has_bit word bit ≡ false
-  pub gone : has_bit rest place ≡ false
-  pub stay : (bit : ℕ) → bit < 64 → bit ≢ place → has_bit rest bit ≡ has_bit word bit
+-- the index is a member in the words under the first words of the layer above
+abbrev pub in_groups : (ℕ → Bool) → ℕ → ℕ → Bool
+in_groups members tops index = nat_lt index (4096 * tops) && members index
 
 -- what is left of a word of which bits were taken, the lowest first
 pub record IsRest (word left : ℕ) : Type 0 where

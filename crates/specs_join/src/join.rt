@@ -18,6 +18,7 @@ pub mod par_join;
 mod parts;
 mod sets;
 pub mod shared;
+pub mod told;
 mod tuples;
 mod words;
 

@@ -18,5 +18,6 @@ pub use join::iter::JoinIter;
 pub use join::laid_out::{LaidOut, change_laid_out};
 pub use join::par_join::{JoinParIter, ParJoin};
 pub use join::shared::SharedSteps;
+pub use join::told::change_told;
 pub use join::{AntiStorage, Join, MaybeJoin};
 pub use storing::store_all;

@@ -7,6 +7,9 @@ pub mod MaskedSteps
 pub mod DropSteps
 pub mod PartMapLemmas
 pub mod ShowsLemmas
+pub mod TellsLemmas
 pub mod CallerLemmas
 pub mod PlaceSteps
 pub mod SinceLemmas
+pub mod BlockLemmas
+pub mod ChannelLemmas

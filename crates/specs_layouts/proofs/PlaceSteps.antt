@@ -2,18 +2,18 @@
 use Rattle.std.proofs.Common.{◌≡◌, ℕ, zero, suc, ◌-◌, ◌<◌, ◌≤◌, List, [], ◌∷◌, length, map, set, get_or, slice_index_or, refl, ap, ◌∙◌, arith}
 
 -- a list whose first numbers went through f
-abbrev pub first_through : (ℕ → ℕ) → ℕ → List ℕ → List ℕ
+abbrev pub first_through : {A : Type 0} → (A → A) → ℕ → List A → List A
 first_through f zero xs = xs
 first_through f (suc i) [] = []
 first_through f (suc i) (x ∷ xs) = f x ∷ first_through f i xs
 
-pub through-more : (f : ℕ → ℕ) (i : ℕ) (xs : List ℕ) (d : ℕ) → i < length xs → set (first_through f i xs) i (f (get_or (first_through f i xs) i d)) ≡ first_through f (suc i) xs
+pub through-more : {A : Type 0} (f : A → A) (i : ℕ) (xs : List A) (d : A) → i < length xs → set (first_through f i xs) i (f (get_or (first_through f i xs) i d)) ≡ first_through f (suc i) xs
 through-more f zero [] d within = refl
 through-more f zero (x ∷ xs) d within = refl
 through-more f (suc i) [] d within = refl
 through-more f (suc i) (x ∷ xs) d within = let less : i < length xs = omega (arith, within) in ap (λ ys. f x ∷ ys) (through-more f i xs d less)
 
-pub through-all : (f : ℕ → ℕ) (xs : List ℕ) → first_through f (length xs) xs ≡ map f xs
+pub through-all : {A : Type 0} (f : A → A) (xs : List A) → first_through f (length xs) xs ≡ map f xs
 through-all f [] = refl
 through-all f (x ∷ xs) = ap (λ ys. f x ∷ ys) (through-all f xs)
 

@@ -25,12 +25,12 @@ told-more false log event = more-none log
 
 -- ---- indices that are named
 
-names-first : (one two : List ComponentEvent) (index : ℕ) → Names one index → Names (one ++ two) index
+pub names-first : (one two : List ComponentEvent) (index : ℕ) → Names one index → Names (one ++ two) index
 names-first one two index named =
     let has : ComponentEvent → Bool = λ event. eqb (index_of event) index in
     list_any-append has one two ∙ or_left (list_any has one) (list_any has two) named
 
-names-later : (one two : List ComponentEvent) (index : ℕ) → Names two index → Names (one ++ two) index
+pub names-later : (one two : List ComponentEvent) (index : ℕ) → Names two index → Names (one ++ two) index
 names-later one two index named =
     let has : ComponentEvent → Bool = λ event. eqb (index_of event) index in
     list_any-append has one two ∙ or_right (list_any has one) (list_any has two) named

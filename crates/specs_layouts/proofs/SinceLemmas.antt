@@ -1,10 +1,10 @@
 -- What each reader has yet to read, as events are written, read and let go.
-use Rattle.std.proofs.Common.{◌≡◌, ◌≢◌, ℕ, zero, suc, ◌+◌, ◌-◌, ◌<◌, ◌≤◌, min, List, [], ◌∷◌, ◌++◌, length, map, drop, set, get_or, sym, ap, ◌∙◌, arith, inl, inr, get_or-set_same, get_or-set_other}
-use Rattle.std.proofs.lemmas.Bool.{cases_lt}
+use Rattle.std.proofs.Common.{◌≡◌, ◌≢◌, ℕ, zero, suc, ◌+◌, ◌-◌, ◌<◌, ◌≤◌, min, List, [], ◌∷◌, ◌++◌, length, map, drop, set, get_or, sym, subst, ap, ◌∙◌, arith, inl, inr, get_or-set_same, get_or-set_other}
+use Rattle.std.proofs.lemmas.Bool.{cases_eq, cases_lt}
 use Rattle.std.proofs.lemmas.List.{get_or_default, get_or_past, get_or-map, drop-append-le, drop-drop, length-map, length-drop, length-set}
 use Rattle.std.proofs.Math.Seq.{drop-length}
-use Rattle.specs_layouts.specs.Channels.{Channel, IsChannel, since, with_event, CaughtUp, log_of, least_of, without_first, let_go, after_read}
-use Rattle.specs_layouts.proofs.PlaceSteps.{less-none}
+use Rattle.specs_layouts.specs.Channels.{Channel, IsChannel, IsReader, since, with_event, CaughtUp, log_of, least_of, without_first, let_go, after_read}
+use Rattle.specs_layouts.proofs.PlaceSteps.{kept-within, less-none}
 
 pub least-within : (most : ℕ) (places : List ℕ) → least_of most places ≤ most
 least-within most [] = omega (arith)
@@ -19,7 +19,7 @@ least-below most (place ∷ places) (suc reader) d within =
 
 module _ {E : Type 0} where
   -- who isn't a reader has nothing to read
-  since-none : (c : Channel E) (reader : ℕ) → length c.places ≤ reader → since c reader ≡ []
+  pub since-none : (c : Channel E) (reader : ℕ) → length c.places ≤ reader → since c reader ≡ []
   since-none c reader past = ap (λ p. drop p c.held) (get_or_past c.places reader (length c.held) past) ∙ drop-length c.held
 
   -- an event that is written is one more to read for each reader
@@ -89,4 +89,27 @@ module _ {E : Type 0} where
         all =
             get_or-map (λ p. p - n) moved reader len (length (drop n c.held)) there
             ∙ (ap (λ p. p - n) (get_or-set_same c.places reader len len within) ∙ sym (length-drop n c.held));
+      }
+
+  -- who is a reader stays one
+  pub reads-after : (c : Channel E) (reader other : ℕ) → IsReader (log_of c) other → IsReader (log_of (after_read c reader)) other
+  reads-after c reader other is =
+      let len = length c.held in
+      let moved : List ℕ = set c.places reader len in
+      let n = least_of len moved in
+      let same : length moved ≡ length c.places = length-set c.places reader len in
+      let as_many : length (map (λ p. p - n) moved) ≡ length moved = length-map moved (λ p. p - n) in
+      let known = is.known in
+      let below : get_or moved other 0 ≤ len = elim (cases_eq other reader) [
+        | inl here ↦
+            let read : get_or moved other 0 ≡ len = ap (λ r. get_or moved r 0) here ∙ get_or-set_same c.places reader len 0 (subst (λ r. r < length c.places) here known) in
+            omega (arith, read)
+        | inr apart ↦
+            let stays : get_or moved other 0 ≡ get_or c.places other 0 = get_or-set_other c.places reader other len 0 apart in
+            let within = is.within in
+            omega (arith, stays, within)
+      ] in
+      record {
+        known = let there : other < length (map (λ p. p - n) moved) = omega (arith, known, same, as_many) in there;
+        within = let within = kept-within n len moved other below in omega (arith, within, length-drop n c.held);
       }

@@ -45,6 +45,11 @@ pub record CaughtUp {E : Type 0} (log : Log E) (reader : ℕ) : Type 0 where
   pub known : reader < length log.places
   pub all : slice_index_or log.places reader (length log.held) ≡ length log.held
 
+-- a reader of the log, who has read no more than there is
+pub record IsReader {E : Type 0} (log : Log E) (reader : ℕ) : Type 0 where
+  pub known : reader < length log.places
+  pub within : slice_index_or log.places reader 0 ≤ length log.held
+
 -- the events that a reader of a channel has yet to read
 abbrev pub since : {E : Type 0} → Channel E → ℕ → List E
 since c reader = unread (log_of c) reader
@@ -92,6 +97,10 @@ without_first c count = record {
 abbrev pub let_go : {E : Type 0} → Channel E → Channel E
 let_go c = without_first c (least_of (length c.held) c.places)
 
+-- a channel of which a reader has read all
+abbrev pub read_by : {E : Type 0} → Channel E → ℕ → Channel E
+read_by c reader = record c { places = slice_set c.places reader (length c.held) }
+
 -- a channel after a reader has read to the end
 abbrev pub after_read : {E : Type 0} → Channel E → ℕ → Channel E
-after_read c reader = let_go (record c { places = slice_set c.places reader (length c.held) })
+after_read c reader = let_go (read_by c reader)

@@ -22,6 +22,9 @@ pub mod PartLemmas
 pub mod SlotLemmas
 pub mod EntryLemmas
 pub mod Shows
+pub mod SameEvents
+pub mod Tells
 pub mod Channels
+pub mod Blocks
 pub mod Flagged
 pub mod FlaggedLemmas

@@ -3,9 +3,11 @@
 #![tactic(auto)]
 
 pub mod any_storage;
+mod blocks;
 pub mod channel;
 pub mod comp;
 pub mod flagged;
+pub mod index_event;
 pub mod laws;
 pub mod masked;
 pub mod slices;
@@ -18,6 +20,7 @@ pub use any_storage::AnyStorage;
 pub use channel::{EventChannel, ReaderId};
 pub use comp::Component;
 pub use flagged::FlaggedStorage;
+pub use index_event::IndexEvent;
 pub use masked::MaskedStorage;
 pub use slices::SliceAccess;
 pub use storages::{

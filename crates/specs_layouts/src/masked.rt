@@ -1,9 +1,10 @@
 //! A storage with the mask that knows which indices have a part.
-ghost use Rattle.std.specs.Prelude.{◌≡◌, ℕ, ◌+◌, ◌<◌, true, false, Option, None, Some, IsSome, is_some, is_ok};
+ghost use Rattle.std.specs.Prelude.{◌≡◌, ◌≢◌, ℕ, ◌+◌, ◌<◌, true, false, Option, None, Some, IsSome, is_some, is_ok};
 ghost use Rattle.std.specs.Prelude.{[], ◌∷◌, length, IsOk, IfOk, OnOk, OnErr, IfErr, if◌then◌else◌};
 ghost use Rattle.std.specs.FinSet as set;
 ghost use Rattle.std.specs.Borrow.{sem};
-ghost use Rattle.specs_layouts.specs.Channels.{with_event, with_more, with_reader, CaughtUp};
+ghost use Rattle.specs_layouts.specs.Channels.{after_read, unread, with_event, with_more, with_reader};
+ghost use Rattle.specs_layouts.specs.Channels.{CaughtUp, IsReader};
 ghost use Rattle.specs_layouts.specs.Parts.{HasNone};
 ghost use Rattle.specs_layouts.specs.MaskedChanges.{PutsIn, KeepsParts, told_in, told_put, told_taken};
 ghost use Rattle.specs_layouts.specs.declared.track.ComponentEvent.TheVariants as event;
@@ -322,6 +323,25 @@ where
         ensures err { OnErr result (self.new.inner ≡ self.old.inner) }
     {
         self.inner.channel_mut().register_reader()
+    }
+
+    /// The reader has read to the end of the channel. Nothing is copied, and no memory is taken; what all readers have
+    /// read is let go. No part changes, and the other readers have what they had.
+    pub fn catch_up(&mut self, reader: &ReaderId)
+        ensures after { self.new.inner ≡ T.Storage.with_channel self.old.inner
+            (after_read (T.Storage.channel_of self.old.inner) reader.now) }
+        ensures mask { self.new.mask ≡ self.old.mask }
+        ensures parts { KeepsParts T.Storage.part_at self.old self.new }
+        ensures emission { T.Storage.emits self.new.inner ≡ T.Storage.emits self.old.inner }
+        ensures read { unread (T.Storage.events self.new.inner) reader.now ≡ [] }
+        ensures others { (other : ℕ) → other ≢ reader.now
+            → unread (T.Storage.events self.new.inner) other ≡ unread (T.Storage.events self.old.inner) other }
+        ensures caught_up { reader.now < length (T.Storage.events self.old.inner).places
+            → CaughtUp (T.Storage.events self.new.inner) reader.now }
+        ensures readers { (other : ℕ) → IsReader (T.Storage.events self.old.inner) other
+            → IsReader (T.Storage.events self.new.inner) other }
+    {
+        self.inner.catch_up(reader);
     }
 
     /// Writes an event by hand, also where emission is off. No part changes.

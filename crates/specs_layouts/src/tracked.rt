@@ -1,14 +1,14 @@
 //! Storages with a channel that is told of their changes.
-ghost use Rattle.std.specs.Prelude.{◌≡◌, Bool, ◌&&◌};
+ghost use Rattle.std.specs.Prelude.{◌≡◌, ◌≢◌, ◌<◌, ℕ, Bool, ◌&&◌, [], length};
 ghost use Rattle.std.specs.Borrow.{sem};
-ghost use Rattle.specs_layouts.specs.Channels.{Channel, has_readers, log_of};
+ghost use Rattle.specs_layouts.specs.Channels.{Channel, CaughtUp, IsReader, after_read, has_readers, log_of, unread};
 ghost use Rattle.specs_layouts.specs.Parts.{SameParts};
 ghost use Rattle.specs_layouts.specs.TrackedLends.{lends_channel};
 ghost use Rattle.specs_layouts.specs.declared.track.ComponentEvent.{ComponentEvent};
 
-use crate::EventChannel;
 use crate::track::ComponentEvent;
 use crate::unprotected::UnprotectedStorage;
+use crate::{EventChannel, ReaderId};
 
 /// A storage with a channel that is told of its changes, while emission is on and the channel has a reader.
 ///
@@ -42,6 +42,22 @@ pub trait Tracked<T: Drop>: UnprotectedStorage<T> {
     /// Turns emission on or off.
     fn set_event_emission(&mut self, emission: bool)
         ensures { self.new ≡ with_emission self.old emission };
+
+    /// The reader has read to the end of the channel. Nothing is copied, and no memory is taken; what all readers have
+    /// read is let go. No part changes, and the other readers have what they had.
+    final fn catch_up(&mut self, reader: &ReaderId)
+        ensures after { self.new ≡ with_channel self.old (after_read (channel_of self.old) reader.now) }
+        ensures parts { SameParts (Self.part_at self.old) (Self.part_at self.new) }
+        ensures emission { Self.emits self.new ≡ Self.emits self.old }
+        ensures read { unread (Self.events self.new) reader.now ≡ [] }
+        ensures others { (other : ℕ) → other ≢ reader.now
+            → unread (Self.events self.new) other ≡ unread (Self.events self.old) other }
+        ensures caught_up { reader.now < length (Self.events self.old).places
+            → CaughtUp (Self.events self.new) reader.now }
+        ensures readers { (other : ℕ) → IsReader (Self.events self.old) other → IsReader (Self.events self.new) other }
+    {
+        self.channel_mut().catch_up(reader);
+    }
 
     /// What its readers can tell is what the channel tells.
     ghost holds: { (s : Self) → Self.events s ≡ log_of (channel_of s) };

@@ -4,11 +4,10 @@ use denote.Ref.{MutRef}
 use Rattle.std.specs.Prelude.{ℕ, [], Result}
 use Rattle.std.specs.Borrow.{Fml, RattleType, MutBor, Lends, LendsIfOk}
 use Rattle.specs_layouts.specs.Channels.{Channel}
-use Rattle.specs_layouts.specs.contracts.channel.EventChannel as channel
 use Rattle.specs_layouts.specs.Masked.{Masked}
 use Rattle.specs_layouts.specs.declared.track.ComponentEvent.{ComponentEvent}
-use Rattle.specs_layouts.specs.contracts.track.ComponentEvent as event
 use Rattle.specs_layouts.specs.MaskedLends.{StorageMembers, masked_row}
+use Rattle.specs_layouts.specs.TrackedLends.{channel_row}
 use Rattle.specs_storage.specs.declared.storage.Storage.{Storage}
 use Rattle.specs_storage.specs.contracts.storage.Storage as storage
 
@@ -35,5 +34,5 @@ lends_store T S g m r = Lends (storage_row T S g) (masked_row T S g) m r (with_s
 -- the storage has the channel that was written
 abbrev pub lends_channel : (T S : RattleType) → StorageMembers S.Denot T.Denot → (S.Denot → Channel ComponentEvent → S.Denot) → MutBor (Storage T.Denot (MutBor (Masked S.Denot))) → MutBor (Channel ComponentEvent) → Fml
 lends_channel T S g put m r =
-    Lends (storage_row T S g) (channel.the_row event.the_row) m r
+    Lends (storage_row T S g) channel_row m r
     (λ c. with_store m.now (record m.now.store.now { inner = put m.now.store.now.inner c }))

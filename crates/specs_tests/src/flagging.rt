@@ -1,10 +1,12 @@
 //! A caller of storages whose changes are told, whose contract is what two readers read.
-ghost use Rattle.std.specs.Prelude.{◌≡◌, ◌≢◌, ◌<◌, ◌∷◌, ◌++◌, [], true, None, IfOk, OnOk, IsSome};
+ghost use Rattle.std.specs.Prelude.{◌≡◌, ◌≢◌, ◌<◌, ◌∷◌, ◌++◌, [], ℕ, true, None, length, IfOk, OnOk, IsSome};
+ghost use Rattle.hibitset_sets.specs.BitSet.{has_member};
 ghost use Rattle.specs_layouts.specs.Channels.{with_more, CaughtUp};
 ghost use Rattle.specs_layouts.specs.Shows.{Shows};
+ghost use Rattle.specs_layouts.specs.Tells.{Tells};
 ghost use Rattle.specs_layouts.specs.declared.track.ComponentEvent.TheVariants as event;
 
-use hibitset::Index;
+use hibitset::{BitSet, Index};
 use specs_join::{Change, Join, change_each};
 use specs_layouts::laws::removals_are_shown;
 use specs_layouts::{
@@ -123,6 +125,55 @@ where
     let changed = change_each(storage, read, change).is_ok();
     let taken = removals_are_shown(storage, id).is_ok();
     answer_of(changed && taken)
+}
+
+/// Lets a reader catch up, changes each part beside a join, and takes one out: whatever comes of it, the reader is told
+/// of each index whose part is another than it was.
+///
+/// Errors: `AllocError` where one of the two is refused.
+pub fn change_behind_a_reader<T: Component, R: Join, C: Change<T, R>>(
+    storage: &mut MaskedStorage<T>,
+    reader: &ReaderId,
+    read: R,
+    change: &C,
+    id: Index,
+) -> Result<(), AllocError>
+where
+    R::Type: Drop,
+    C::Refusal: Drop,
+    T::Storage: Tracked<T>,
+    requires reader { reader.now < length (T.Storage.events storage.old.inner).places }
+    requires emits { T.Storage.emits storage.old.inner ≡ true }
+    ensures { Tells T.Storage.part_at T.Storage.events reader.now storage.old.inner storage.new.inner }
+{
+    storage.catch_up(reader);
+    change_and_take(storage, read, change, id)
+}
+
+/// `change_behind_a_reader`, and then the indices of which the reader is told, in a set: each below `MAX_EID` whose part is
+/// another than it was is a member.
+///
+/// Errors: `AllocError`.
+pub fn touched_behind_a_reader<T: Component, R: Join, C: Change<T, R>>(
+    storage: &mut MaskedStorage<T>,
+    reader: &ReaderId,
+    read: R,
+    change: &C,
+    id: Index,
+    touched: &mut BitSet,
+) -> Result<(), AllocError>
+where
+    R::Type: Drop,
+    C::Refusal: Drop,
+    T::Storage: Tracked<T>,
+    requires reader { reader.now < length (T.Storage.events storage.old.inner).places }
+    requires emits { T.Storage.emits storage.old.inner ≡ true }
+    ensures { OnOk result ((index : ℕ) → index < 16777216
+        → T.Storage.part_at storage.new.inner index ≢ T.Storage.part_at storage.old.inner index
+        → has_member touched.new index ≡ true) }
+{
+    let _done = change_behind_a_reader(storage, reader, read, change, id).is_ok();
+    storage.channel().unread_indices(reader, touched)
 }
 
 /// What is answered where all was done, or not.

@@ -7,7 +7,7 @@ ghost use Rattle.specs_join.specs.EachErrors.{OnMemory, OnRefused};
 
 use super::Join;
 use crate::join::change::{Change, EachError};
-use crate::join::words::change_group;
+use crate::join::words::change_set;
 use hibitset::{BitSet, BitSetAnd, Index};
 use specs_layouts::UnprotectedStorage;
 use std::marker::{Model, PhantomData};
@@ -123,13 +123,11 @@ where
     let words = mask.layer0_as_slice().len();
     let (beside, values) = read.open();
     let set = BitSetAnd(mask, &beside);
-    for top in 0..(words + 63) / 64 {
-        match change_group::<T, L, R, C, BitSetAnd<&BitSet, &R::Mask>>(
-            &set, parts, &values, change, top,
-        ) {
-            Ok(()) => {}
-            Err(error) => return Err(error),
-        }
-    }
-    Ok(())
+    change_set::<T, L, R, C, BitSetAnd<&BitSet, &R::Mask>>(
+        &set,
+        parts,
+        &values,
+        change,
+        (words + 63) / 64,
+    )
 }

@@ -1,21 +1,12 @@
 //! Changes of the parts of a layout by the words of the set of their indices.
-ghost use Rattle.std.specs.Prelude.{◌≡◌, ◌≢◌, ℕ, ◌+◌, ◌/◌, ◌%◌, ◌<◌, ◌≤◌, ◌==◌, IsSome};
-ghost use Rattle.specs_join.specs.Tested.{Ends, AreThere, in_word, in_group, TakesBit};
+ghost use Rattle.std.specs.Prelude.{◌≡◌, ℕ, ◌+◌, ◌/◌, ◌%◌, ◌<◌, ◌≤◌, ◌==◌, IsSome};
+ghost use Rattle.specs_join.specs.Tested.{Ends, AreThere, in_word, in_group, in_groups};
 
 use crate::join::Join;
 use crate::join::change::{Change, EachError};
 use hibitset::{BitSetLike, Index};
+use hibitset_sets::util::take_bit;
 use specs_layouts::UnprotectedStorage;
-
-/// The place of the lowest bit of a word that has one, and the word without it.
-#[inline(always)]
-fn take_lowest(word: u64) -> (u32, u64)
-    requires { word ≢ 0 }
-    ensures { TakesBit word result.0 result.1 }
-{
-    let place = word.trailing_zeros();
-    (place, word & !(1 << place))
-}
 
 /// Changes the part at an index, beside the item there.
 #[inline(always)]
@@ -91,7 +82,7 @@ where
 {
     let mut left = bits;
     while left != 0 {
-        let (place, rest) = take_lowest(left);
+        let (place, rest) = take_bit(left);
         left = rest;
         match change_at::<T, L, R, C>(parts, values, change, first + place) {
             Ok(()) => {}
@@ -128,13 +119,7 @@ where
 
 /// Changes the parts at the members of a set in the 64 words under word `top` of layer 1.
 #[inline(always)]
-pub(crate) fn change_group<
-    T: Drop,
-    L: UnprotectedStorage<T>,
-    R: Join,
-    C: Change<T, R>,
-    M: BitSetLike + Drop,
->(
+fn change_group<T: Drop, L: UnprotectedStorage<T>, R: Join, C: Change<T, R>, M: BitSetLike + Drop>(
     set: &M,
     parts: &mut L,
     values: &R::Value,
@@ -151,12 +136,43 @@ where
 {
     let mut groups = set.layer1(top);
     while groups != 0 {
-        let (place, rest) = take_lowest(groups);
+        let (place, rest) = take_bit(groups);
         groups = rest;
         let word = top * 64 + place as usize;
         let first = (word * 64) as Index;
         let bits = set.layer0(word);
         match change_word::<T, L, R, C>(parts, values, change, first, bits) {
+            Ok(()) => {}
+            Err(error) => return Err(error),
+        }
+    }
+    Ok(())
+}
+
+/// Changes the parts at the members of a set in the words under the first words of layer 1.
+pub(crate) fn change_set<
+    T: Drop,
+    L: UnprotectedStorage<T>,
+    R: Join,
+    C: Change<T, R>,
+    M: BitSetLike + Drop,
+>(
+    set: &M,
+    parts: &mut L,
+    values: &R::Value,
+    change: &C,
+    tops: usize,
+) -> Result<(), EachError<C::Refusal>>
+where
+    R::Type: Drop,
+    C::Refusal: Drop,
+    requires range { tops ≤ 4096 }
+    requires ready { AreThere (L.part_at parts.old) (R.value_at values.now) (in_groups (M.members set.now) tops) }
+    ensures { Ends L.part_at L.events L.emits (C.changed change.now) (R.value_at values.now)
+        (in_groups (M.members set.now) tops) parts.old result parts.new }
+{
+    for top in 0..tops {
+        match change_group::<T, L, R, C, M>(set, parts, values, change, top) {
             Ok(()) => {}
             Err(error) => return Err(error),
         }

@@ -1,6 +1,7 @@
 //! Storages whose changes are told through a channel.
-ghost use Rattle.std.specs.Prelude.{◌≡◌, [], ◌∷◌, length, IfOk, OnOk, OnErr};
-ghost use Rattle.specs_layouts.specs.Channels.{with_event, with_more, with_reader, CaughtUp};
+ghost use Rattle.std.specs.Prelude.{◌≡◌, ◌≢◌, ◌<◌, ℕ, [], ◌∷◌, length, IfOk, OnOk, OnErr};
+ghost use Rattle.specs_layouts.specs.Channels.{after_read, unread, with_event, with_more, with_reader};
+ghost use Rattle.specs_layouts.specs.Channels.{CaughtUp, IsReader};
 ghost use Rattle.specs_layouts.specs.MaskedChanges.{KeepsParts};
 ghost use Rattle.specs_storage.specs.Found.{KeepsLoans};
 
@@ -62,6 +63,26 @@ where
         ensures loans { KeepsLoans self.old self.new }
     {
         self.store.register_reader()
+    }
+
+    /// The reader has read to the end of the channel. Nothing is copied, and no memory is taken; what all readers have
+    /// read is let go. No part changes, and the other readers have what they had.
+    pub fn catch_up(&mut self, reader: &ReaderId)
+        ensures after { self.new.store.now.inner ≡ T.Storage.with_channel self.old.store.now.inner
+            (after_read (T.Storage.channel_of self.old.store.now.inner) reader.now) }
+        ensures mask { self.new.store.now.mask ≡ self.old.store.now.mask }
+        ensures parts { KeepsParts T.Storage.part_at self.old.store.now self.new.store.now }
+        ensures emission { T.Storage.emits self.new.store.now.inner ≡ T.Storage.emits self.old.store.now.inner }
+        ensures read { unread (T.Storage.events self.new.store.now.inner) reader.now ≡ [] }
+        ensures others { (other : ℕ) → other ≢ reader.now → unread (T.Storage.events self.new.store.now.inner) other
+            ≡ unread (T.Storage.events self.old.store.now.inner) other }
+        ensures caught_up { reader.now < length (T.Storage.events self.old.store.now.inner).places
+            → CaughtUp (T.Storage.events self.new.store.now.inner) reader.now }
+        ensures readers { (other : ℕ) → IsReader (T.Storage.events self.old.store.now.inner) other
+            → IsReader (T.Storage.events self.new.store.now.inner) other }
+        ensures loans { KeepsLoans self.old self.new }
+    {
+        self.store.catch_up(reader);
     }
 
     /// Writes an event by hand, also where emission is off. No part changes.
