@@ -1,7 +1,8 @@
 //! The dispatcher of a scene's systems.
-ghost use Rattle.std.specs.Prelude.{◌≡◌, ◌<◌, map, IfErr};
+ghost use Rattle.std.specs.Prelude.{◌≡◌, ◌<◌, map, min, IfErr};
 ghost use Rattle.shred_world.specs.Bundles.{holding_of};
 ghost use Rattle.shred_stages.specs.Views.{Leaves};
+ghost use Rattle.shred_stages.specs.Worth.{most_worth};
 ghost use Rattle.scene_dispatch.specs.Orders.{turn_order};
 ghost use Rattle.scene_dispatch.specs.Held.{dispatching_in, AreHeld};
 ghost use Rattle.scene_dispatch.specs.Frames.{AreReady, Come, WantsThread};
@@ -12,13 +13,15 @@ use crate::local::PlacedLocal;
 use scene_model::FrameRefusal;
 use scene_world::{Placed, Rules, SceneValue};
 use shred::{Batch, Dispatcher, NoBatch, Work};
+use shred_crew::Crew;
+use shred_stages::Pack;
 use shred_world::World;
 use std::marker::Model;
 use std::sync::Wait;
 use std::thread::Threads;
 
-/// What a builder of a scene's systems builds.
-pub(crate) type Works<R, V> = Work<Placed<R>, Batch<V, Placed<R>, NoBatch>>;
+/// The staged systems of a scene, as its dispatcher has them.
+pub type Works<R, V> = Work<Placed<R>, Batch<V, Placed<R>, NoBatch>>;
 
 /// The systems of a scene: staged ones, which run in the stages of their plan on as many threads as there are workers, and
 /// local ones, which run after them on the caller's thread.
@@ -67,6 +70,41 @@ where
             dispatcher,
             positions,
             local_positions,
+        }
+    }
+
+    /// How many workers a crew has that stands by for this dispatcher: as many as it has itself, or as a stage is
+    /// worth, whichever is less. Where that is less than two, no thread is worth starting.
+    pub fn crew_size(&self) -> usize
+        ensures { result ≡ min self.now.workers (most_worth self.now.staging.planning.stages) }
+    {
+        self.dispatcher.crew_size()
+    }
+
+    /// Runs the systems as `run_systems` does, by the workers of a crew that stands by: it starts no thread.
+    ///
+    /// Errors: those of `run_systems`, without `Threads`.
+    pub fn run_systems_with<H: AllocGlobal + Wait>(
+        &mut self,
+        rt: &H,
+        crew: &mut Crew<World<R::Value>, Pack<R::Value, Works<R, R::Value>>>,
+        rules: &R,
+        world: &mut World<R::Value>,
+    ) -> Result<(), FrameRefusal>
+        ensures comes { AreReady (kinds_by R.Rules R.Value.SceneValue) (placed_by R.Rules) (R.book rules.now)
+            self.old (holding_of world.old) → Come (kinds_by R.Rules R.Value.SceneValue) (placed_by R.Rules)
+            (R.book rules.now) self.old (holding_of world.old) result self.new (holding_of world.new) }
+        ensures order { turn_order (placed_by R.Rules).plain self.new ≡ turn_order
+            (placed_by R.Rules).plain self.old }
+        ensures workers { self.new.workers ≡ self.old.workers }
+        ensures threads { IfErr result (λ cause. ¬ (WantsThread cause)) }
+
+        // The same ids have values as before.
+        ensures leaves { Leaves (holding_of world.old) (holding_of world.new) }
+    {
+        match self.dispatcher.dispatch_with(rt, crew, world) {
+            Err(why) => Err(cause_of(&self.positions, &self.local_positions, why)),
+            Ok(_) => Ok(()),
         }
     }
 }

@@ -11,7 +11,7 @@ mod opening;
 mod staging;
 
 pub use builder::SceneDispatcherBuilder;
-pub use dispatcher::SceneDispatcher;
+pub use dispatcher::{SceneDispatcher, Works};
 pub use local::PlacedLocal;
 pub use opening::{open_queues, places_of_systems};
 pub use staging::stage_systems;

@@ -1,9 +1,10 @@
 //! Dispatchers: staged systems and local ones over a world.
-ghost use Rattle.std.specs.Prelude.{◌≡◌, ◌≢◌, Err, is_ok};
+ghost use Rattle.std.specs.Prelude.{◌≡◌, ◌≢◌, min, Err, is_ok};
 ghost use Rattle.shred_world.specs.Bundles.{holding_of};
 ghost use Rattle.shred_plan.specs.Plan.{most_groups};
 ghost use Rattle.shred_stages.specs.Views.{Leaves};
 ghost use Rattle.shred_stages.specs.Orders.{RunsInAnyOrder};
+ghost use Rattle.shred_stages.specs.Worth.{most_worth};
 ghost use Rattle.shred.specs.Dispatching.{Dispatching, Dispatches, DispatchesAll, DispatchesInAnyOrder};
 ghost use Rattle.shred.specs.Dispatching.{DispatchesOnThreads, DispatchesStaged, DispatchesLocals, local_refusal};
 ghost use Rattle.shred.specs.Dispatching.{TellsLocal, DispatcherSetsUp, DispatcherDisposes, TellsFirst, stop_in};
@@ -183,9 +184,12 @@ impl<V: Drop, S: System<V> + Drop, L: RunNow<V> + Drop> Dispatcher<V, S, L> {
         self.stages.execute_with(rt, self.workers, crew, world)
     }
 
-    /// How many workers run a stage with the most groups.
-    pub(crate) fn crew_size(&self) -> usize {
-        self.workers.min(self.stages.max_threads())
+    /// How many workers a crew has that stands by for this dispatcher: as many as it has itself, or as a stage is
+    /// worth, whichever is less. Where that is less than two, no thread is worth starting.
+    pub fn crew_size(&self) -> usize
+        ensures { result ≡ min self.now.workers (most_worth self.now.staging.planning.stages) }
+    {
+        self.workers.min(self.stages.max_workers())
     }
 
     /// Runs the staged systems on the caller's thread: a chain of their relations in the order of the plan.

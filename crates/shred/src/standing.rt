@@ -45,6 +45,8 @@ impl<V: Drop, S: System<V> + Drop, L: RunNow<V> + Drop> Shift<World<V>, Pack<V, 
     for Dispatches<V, S, L> {
     ghost use Rattle.shred.specs.Standing.{DispatchesTimes};
 
+    ghost may = { λ _. Unit {0} };
+
     ghost does = { λ before after. DispatchesTimes S.meets L.meets before.times before.dispatcher before.world
         after.accepted after.outcome after.dispatcher after.world };
 

@@ -18,11 +18,15 @@ use std::thread::{Scope, Threads};
 
 /// What is done while a crew stands by.
 pub trait Shift<C, T: Load<C>>: Sized {
+    /// When it may be done.
+    ghost may: { Self → Type 0 };
+
     /// What may come of it.
     ghost does: { Self → Self → Type 0 };
 
     /// Does it.
     fn run<R: AllocGlobal + Wait>(&mut self, rt: &R, crew: &mut Crew<C, T>)
+        requires { may self.old }
         ensures { does self.old self.new };
 }
 
@@ -172,6 +176,7 @@ fn man<
     count: usize,
     shift: S,
 ) -> Result<S, Unmanned<S>>
+    requires { S.may shift }
     ensures ok { IfOk result (λ after. S.does shift after) }
     ensures err { IfErr result (λ unmanned. unmanned.shift ≡ shift) }
 {
@@ -205,6 +210,7 @@ fn man_scope<
     S: Shift<C, T> + Drop,
     R: AllocGlobal + Threads + Wait + Sync,
 >(rt: &'g R, over: &'g OnceLock<()>, count: usize, shift: S) -> Result<S, Unmanned<S>>
+    requires { S.may shift }
     ensures ok { IfOk result (λ after. S.does shift after) }
     ensures err { IfErr result (λ unmanned. unmanned.shift ≡ shift) }
 {
@@ -212,6 +218,7 @@ fn man_scope<
         thread::scope_env(),
         rt,
         move |scope| -> Result<S, Unmanned<S>>
+            requires { S.may shift }
             ensures ok { IfOk result (λ after. S.does shift after) }
             ensures err { IfErr result (λ unmanned. unmanned.shift ≡ shift) }
         { man(scope, rt, over, count, shift) },
@@ -219,7 +226,7 @@ fn man_scope<
 }
 
 /// Does what is to be done while so many workers stand by, of which the caller's thread is one: each other has a thread of its own, which
-/// is started before anything is done and has ended when the call returns.
+/// is started before anything is done and has ended when the call returns. Asked for is that it may be done.
 ///
 /// Errors: want of memory, or a thread that can't be started; nothing was done, and what was to be done comes back as it was.
 pub fn with_crew<
@@ -228,6 +235,7 @@ pub fn with_crew<
     S: Shift<C, T> + Drop,
     R: AllocGlobal + Threads + Wait + Sync,
 >(rt: &R, workers: usize, shift: S) -> Result<S, Unmanned<S>>
+    requires { S.may shift }
     ensures ok { IfOk result (λ after. S.does shift after) }
     ensures err { IfErr result (λ unmanned. unmanned.shift ≡ shift) }
 {

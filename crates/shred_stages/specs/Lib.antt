@@ -17,3 +17,4 @@ pub mod Changes
 pub mod Touring
 pub mod ViewParts
 pub mod Errands
+pub mod Worth

@@ -14,6 +14,7 @@ use crate::pack::Pack;
 use crate::packing::{give_back_all, lend_all};
 use crate::run::Refusal;
 use crate::turn::Staged;
+use crate::worth::worth_of;
 use shred_crew::{Crew, Room};
 use shred_plan::{Group, Stage};
 use shred_world::{ResourceId, World};
@@ -60,7 +61,7 @@ fn times_of(alloc: Global, stage: &[Group<ResourceId>]) -> Result<Vec<u32>, Allo
     Ok(times)
 }
 
-/// What a stage is run with by some workers, its groups cut by their times.
+/// What a stage is run with by some workers, or as many of them as it is worth, its groups cut by their times.
 ///
 /// Errors: want of memory.
 fn make_berth<V: Drop, S: Drop>(
@@ -71,7 +72,7 @@ fn make_berth<V: Drop, S: Drop>(
     ensures { IfOk result (λ berth. berth ≡ stage.now) }
 {
     let times = times_of(alloc, stage)?;
-    let workers = workers.min(stage.len()).max(1);
+    let workers = workers.min(worth_of(stage)).max(1);
     let room = Room::new(alloc, &times, workers)?;
     let kits = make_kits(alloc, stage)?;
     let packs = Vec::with_capacity(alloc, stage.len())?;

@@ -28,6 +28,7 @@ mod system;
 mod tour;
 mod turn;
 mod view;
+mod worth;
 
 pub use accessor::BatchAccessor;
 pub use alone::run_alone;

@@ -13,6 +13,7 @@ ghost use Rattle.shred_stages.specs.Orders.{RunsInAnyOrder};
 ghost use Rattle.shred_stages.specs.Seats.{StagesAreSeated, refusal_of};
 ghost use Rattle.shred_stages.specs.Setups.{SetsUpEach, DisposesEach};
 ghost use Rattle.shred_stages.specs.Accesses.{all_reads, all_writes};
+ghost use Rattle.shred_stages.specs.Worth.{most_worth};
 
 use crate::access::{Access, ids_in_stages};
 use crate::apart::{run_apart, run_standing};
@@ -22,6 +23,7 @@ use crate::run::{Refusal, run_stages};
 use crate::seat::seat_for;
 use crate::setup::{dispose_staged, set_up_staged};
 use crate::turn::Staged;
+use crate::worth::most_worth;
 use crate::{DispatchError, System, SystemId};
 use shred_crew::Crew;
 use shred_plan::{Adding, Planner};
@@ -212,6 +214,15 @@ impl<V: Drop, S: System<V> + Drop> StagesBuilder<V, S> {
         self.planner.max_groups()
     }
 
+    /// The greatest number of workers that a stage is worth: one for each three units of its groups' times, which an
+    /// average system takes, and no more than it has groups. A stage that is worth one is run by the caller's thread
+    /// alone.
+    pub fn max_workers(&self) -> usize
+        ensures { result ≡ most_worth self.now.planning.stages }
+    {
+        most_worth(self.planner.stages())
+    }
+
     /// Runs the systems on the caller's thread: stage by stage, group by group.
     ///
     /// A system that refuses ends its group; the stage's other groups run to their ends, and no later stage runs.
@@ -263,7 +274,7 @@ impl<V: Drop, S: System<V> + Drop> StagesBuilder<V, S> {
         // The same ids have values as before.
         ensures leaves { Leaves (holding_of world.old) (holding_of world.new) }
     {
-        let workers = workers.min(self.planner.max_groups());
+        let workers = workers.min(self.max_workers());
         if workers < 2 {
             return self.execute_seq(rt, world);
         }
@@ -305,7 +316,7 @@ impl<V: Drop, S: System<V> + Drop> StagesBuilder<V, S> {
         ensures leaves { Leaves (holding_of world.old) (holding_of world.new) }
         ensures threads { result ≢ Err Threads }
     {
-        let workers = workers.min(self.planner.max_groups());
+        let workers = workers.min(self.max_workers());
         if workers < 2 {
             return self.execute_seq(rt, world);
         }

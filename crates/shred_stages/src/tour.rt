@@ -105,6 +105,8 @@ impl<V, S> Model for Tour<V, S> {
 impl<V: Drop, S: System<V> + Drop> Shift<World<V>, Pack<V, S>> for Tour<V, S> {
     ghost use Rattle.shred_stages.specs.Touring.{Tours};
 
+    ghost may = { λ _. Unit {0} };
+
     ghost does = { Tours S.meets };
 
     fn run<R: AllocGlobal + Wait>(&mut self, rt: &R, crew: &mut Crew<World<V>, Pack<V, S>>) {

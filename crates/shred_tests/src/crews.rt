@@ -24,6 +24,8 @@ struct Raising {
 }
 
 impl Shift<u64, Number> for Raising {
+    ghost may = { λ _. Unit {0} };
+
     ghost does = { λ _ _. Unit {0} };
 
     fn run<R: AllocGlobal + Wait>(&mut self, rt: &R, crew: &mut Crew<u64, Number>) {
