@@ -39,10 +39,10 @@ where
     R::Global: Send + Sync,
     R::System: Send + Sync,
 {
-    let Ok(mut scene) = Scene::open(rt.alloc(), rules, Limits::FULL, text.as_bytes()) else {
+    let Ok(scene) = Scene::open(rt.alloc(), rules, Limits::FULL, text.as_bytes()) else {
         return Err(AllocError);
     };
-    run_to_end(rt, &mut scene);
+    let scene = run_to_end(rt, scene);
     let written = scene.snapshot(rt.alloc())?;
     let (_, report) = scene.into_parts();
     Ok((written.len(), report.frames))
@@ -79,12 +79,12 @@ where
     R::System: Send + Sync,
 {
     let start = Instant::now(rt)?;
-    let Ok(mut scene) = Scene::open(rt.alloc(), rules, Limits::FULL, text.as_bytes()) else {
+    let Ok(scene) = Scene::open(rt.alloc(), rules, Limits::FULL, text.as_bytes()) else {
         return Err(AllocError.into());
     };
     let loading = each(rt, start, count)?;
     let start = Instant::now(rt)?;
-    run_to_end(rt, &mut scene);
+    let scene = run_to_end(rt, scene);
     let running = each(rt, start, count.saturating_mul(FRAMES))?;
     let start = Instant::now(rt)?;
     let written = scene.snapshot(rt.alloc())?;

@@ -1,16 +1,13 @@
--- Lemmas on what is kept of a world: of who lives, of the columns of kinds, and of the scene.
-use Rattle.std.proofs.Common.{◌≡◌, ◌<◌, ◌+◌, ℕ, zero, suc, take, get_or, Bool, true, false, cond, eqb, ◌||◌, List, [], ◌∷◌, ◌++◌, append_assoc, append-nil, map, length, All, Option, Some, None, IsSome, IfSome, is_some, option_map, Result, Ok, Err, IfOk, refl, ap, sym, subst, ◌∙◌, arith}
+-- Lemmas on what is kept of a world: of who lives, of the rows of kinds, and of the scene.
+use Rattle.std.proofs.Common.{◌≡◌, ◌≢◌, ◌⊎◌, inl, inr, ◌<◌, ◌+◌, ℕ, zero, suc, take, get_or, Bool, true, false, cond, eqb, ◌||◌, List, [], ◌∷◌, ◌++◌, append_assoc, append-nil, map, length, All, Option, Some, None, IsSome, IfSome, is_some, option_map, Result, Ok, Err, IfOk, refl, ap, sym, subst, ◌∙◌, arith}
 use Rattle.std.specs.Prelude.{option_and_then, slice_get}
-use Rattle.std.specs.Result.{result_ok}
 use Rattle.std.specs.List.{list_any, cons_option}
-use Rattle.std.specs.Map.{lookup}
-use Rattle.std.specs.List.Sorted.{IsPermutation}
-use Rattle.std.proofs.lemmas.List.Sorted.{All-permutation, list_any-IsPermutation, IsPermutation-map}
 use Rattle.std.specs.Global.{Vec}
 use Rattle.std.specs.Ordering.{nat_cmp}
 use Rattle.std.specs.FinMap as finite
 use Rattle.std.proofs.lemmas.Bool.{false≢true, eqb-true, eq-eqb}
-use Rattle.std.proofs.lemmas.List.Elements.{All-nil, All-head, All-tail, All-push, All-weaker}
+use Rattle.std.proofs.lemmas.List.Elements.{All-nil, All-cons, All-head, All-tail, All-push, All-weaker, All-map, filter_map-append}
+use Rattle.std.proofs.lemmas.Option.{same_Some}
 use Rattle.std.proofs.lemmas.List.{map-append, take_more}
 use Rattle.hibitset_sets.specs.BitSet.{has_member}
 use Rattle.hibitset_sets.specs.Walk.{walk}
@@ -22,7 +19,9 @@ use Rattle.specs_layouts.specs.Masked.{Masked, Agrees}
 use Rattle.specs_layouts.specs.declared.storages.vec.VecStorage.{VecStorage}
 use Rattle.scene_world.specs.Markers.{marker_at}
 use Rattle.scene_model.specs.Parts.{Json, Name, Part, is_among, place_of, name_at, living as reaching}
+use Rattle.scene_model.specs.Declaring.{texts}
 use Rattle.scene_model.specs.Rulebook.{Book}
+use denote.Ref.{Bor}
 use Rattle.scene_model.specs.Scenes.{RefLives}
 use Rattle.scene_model.specs.Slots.{filled}
 use Rattle.scene_model.proofs.CallerLemmas.{same-ids}
@@ -33,13 +32,12 @@ use Rattle.scene_world.specs.Rolls.{Roll, IsRoll, id_at, index_of, ids_in, ref_t
 use Rattle.scene_world.specs.Standing.{Sight, Kinds, roll_of, column_of, value_of, plain_of, IsSceneWorld}
 use Rattle.scene_world.proofs.CallerLemmas.{id-at-index, lives-index, ids-ascend, index-of-id}
 use Rattle.scene_world.specs.Putting.{named_in, part_read, each_there, AreReadAt}
-use Rattle.scene_world.proofs.CallerLemmas.{each-same}
-use Rattle.scene_snapshot.specs.Keeping.{Keeping, kept_at, present, entries_of}
-use Rattle.scene_snapshot.proofs.CallerLemmas.{get_made, same_key, same-is, same-itself}
-use Rattle.scene_snapshot.specs.declared.columns.KeptScene.{KeptScene}
-use Rattle.scene_snapshot.specs.KeptScenes.{kept_datum, kept_part, kept_scene}
-use Rattle.scene_snapshot.proofs.KeptTextLemmas.{kept-scene-is}
-use Rattle.scene.specs.Taken.{AreMarkedBy, AreMarkersOf, IsAmong, ArePairs, HasIdsOf, IsWanted, part_at, AreOfPairs, IsColumnOf, AreColumnsOf}
+use Rattle.scene_world.proofs.CallerLemmas.{each-same, each-mapped}
+use Rattle.scene_snapshot.specs.Rows.{seats_kept, seat_at, datum_at, HasRoom, SameCourse}
+use Rattle.scene_snapshot.specs.KeptScenes.{bearers, part_kept, kept_scene}
+use Rattle.scene_snapshot.specs.declared.kept.KeptScene.{KeptScene}
+use Rattle.scene_snapshot.proofs.CallerLemmas.{kept-scene-is, bearer-none, bearer-one}
+use Rattle.scene.specs.Taken.{AreMarkedBy, AreMarkersOf, IsAmong, ArePairs, with_last, part_at, AreOfPairs, IsRowOf, AreRowsOf}
 use Rattle.scene.proofs.KeptPlaceLemmas.{by-name, keys-ascend, keys-there}
 
 -- ---- references
@@ -154,133 +152,216 @@ module _ (markers : Masked (Flagged (VecStorage ℕ))) where
         there = All-tail (λ one. IsSome (marker_at markers one)) index rest there-now;
       })
 
--- in another order they are all still
-pub pairs-permuted : (roll : Roll) (pairs others : List (ℕ × ℕ)) → IsPermutation pairs others → ArePairs roll pairs → ArePairs roll others
-pairs-permuted roll pairs others permuted are = record {
-  each = All-permutation (λ pair. id_at roll pair.1 ≡ Some pair.0) pairs others permuted are.each;
-  all = λ index some. sym (list_any-IsPermutation (eqb index) _ _ (IsPermutation-map (λ pair. pair.1) pairs others permuted)) ∙ are.all index some;
-}
+-- ---- what stands behind numbers
 
-module _ (roll : Roll) (is : IsRoll roll) where
-  -- who is known under an id is among the pairs
-  among : (pairs : List (ℕ × ℕ)) (id index : ℕ) → id_at roll index ≡ Some id → All (λ pair. id_at roll pair.1 ≡ Some pair.0) pairs → IsAmong (map (λ pair. pair.1) pairs) index → IsAmong (map (λ pair. pair.0) pairs) id
-  among [] id index at each some = absurd (false≢true some)
-  among (pair ∷ pairs) id index at each some = by (among pairs id index at (All-tail (λ pair. id_at roll pair.1 ≡ Some pair.0) pair pairs each)) (eqb index pair.1) refl some
+module _ {X : Type 0} where
+  -- one more is the last
+  pub last-more : (done : List (ℕ × X)) (one : ℕ × X) (before : ℕ → Option X) (number : ℕ) → with_last (done ++ one ∷ []) before number ≡ cond (eqb number one.0) (Some one.1) (with_last done before number)
+  last-more [] one before number = refl
+  last-more (first ∷ done) one before number = last-more done one (λ other. cond (eqb other first.0) (Some first.1) (before other)) number
+
+  module _ (read : ℕ → Option X) (number : ℕ) where
+    -- where each is what is read of its number, nothing is found of a number of which nothing is read,
+    last-none : (list : List (ℕ × X)) (before : ℕ → Option X) → All (λ one. read one.0 ≡ Some one.1) list → read number ≡ None → before number ≡ None → with_last list before number ≡ None
+    last-none [] before each none was = was
+    last-none (one ∷ others) before each none was =
+        last-none others (λ other. cond (eqb other one.0) (Some one.1) (before other)) (All-tail (λ one. read one.0 ≡ Some one.1) one others each) none (by (eqb number one.0) refl)
+      where
+        by : (b : Bool) → eqb number one.0 ≡ b → cond b (Some one.1) (before number) ≡ None
+        by true same = absurd (false≢true (ap is_some (sym none ∙ ap read (eqb-true number one.0 same) ∙ All-head (λ one. read one.0 ≡ Some one.1) one others each)))
+        by false apart = was
+
+    -- and of one among them what is read
+    last-some : (x : X) → read number ≡ Some x → (list : List (ℕ × X)) (before : ℕ → Option X) → All (λ one. read one.0 ≡ Some one.1) list
+        → (before number ≡ Some x) ⊎ IsAmong (map (λ one. one.0) list) number → with_last list before number ≡ Some x
+    last-some x some [] before each (inl was) = was
+    last-some x some [] before each (inr among_them) = absurd (false≢true among_them)
+    last-some x some (one ∷ others) before each either =
+        last-some x some others (λ other. cond (eqb other one.0) (Some one.1) (before other)) (All-tail (λ one. read one.0 ≡ Some one.1) one others each) (by (eqb number one.0) refl either)
+      where
+        by : (b : Bool) → eqb number one.0 ≡ b → (before number ≡ Some x) ⊎ IsAmong (map (λ one. one.0) (one ∷ others)) number
+            → (cond (eqb number one.0) (Some one.1) (before number) ≡ Some x) ⊎ IsAmong (map (λ one. one.0) others) number
+        by true same rest =
+            inl (ap (λ b. cond b (Some one.1) (before number)) same ∙ sym (All-head (λ one. read one.0 ≡ Some one.1) one others each) ∙ ap read (sym (eqb-true number one.0 same)) ∙ some)
+        by false apart (inl was) = inl (ap (λ b. cond b (Some one.1) (before number)) apart ∙ was)
+        by false apart (inr among_them) = inr (sym (ap (λ b. b || list_any (eqb number) (map (λ one. one.0) others)) apart) ∙ among_them)
+
+    pub last-read : (list : List (ℕ × X)) (before : ℕ → Option X) → All (λ one. read one.0 ≡ Some one.1) list → before number ≡ None → (IsSome (read number) → IsAmong (map (λ one. one.0) list) number)
+        → with_last list before number ≡ read number
+    last-read list before each bare known = by (read number) refl
+      where
+        by : (o : Option X) → read number ≡ o → with_last list before number ≡ read number
+        by None none = last-none list before each none bare ∙ sym none
+        by (Some x) some = last-some x some list before each (inr (known (ap is_some some))) ∙ sym some
+
+-- what is made of what stands behind a number stands behind it among what is made
+last-mapped : {D X : Type 0} (f : D → X) (list : List (ℕ × D)) (before : ℕ → Option D) (number : ℕ) → option_map f (with_last list before number) ≡ with_last (map (λ one. (one.0, f one.1)) list) (λ other. option_map f (before other)) number
+last-mapped f [] before number = refl
+last-mapped {D} {X} f (one ∷ others) before number =
+    last-mapped f others (λ other. cond (eqb other one.0) (Some one.1) (before other)) number
+    ∙ ap (λ was. with_last (map (λ one. (one.0, f one.1)) others) was number) (λ i other. by (eqb other one.0) (before other) i)
+  where
+    by : (b : Bool) (o : Option D) → option_map f (cond b (Some one.1) o) ≡ cond b (Some (f one.1)) (option_map f o)
+    by true o = refl
+    by false o = refl
+
+-- what is read at indices that stand behind themselves
+module _ {X : Type 0} (read : ℕ → Option X) where
+  read-each : (places : List (ℕ × ℕ)) → All (λ pair. pair.0 ≡ pair.1) places → All (λ one. read one.0 ≡ Some one.1) (each_there read places)
+  read-each [] same = All-nil (λ one. read one.0 ≡ Some one.1)
+  read-each (pair ∷ pairs) same = by (read-each pairs (All-tail (λ pair. pair.0 ≡ pair.1) pair pairs same)) (read pair.1) refl
+    where
+      by : All (λ one. read one.0 ≡ Some one.1) (each_there read pairs) → (o : Option X) → read pair.1 ≡ o → All (λ one. read one.0 ≡ Some one.1) (cons_option (option_map (λ x. (pair.0, x)) o) (each_there read pairs))
+      by later None is = later
+      by later (Some x) is = All-cons (λ one. read one.0 ≡ Some one.1) (pair.0, x) (each_there read pairs) (ap read (All-head (λ pair. pair.0 ≡ pair.1) pair pairs same) ∙ is) later
+
+  read-among : (number : ℕ) (places : List (ℕ × ℕ)) → All (λ pair. pair.0 ≡ pair.1) places → IsSome (read number) → IsAmong (map (λ pair. pair.1) places) number → IsAmong (map (λ one. one.0) (each_there read places)) number
+  read-among number [] same some among_them = absurd (false≢true among_them)
+  read-among number (pair ∷ pairs) same some among_them = by (read-among number pairs (All-tail (λ pair. pair.0 ≡ pair.1) pair pairs same) some) (eqb number pair.1) refl (read pair.1) refl among_them
     where
       or-true : (b : Bool) → (b || true) ≡ true
       or-true true = refl
       or-true false = refl
 
-      by : (IsAmong (map (λ pair. pair.1) pairs) index → IsAmong (map (λ pair. pair.0) pairs) id) → (b : Bool) → eqb index pair.1 ≡ b → (b || list_any (eqb index) (map (λ pair. pair.1) pairs)) ≡ true
-          → (eqb id pair.0 || list_any (eqb id) (map (λ pair. pair.0) pairs)) ≡ true
-      by later true same some =
-          let here : Some id ≡ Some pair.0 = sym at ∙ ap (id_at roll) (eqb-true index pair.1 same) ∙ All-head (λ pair. id_at roll pair.1 ≡ Some pair.0) pair pairs each in
-          let id_is : id ≡ pair.0 = cc in
-          ap (λ b. b || list_any (eqb id) (map (λ pair. pair.0) pairs)) (eq-eqb id pair.0 id_is)
-      by later false apart some = ap (λ b. eqb id pair.0 || b) (later some) ∙ or-true (eqb id pair.0)
+      by : (IsAmong (map (λ pair. pair.1) pairs) number → IsAmong (map (λ one. one.0) (each_there read pairs)) number) → (b : Bool) → eqb number pair.1 ≡ b → (o : Option X) → read pair.1 ≡ o
+          → (eqb number pair.1 || list_any (eqb number) (map (λ pair. pair.1) pairs)) ≡ true
+          → IsAmong (map (λ one. one.0) (cons_option (option_map (λ x. (pair.0, x)) o) (each_there read pairs))) number
+      by later true here None none rest = absurd (false≢true (sym (ap is_some (ap read (eqb-true number pair.1 here) ∙ none)) ∙ some))
+      by later true here (Some x) is rest =
+          ap (λ b. b || list_any (eqb number) (map (λ one. one.0) (each_there read pairs))) (eq-eqb number pair.0 (eqb-true number pair.1 here ∙ sym (All-head (λ pair. pair.0 ≡ pair.1) pair pairs same)))
+      by later false apart None none rest = later (sym (ap (λ b. b || list_any (eqb number) (map (λ pair. pair.1) pairs)) apart) ∙ rest)
+      by later false apart (Some x) is rest =
+          ap (λ b. eqb number pair.0 || b) (later (sym (ap (λ b. b || list_any (eqb number) (map (λ pair. pair.1) pairs)) apart) ∙ rest)) ∙ or-true (eqb number pair.0)
 
-  pub known-among : (pairs : List (ℕ × ℕ)) → ArePairs roll pairs → (id : ℕ) → IsSome (index_of roll id) → IsAmong (map (λ pair. pair.0) pairs) id
-  known-among pairs are id some =
-      let index = some-of (index_of roll id) some in
-      let at : id_at roll index.0 ≡ Some id = id-at-index roll id index.0 index.1 in
-      among pairs id index.0 at are.each (are.all index.0 (ap is_some at))
+  -- so they are found where nothing stood before
+  pub row-read : {D : Type 0} (f : D → X) (found : List (ℕ × Option D)) (places : List (ℕ × ℕ)) (before : ℕ → Option D) → each_there (option_map f) found ≡ each_there read places → All (λ pair. pair.0 ≡ pair.1) places
+      → ((index : ℕ) → before index ≡ None) → (number : ℕ) → IsAmong (map (λ pair. pair.1) places) number → option_map f (with_last (each_there (λ one. one) found) before number) ≡ read number
+  row-read f found places before same behind bare number among_them =
+      last-mapped f (each_there (λ one. one) found) before number ∙ ap (λ list. with_last list (λ other. option_map f (before other)) number) (sym (each-mapped f (λ one. one) found) ∙ same)
+      ∙ last-read read number (each_there read places) (λ other. option_map f (before other)) (read-each places behind) (ap (option_map f) (bare number)) (λ some. read-among number places behind some among_them)
 
--- ---- what is wanted of ids
+pub no-items : {A : Type 0} (items : List A) → length items ≡ 0 → items ≡ []
+no-items [] none = refl
+no-items (item ∷ items) none = absurd (omega (arith, none))
 
--- what is made of what slots have of an id
-lookup-mapped : {D X : Type 0} (f : D → X) (id : ℕ) (slots : List (ℕ × Option D)) → option_map f (lookup (same_key id) (present slots)) ≡ lookup (same_key id) (each_there (option_map f) slots)
-lookup-mapped f id [] = refl
-lookup-mapped f id ((other, None) ∷ slots) = lookup-mapped f id slots
-lookup-mapped f id ((other, Some datum) ∷ slots) = by (lookup-mapped f id slots) (same_key id other)
+-- ---- what is written into a row
+
+each-append : {D : Type 0} (done more : List (ℕ × Option D)) → each_there (λ (one : Option D). one) (done ++ more) ≡ each_there (λ one. one) done ++ each_there (λ one. one) more
+each-append done more = filter_map-append (λ item. option_map (λ datum. (item.0, datum)) item.1) done more
+
+-- of what was found so much is written, with these left
+pub record Writing {D G : Type 0} (found left : List (ℕ × Option D)) (place count : ℕ) (old now : KeptScene D G) : Type 0 where
+  pub done : List (ℕ × Option D)
+  pub split : done ++ left ≡ found
+  pub row : (index : ℕ) → datum_at now place index ≡ with_last (each_there (λ one. one) done) (datum_at old place) index
+  pub others : (other index : ℕ) → other ≢ place → datum_at now other index ≡ datum_at old other index
+  pub seats : (index : ℕ) → seat_at now index ≡ None
+  pub room : HasRoom count now
+  pub course : SameCourse old now
+
+module _ {D G : Type 0} (found left : List (ℕ × Option D)) (place count : ℕ) (old now : KeptScene D G) where
+  pub writing-begins : left ≡ found → now ≡ old → ((index : ℕ) → seat_at old index ≡ None) → HasRoom count old → Writing found left place count old now
+  writing-begins all same free room = subst (Writing found left place count old) (sym same) (record {
+    done = [];
+    split = all;
+    row = λ index. refl;
+    others = λ other index differ. refl;
+    seats = free;
+    room = room;
+    course = record { kinds = refl; next = refl; globals = refl };
+  })
+
+  module _ (writing : Writing found left place count old now) where
+    -- all is written
+    pub writing-ends : left ≡ [] → (index : ℕ) → datum_at now place index ≡ with_last (each_there (λ one. one) found) (datum_at old place) index
+    writing-ends none index =
+        writing.row index
+        ∙ ap (λ done. with_last (each_there (λ one. one) done) (datum_at old place) index) (sym (append-nil writing.done) ∙ ap (λ rest. writing.done ++ rest) (sym none) ∙ writing.split)
+
+    module _ (number : ℕ) (rest : List (ℕ × Option D)) where
+      split-on : (one : ℕ × Option D) → left ≡ one ∷ rest → (writing.done ++ one ∷ []) ++ rest ≡ found
+      split-on one is = append_assoc writing.done (one ∷ []) rest ∙ ap (λ list. writing.done ++ list) (sym is) ∙ writing.split
+
+      -- an item without a datum is passed over,
+      pub writing-passes : left ≡ (number, None) ∷ rest → Writing found rest place count old now
+      writing-passes is = record {
+        done = writing.done ++ (number, None) ∷ [];
+        split = split-on (number, None) is;
+        row = λ index.
+            writing.row index ∙ ap (λ list. with_last list (datum_at old place) index) (sym (append-nil (each_there (λ one. one) writing.done)) ∙ sym (each-append writing.done ((number, None) ∷ [])));
+        others = writing.others;
+        seats = writing.seats;
+        room = writing.room;
+        course = writing.course;
+      }
+
+      -- and one with a datum is written
+      pub writing-goes : (datum : D) (after : KeptScene D G) → left ≡ (number, Some datum) ∷ rest
+          → ((at other : ℕ) → datum_at after at other ≡ cond (eqb at place) (cond (eqb other number) (Some datum) (datum_at now at other)) (datum_at now at other))
+          → ((other : ℕ) → seat_at after other ≡ seat_at now other) → SameCourse now after → ((count : ℕ) → HasRoom count now → HasRoom count after) → Writing found rest place count old after
+      writing-goes datum after is rows seats course room = record {
+        done = writing.done ++ (number, Some datum) ∷ [];
+        split = split-on (number, Some datum) is;
+        row = λ index.
+            rows place index ∙ ap (λ b. cond b (cond (eqb index number) (Some datum) (datum_at now place index)) (datum_at now place index)) (eq-eqb place place refl)
+            ∙ ap (cond (eqb index number) (Some datum)) (writing.row index) ∙ sym (last-more (each_there (λ one. one) writing.done) (number, datum) (datum_at old place) index)
+            ∙ ap (λ list. with_last list (datum_at old place) index) (sym (each-append writing.done ((number, Some datum) ∷ [])));
+        others = λ other index differ.
+            rows other index ∙ ap (λ b. cond b (cond (eqb index number) (Some datum) (datum_at now other index)) (datum_at now other index)) (unlike other differ (eqb other place) refl)
+            ∙ writing.others other index differ;
+        seats = λ index. seats index ∙ writing.seats index;
+        room = room count writing.room;
+        course = record { kinds = course.kinds ∙ writing.course.kinds; next = course.next ∙ writing.course.next; globals = course.globals ∙ writing.course.globals };
+      }
+        where
+          unlike : (other : ℕ) → other ≢ place → (b : Bool) → eqb other place ≡ b → eqb other place ≡ false
+          unlike other differ true same = absurd (differ (eqb-true other place same))
+          unlike other differ false apart = apart
+
+-- ids that are entered at the indices of those who live are theirs
+pub seats-kept : (roll : Roll) (pairs : List (ℕ × ℕ)) (before : ℕ → Option ℕ) → ArePairs roll pairs → ((index : ℕ) → before index ≡ None) → (index : ℕ) → with_last (map (λ (pair : ℕ × ℕ). (pair.1, pair.0)) pairs) before index ≡ id_at roll index
+seats-kept roll pairs before are bare index =
+    last-read (id_at roll) index (map (λ (pair : ℕ × ℕ). (pair.1, pair.0)) pairs) before (turned pairs are.each) (bare index) (λ some. ap (list_any (eqb index)) (firsts pairs) ∙ are.all index some)
   where
-    by : option_map f (lookup (same_key id) (present slots)) ≡ lookup (same_key id) (each_there (option_map f) slots) → (b : Bool)
-        → option_map f (cond b (Some datum) (lookup (same_key id) (present slots))) ≡ cond b (Some (f datum)) (lookup (same_key id) (each_there (option_map f) slots))
-    by later true = refl
-    by later false = later
+    turned : (pairs : List (ℕ × ℕ)) → All (λ pair. id_at roll pair.1 ≡ Some pair.0) pairs → All (λ (one : ℕ × ℕ). id_at roll one.0 ≡ Some one.1) (map (λ (pair : ℕ × ℕ). (pair.1, pair.0)) pairs)
+    turned [] each = All-nil (λ (one : ℕ × ℕ). id_at roll one.0 ≡ Some one.1)
+    turned (pair ∷ pairs) each =
+        All-cons (λ (one : ℕ × ℕ). id_at roll one.0 ≡ Some one.1) (pair.1, pair.0) (map (λ (pair : ℕ × ℕ). (pair.1, pair.0)) pairs) (All-head (λ pair. id_at roll pair.1 ≡ Some pair.0) pair pairs each)
+        (turned pairs (All-tail (λ pair. id_at roll pair.1 ≡ Some pair.0) pair pairs each))
 
--- where what is read at the index of each pair is wanted of its id
-module _ {X : Type 0} (read : ℕ → Option X) (want : ℕ → Option X) (id : ℕ) where
-  -- of an id of which nothing is wanted nothing is read
-  unwanted : None ≡ want id → (pairs : List (ℕ × ℕ)) → All (λ pair. read pair.1 ≡ want pair.0) pairs → lookup (same_key id) (each_there read pairs) ≡ None
-  unwanted none [] each = refl
-  unwanted none (pair ∷ pairs) each = by (unwanted none pairs (All-tail (λ one. read one.1 ≡ want one.0) pair pairs each)) (read pair.1) refl (same_key id pair.0) refl
-    where
-      by : lookup (same_key id) (each_there read pairs) ≡ None → (o : Option X) → read pair.1 ≡ o → (b : Bool) → same_key id pair.0 ≡ b → lookup (same_key id) (cons_option (option_map (λ x. (pair.0, x)) o) (each_there read pairs)) ≡ None
-      by later None e b is = later
-      by later (Some x) e true is = absurd (false≢true (ap is_some (none ∙ ap want (same-is id pair.0 is) ∙ sym (All-head (λ one. read one.1 ≡ want one.0) pair pairs each) ∙ e)))
-      by later (Some x) e false is = ap (λ b. cond b (Some x) (lookup (same_key id) (each_there read pairs))) is ∙ later
+    firsts : (pairs : List (ℕ × ℕ)) → map (λ (one : ℕ × ℕ). one.0) (map (λ (pair : ℕ × ℕ). (pair.1, pair.0)) pairs) ≡ map (λ pair. pair.1) pairs
+    firsts [] = refl
+    firsts (pair ∷ pairs) = ap (λ rest. pair.1 ∷ rest) (firsts pairs)
 
-  -- and of one among them what is wanted
-  wanted : (x : X) → want id ≡ Some x → (pairs : List (ℕ × ℕ)) → All (λ pair. read pair.1 ≡ want pair.0) pairs → IsAmong (map (λ pair. pair.0) pairs) id → lookup (same_key id) (each_there read pairs) ≡ Some x
-  wanted x some [] each among_them = absurd (false≢true among_them)
-  wanted x some (pair ∷ pairs) each among_them = by (wanted x some pairs (All-tail (λ one. read one.1 ≡ want one.0) pair pairs each)) (eqb id pair.0) refl (read pair.1) refl
-    where
-      rest : List (ℕ × X)
-      rest = each_there read pairs
+-- the indices of pairs, each behind itself
+pub behind-itself : (pairs : List (ℕ × ℕ)) → All (λ (pair : ℕ × ℕ). pair.0 ≡ pair.1) (map (λ (pair : ℕ × ℕ). (pair.1, pair.1)) pairs)
+behind-itself pairs = All-map (λ (pair : ℕ × ℕ). pair.0 ≡ pair.1) (λ (pair : ℕ × ℕ). (pair.1, pair.1)) pairs (λ k d below. refl)
 
-      unlike : eqb id pair.0 ≡ false → (b : Bool) → same_key id pair.0 ≡ b → same_key id pair.0 ≡ false
-      unlike apart true is = absurd (false≢true (sym apart ∙ eq-eqb id pair.0 (same-is id pair.0 is)))
-      unlike apart false is = is
+pub same-indices : (pairs : List (ℕ × ℕ)) → map (λ (pair : ℕ × ℕ). pair.1) (map (λ (pair : ℕ × ℕ). (pair.1, pair.1)) pairs) ≡ map (λ pair. pair.1) pairs
+same-indices [] = refl
+same-indices (pair ∷ pairs) = ap (λ rest. pair.1 ∷ rest) (same-indices pairs)
 
-      by : (IsAmong (map (λ one. one.0) pairs) id → lookup (same_key id) rest ≡ Some x) → (b : Bool) → eqb id pair.0 ≡ b → (o : Option X) → read pair.1 ≡ o
-          → lookup (same_key id) (cons_option (option_map (λ x. (pair.0, x)) o) rest) ≡ Some x
-      by later true same o e =
-          let here : o ≡ Some x = sym e ∙ All-head (λ one. read one.1 ≡ want one.0) pair pairs each ∙ ap want (sym (eqb-true id pair.0 same)) ∙ some in
-          let found : same_key id pair.0 ≡ true = ap (same_key id) (sym (eqb-true id pair.0 same)) ∙ same-itself id in
-          ap (λ (one : Option X). lookup (same_key id) (cons_option (option_map (λ x. (pair.0, x)) one) rest)) here ∙ ap (λ b. cond b (Some x) (lookup (same_key id) rest)) found
-      by later false apart None e = later (sym (ap (λ b. b || list_any (eqb id) (map (λ one. one.0) pairs)) apart) ∙ among_them)
-      by later false apart (Some y) e =
-          ap (λ b. cond b (Some y) (lookup (same_key id) rest)) (unlike apart (same_key id pair.0) refl)
-          ∙ later (sym (ap (λ b. b || list_any (eqb id) (map (λ one. one.0) pairs)) apart) ∙ among_them)
+-- the name at a place among the texts of names
+pub name-there : (names : List (Bor Name)) (place : ℕ) (d : Bor Name) → place < length names → name_at (texts names) place ≡ (get_or names place d).now
+name-there [] place d below = absurd (omega (arith, below))
+name-there (name ∷ names) zero d below = refl
+name-there (name ∷ names) (suc place) d below = name-there names place d (omega (arith, below))
 
--- slots in which stands what is read at the indices of pairs are kept as what is wanted, where nothing is wanted of others
-pub filled-wanted : {D G X : Type 0} (part_of : D → X) (read : ℕ → Option X) (want : ℕ → Option X) (slots : List (ℕ × Option D)) (pairs : List (ℕ × ℕ)) → each_there (option_map part_of) slots ≡ each_there read pairs
-    → All (λ pair. read pair.1 ≡ want pair.0) pairs → ((id : ℕ) → IsSome (want id) → IsAmong (map (λ pair. pair.0) pairs) id) → (kept : Keeping D G) → kept.entries ≡ entries_of slots → (id : ℕ) → IsWanted part_of want kept id
-filled-wanted {X = X} part_of read want slots pairs same each others kept are id =
-    ap (λ m. option_map part_of (finite.get m id)) are ∙ ap (option_map part_of) (get_made (present slots) id) ∙ lookup-mapped part_of id slots ∙ ap (lookup (same_key id)) same ∙ by (want id) refl
+-- where each index bears the id of who lives there, the bearer of an id is the index of who is known under it
+pub bearers-known : (roll : Roll) → IsRoll roll → (seats : List (Option ℕ)) → ((index : ℕ) → filled (slice_get seats index) ≡ id_at roll index) → (id : ℕ) → finite.get (bearers seats) id ≡ index_of roll id
+bearers-known roll is seats same id = by (index_of roll id) refl
   where
-    by : (o : Option X) → want id ≡ o → lookup (same_key id) (each_there read pairs) ≡ want id
-    by None none = unwanted read want id (sym none) pairs each ∙ sym none
-    by (Some x) some = wanted read want id x some pairs each (others id (ap is_some some)) ∙ sym some
+    known : (index : ℕ) → filled (slice_get seats index) ≡ Some id → index_of roll id ≡ Some index
+    known index there = index-of-id roll is id index (sym (same index) ∙ there)
 
--- what holds of what is there holds of what is answered for it
-pub when-there : {K E : Type 0} (there : Option K) (answer : Result K E) (P Q : K → Type 0) → there ≡ result_ok answer → IfSome there P → ((k : K) → P k → Q k) → IfOk answer Q
-when-there there (Ok k) P Q is has leads = leads k (subst (λ o. IfSome o P) is has)
-when-there there (Err e) P Q is has leads = tt
+    by : (o : Option ℕ) → index_of roll id ≡ o → finite.get (bearers seats) id ≡ index_of roll id
+    by None none = bearer-none id seats (λ index there. false≢true (ap is_some (sym none ∙ known index there))) ∙ sym none
+    by (Some only) some =
+        bearer-one id only seats (λ index there. same_Some index only (sym (known index there) ∙ some)) (same only ∙ id-at-index roll id only some) ∙ sym some
 
--- ---- columns
+-- ---- rows
 
 module _ {V D : Type 0} (kinds : Kinds V) (part_of : D → Part) (w : Sight V) where
-  -- the part at the index of each who lives is that under its id
-  parts-known : IsRoll (roll_of kinds w) → (kind : Name) (pairs : List (ℕ × ℕ)) → All (λ pair. id_at (roll_of kinds w) pair.1 ≡ Some pair.0) pairs
-      → All (λ pair. part_at kinds w pair.1 kind ≡ part_in (roll_of kinds w) (column_of kinds w kind) pair.0) pairs
-  parts-known is kind pairs each =
-      All-weaker (λ pair. id_at (roll_of kinds w) pair.1 ≡ Some pair.0) (λ pair. part_at kinds w pair.1 kind ≡ part_in (roll_of kinds w) (column_of kinds w kind) pair.0)
-      (λ pair at. sym (ap (option_and_then (λ index. part_at kinds w index kind)) (index-of-id (roll_of kinds w) is pair.0 pair.1 at))) pairs each
-
-  -- and nothing is wanted of others
-  pub others-unwanted : IsRoll (roll_of kinds w) → (kind : Name) (pairs : List (ℕ × ℕ)) → ArePairs (roll_of kinds w) pairs → (id : ℕ) → IsSome (part_in (roll_of kinds w) (column_of kinds w kind) id) → IsAmong (map (λ pair. pair.0) pairs) id
-  others-unwanted is kind pairs are id some = known-among (roll_of kinds w) is pairs are id (by (index_of (roll_of kinds w) id) some)
-    where
-      by : (o : Option ℕ) → IsSome (option_and_then (λ index. part_at kinds w index kind) o) → IsSome o
-      by None none = none
-      by (Some index) there = refl
-
-  -- so slots in which these parts stand are kept as the column
-  pub column-filled : IsRoll (roll_of kinds w) → (kind : Name) (pairs : List (ℕ × ℕ)) (slots : List (ℕ × Option D)) → ArePairs (roll_of kinds w) pairs → AreOfPairs kinds part_of w kind pairs slots
-      → (column : Keeping D Unit) → column.entries ≡ entries_of slots → IsColumnOf kinds part_of w kind column
-  column-filled is kind pairs slots pairs_are of column are =
-      filled-wanted part_of (λ index. part_at kinds w index kind) (part_in (roll_of kinds w) (column_of kinds w kind)) slots pairs of (parts-known is kind pairs pairs_are.each) (others-unwanted is kind pairs pairs_are) column are
-
-  -- where nothing stands for a kind, nothing is kept
-  pub bare-column : (kind : Name) (column : Keeping D Unit) → w (kinds.part_id kind) ≡ None → column.entries ≡ finite.empty → IsColumnOf kinds part_of w kind column
-  bare-column kind column none empty id =
-      ap (λ m. option_map part_of (finite.get m id)) empty ∙ ap (option_map part_of) (finite.get-empty nat_cmp id) ∙ by (index_of (roll_of kinds w) id)
-    where
-      by : (o : Option ℕ) → ◌≡◌ {A = Option Part} None (option_and_then (λ index. part_at kinds w index kind) o)
-      by None = refl
-      by (Some index) = sym (ap (λ held. option_map (part_under (ref_to (roll_of kinds w))) (option_and_then (λ v. kinds.stored kind v index) held)) none)
-
   -- data that were read at once, of parts that name nobody, are the parts
   pub read-at-once : (kind : Name) (value : V) → Some value ≡ w (kinds.part_id kind) → (pairs : List (ℕ × ℕ)) (found : List (ℕ × Option D)) → AreReadAt part_of (kinds.stored kind value) pairs found → AreOfPairs kinds part_of w kind pairs found
   read-at-once kind value there pairs found are = are.read ∙ each-same (λ index. option_map (part_read []) (kinds.stored kind value index)) (λ index. part_at kinds w index kind) one pairs
@@ -291,76 +372,65 @@ module _ {V D : Type 0} (kinds : Kinds V) (part_of : D → Part) (w : Sight V) w
           (λ some is. subst (λ named. All (RefLives (ids_in (roll_of kinds w))) (map (ref_to (roll_of kinds w)) named)) (sym (are.nobody index) ∙ ap named_in is) (All-nil (RefLives (ids_in (roll_of kinds w)))))
           ∙ ap (λ held. option_map (part_under (ref_to (roll_of kinds w))) (option_and_then (λ v. kinds.stored kind v index) held)) there
 
-  -- a column more
-  pub more-columns : (names : List Name) (columns : List (Keeping D Unit)) (kind : Name) (column : Keeping D Unit) → AreColumnsOf kinds part_of w names columns → IsColumnOf kinds part_of w kind column
-      → AreColumnsOf kinds part_of w (names ++ kind ∷ []) (columns ++ column ∷ [])
-  more-columns [] [] kind column are one = (one, tt)
-  more-columns [] (other ∷ columns) kind column are one = absurd are
-  more-columns (name ∷ names) [] kind column are one = absurd are
-  more-columns (name ∷ names) (other ∷ columns) kind column are one = (are.0, more-columns names columns kind column are.1 one)
+  -- where nothing stands for a kind, no part of it is anywhere
+  pub bare-row : {G : Type 0} (kind : Name) (place : ℕ) (kept : KeptScene D G) (index : ℕ) → w (kinds.part_id kind) ≡ None → datum_at kept place index ≡ None → IsRowOf kinds part_of w kind place kept index
+  bare-row kind place kept index none bare =
+      ap (option_map part_of) bare ∙ sym (ap (λ held. option_map (part_under (ref_to (roll_of kinds w))) (option_and_then (λ v. kinds.stored kind v index) held)) none)
 
-  -- what is kept in the column at a place is the part under its kind
-  column-at : (names : List Name) (columns : List (Keeping D Unit)) (place id : ℕ) → AreColumnsOf kinds part_of w names columns → place < length names
-      → option_map part_of (kept_datum columns id place) ≡ part_in (roll_of kinds w) (column_of kinds w (name_at names place)) id
-  column-at [] columns place id are below = absurd (omega arith)
-  column-at (name ∷ names) [] place id are below = absurd are
-  column-at (name ∷ names) (column ∷ columns) zero id are below = are.0 id
-  column-at (name ∷ names) (column ∷ columns) (suc place) id are below = column-at names columns place id are.1 (omega arith)
+  -- a row more
+  pub more-rows : {G : Type 0} (names : List Name) (place : ℕ) (before after : KeptScene D G) → AreRowsOf kinds part_of w names place before
+      → ((index : ℕ) → IsSome (id_at (roll_of kinds w) index) → IsRowOf kinds part_of w (name_at names place) place after index)
+      → ((other index : ℕ) → other ≢ place → datum_at after other index ≡ datum_at before other index) → AreRowsOf kinds part_of w names (place + 1) after
+  more-rows names place before after are row others at below index some = by (eqb at place) refl
+    where
+      by : (b : Bool) → eqb at place ≡ b → IsRowOf kinds part_of w (name_at names at) at after index
+      by true same = subst (λ one. IsRowOf kinds part_of w (name_at names one) one after index) (sym (eqb-true at place same)) (row index some)
+      by false apart =
+          let differ : at ≢ place = λ is. false≢true (sym apart ∙ eq-eqb at place is) in
+          ap (option_map part_of) (others at index differ) ∙ are at (omega (arith, differ)) index some
+
+  -- rows that show the same are so too
+  pub same-rows : {G : Type 0} (names : List Name) (count : ℕ) (before after : KeptScene D G) → ((place index : ℕ) → datum_at after place index ≡ datum_at before place index) → AreRowsOf kinds part_of w names count before
+      → AreRowsOf kinds part_of w names count after
+  same-rows names count before after same are place below index some = ap (option_map part_of) (same place index) ∙ are place below index some
 
   -- so the parts are those of the scene
-  kept-parts : (book : Book) (columns : List (Keeping D Unit)) → AreColumnsOf kinds part_of w book.part_names columns → (id : ℕ) (kind : Name)
-      → kept_part part_of book columns id kind ≡ cond (is_among kind book.part_names) (part_in (roll_of kinds w) (column_of kinds w kind) id) None
-  kept-parts book columns are id kind = by (place_of kind book.part_names) refl
+  kept-parts : {G : Type 0} (book : Book) (kept : KeptScene D G) → AreRowsOf kinds part_of w book.part_names (length book.part_names) kept
+      → (id : ℕ) (kind : Name) → option_and_then (λ index. part_kept part_of book kept index kind) (index_of (roll_of kinds w) id)
+      ≡ cond (is_among kind book.part_names) (part_in (roll_of kinds w) (column_of kinds w kind) id) None
+  kept-parts book kept are id kind = by (index_of (roll_of kinds w) id) refl
     where
-      read : Name → Option Part
-      read kind = part_in (roll_of kinds w) (column_of kinds w kind) id
+      none-either : (b : Bool) → ◌≡◌ {A = Option Part} None (cond b None None)
+      none-either true = refl
+      none-either false = refl
 
-      by : (place : Option ℕ) → place_of kind book.part_names ≡ place → option_map part_of (option_and_then (kept_datum columns id) place) ≡ cond (is_among kind book.part_names) (read kind) None
-      by None is = ap (λ b. cond b (read kind) None) (sym (ap is_some is) ∙ is_some-place_of kind book.part_names)
-      by (Some place) is =
-          column-at book.part_names columns place id are (place_of-bound kind place book.part_names is) ∙ ap read (place_of-name kind place book.part_names is)
-          ∙ ap (λ b. cond b (read kind) None) (sym (ap is_some is) ∙ is_some-place_of kind book.part_names)
+      at : (index : ℕ) → index_of (roll_of kinds w) id ≡ Some index → (place : Option ℕ) → place_of kind book.part_names ≡ place
+          → option_map part_of (option_and_then (λ place. datum_at kept place index) place) ≡ cond (is_among kind book.part_names) (part_at kinds w index kind) None
+      at index known None is = ap (λ b. cond b (part_at kinds w index kind) None) (sym (ap is_some is) ∙ is_some-place_of kind book.part_names)
+      at index known (Some place) is =
+          are place (place_of-bound kind place book.part_names is) index (ap is_some (id-at-index (roll_of kinds w) id index known))
+          ∙ ap (part_at kinds w index) (place_of-name kind place book.part_names is)
+          ∙ ap (λ b. cond b (part_at kinds w index kind) None) (sym (ap is_some is) ∙ is_some-place_of kind book.part_names)
 
--- the ids are those of the scene
-kept-ids : {G : Type 0} (roll : Roll) (kept : Keeping Unit G) → HasIdsOf roll kept → finite.keys kept.entries ≡ ids_in roll
-kept-ids roll kept has =
-    same-ids (finite.keys kept.entries) (ids_in roll) (keys-ascend kept.entries) (ids-ascend roll)
-    (λ id. keys-there kept.entries id ∙ has id ∙ sym (lives-index roll id))
+      by : (o : Option ℕ) → index_of (roll_of kinds w) id ≡ o
+          → option_and_then (λ index. part_kept part_of book kept index kind) o ≡ cond (is_among kind book.part_names) (option_and_then (λ index. part_at kinds w index kind) o) None
+      by None none = none-either (is_among kind book.part_names)
+      by (Some index) known = at index known (place_of kind book.part_names) refl
 
--- where something is kept of each id of who lives, and of no other, the ids are those
-pub has-ids : {G : Type 0} (roll : Roll) (kept : Keeping Unit G) → ((id : ℕ) → IsWanted (λ (u : Unit). u) (λ id. option_map (λ _. tt) (index_of roll id)) kept id) → HasIdsOf roll kept
-has-ids roll kept wanted id = sym (some-map (λ (u : Unit). u) (kept_at kept id)) ∙ ap is_some (wanted id) ∙ some-map (λ (index : ℕ). tt) (index_of roll id)
-  where
-    some-map : {A B : Type 0} (f : A → B) (o : Option A) → is_some (option_map f o) ≡ is_some o
-    some-map f None = refl
-    some-map f (Some a) = refl
-
--- so slots with the ids of pairs are kept as those of who lives
-pub ids-filled : {G : Type 0} (roll : Roll) → IsRoll roll → (pairs : List (ℕ × ℕ)) → ArePairs roll pairs → (slots : List (ℕ × Option (Unit {0}))) → slots ≡ map (λ pair. (pair.0, Some tt)) pairs
-    → (kept : Keeping Unit G) → kept.entries ≡ entries_of slots → HasIdsOf roll kept
-ids-filled roll is pairs are slots of kept made =
-    has-ids roll kept (filled-wanted (λ (u : Unit {0}). u) (λ _. Some tt) (λ id. option_map (λ _. tt) (index_of roll id)) slots pairs (ap (each_there (option_map (λ (u : Unit {0}). u))) of ∙ each pairs)
-    (All-weaker (λ pair. id_at roll pair.1 ≡ Some pair.0) (λ pair. Some tt ≡ option_map (λ _. tt) (index_of roll pair.0)) (λ pair at. sym (ap (option_map (λ _. tt)) (index-of-id roll is pair.0 pair.1 at))) pairs are.each)
-    (λ id some. known-among roll is pairs are id (known (index_of roll id) some)) kept made)
-  where
-    each : (pairs : List (ℕ × ℕ)) → each_there (option_map (λ (u : Unit {0}). u)) (map (λ pair. (pair.0, Some tt)) pairs) ≡ each_there (λ _. Some tt) pairs
-    each [] = refl
-    each (pair ∷ pairs) = ap (λ rest. (pair.0, tt) ∷ rest) (each pairs)
-
-    known : (o : Option ℕ) → IsSome (option_map {U = Unit {0}} (λ _. tt) o) → IsSome o
-    known None some = some
-    known (Some index) some = refl
-
--- what is kept is the scene that is seen, where its next id, its entities and its globals are
+-- what is kept is the scene that is seen, where its next id, its entities, its rows and its globals are
 pub keeps-scene : {V D G : Type 0} (kinds : Kinds V) (part_of : D → Part) (global_of : G → Json) (book : Book) (w : Sight V) → kinds.part_names ≡ book.part_names → kinds.global_names ≡ book.global_names
-    → (kept : KeptScene D (Vec (Option G))) → HasIdsOf (roll_of kinds w) kept.living → AreColumnsOf kinds part_of w book.part_names kept.columns.items → kept.living.next ≡ (roll_of kinds w).noting.next
-    → (globals : Vec (Option G)) (listed : List Name) → kept.living.globals ≡ globals → listed ≡ book.global_names → map (option_map global_of) globals.items ≡ map (value_of kinds w) listed
+    → IsRoll (roll_of kinds w) → (kept : KeptScene D (Vec (Option G))) → ((index : ℕ) → seat_at kept index ≡ id_at (roll_of kinds w) index)
+    → AreRowsOf kinds part_of w book.part_names (length book.part_names) kept → kept.next ≡ (roll_of kinds w).noting.next
+    → (globals : Vec (Option G)) (listed : List Name) → kept.globals ≡ globals → listed ≡ book.global_names → map (option_map global_of) globals.items ≡ map (value_of kinds w) listed
     → kept_scene part_of global_of (λ list place. filled (slice_get list.items place)) book kept ≡ plain_of kinds w
-keeps-scene kinds part_of global_of book w parts_named globals_named kept ids columns next globals listed held known read =
+keeps-scene kinds part_of global_of book w parts_named globals_named is kept seats rows next globals listed held known read =
+    let roll : Roll = roll_of kinds w in
+    let bearing = bearers-known roll is (seats_kept kept) seats in
     kept-scene-is part_of global_of (λ list place. filled (slice_get list.items place)) book kept (plain_of kinds w) next
-    (kept-ids (roll_of kinds w) kept.living ids)
+    (same-ids (finite.keys (bearers (seats_kept kept))) (ids_in roll) (keys-ascend (bearers (seats_kept kept))) (ids-ascend roll)
+    (λ id. keys-there (bearers (seats_kept kept)) id ∙ ap is_some (bearing id) ∙ sym (lives-index roll id)))
     (λ id kind.
-    kept-parts kinds part_of w book kept.columns.items columns id kind
+    ap (option_and_then (λ index. part_kept part_of book kept index kind)) (bearing id) ∙ kept-parts kinds part_of w book kept rows id kind
     ∙ ap (λ names. cond (is_among kind names) (part_in (roll_of kinds w) (column_of kinds w kind) id) None) (sym parts_named))
     (λ name.
     ap (λ list. option_map global_of (option_and_then (λ place. filled (slice_get list.items place)) (place_of name book.global_names))) held

@@ -1,10 +1,10 @@
 -- Lemmas on what stands by the places of names, and on the ids of finite maps.
-use Rattle.std.proofs.Common.{◌≡◌, ◌<◌, ℕ, zero, suc, Bool, true, false, cond, T, ◌&&◌, ◌||◌, List, [], ◌∷◌, map, length, All, Option, Some, None, is_some, option_map, refl, ap, sym, ◌∙◌, arith}
+use Rattle.std.proofs.Common.{◌≡◌, ◌<◌, ◌≤◌, ℕ, zero, suc, Bool, true, false, cond, T, ◌&&◌, ◌||◌, List, [], ◌∷◌, map, length, All, Option, Some, None, is_some, option_map, refl, ap, sym, ◌∙◌, arith}
 use Rattle.std.specs.Prelude.{option_and_then, slice_get}
 use Rattle.std.specs.List.{list_any}
 use Rattle.std.specs.declared.cmp.Ordering.{Ordering}
 use Rattle.std.specs.declared.cmp.Ordering.TheVariants.{Less, Equal, Greater}
-use Rattle.std.specs.Ordering.{nat_cmp, is_eq, is_lt}
+use Rattle.std.specs.Ordering.{nat_cmp, is_eq, is_lt, ord_max}
 use Rattle.std.specs.FinMap as finite
 use Rattle.std.specs.FinMap.{FinMap, is_sorted}
 use Rattle.std.proofs.lemmas.Bool.Decides.{nat_tests}
@@ -80,3 +80,12 @@ module _ {X : Type 0} where
       by : (keys : List ℕ) → lives id keys ≡ list_any (λ key. is_eq (nat_cmp id key)) keys
       by [] = refl
       by (key ∷ keys) = ap (λ b. b || lives id keys) (sym (is_eq-nat_cmp id key)) ∙ ap (λ b. is_eq (nat_cmp id key) || b) (by keys)
+
+-- the greater of two numbers is below neither
+pub max-above : (a b : ℕ) → (a ≤ ord_max nat_cmp a b) × (b ≤ ord_max nat_cmp a b)
+max-above a b = by (nat_cmp b a) refl
+  where
+    by : (order : Ordering) → nat_cmp b a ≡ order → (a ≤ cond (is_lt order) a b) × (b ≤ cond (is_lt order) a b)
+    by Less same = (omega arith, grind (arith, nat_tests))
+    by Equal same = (grind (arith, nat_tests), omega arith)
+    by Greater same = (grind (arith, nat_tests), omega arith)

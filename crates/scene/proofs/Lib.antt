@@ -9,3 +9,4 @@ pub mod TurnLemmas
 pub mod OutcomeLemmas
 pub mod PlaceLemmas
 pub mod AloneLemmas
+pub mod FrameLemmas

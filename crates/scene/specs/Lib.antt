@@ -3,6 +3,7 @@ pub use Rattle.scene_model.specs.Frames
 pub use Rattle.scene_commands.specs.Acts
 pub use Rattle.scene_dispatch.specs.Orders
 pub mod Waiting
+pub mod Coming
 pub mod Refusals
 pub mod Sparing
 pub use Rattle.scene_snapshot.specs.KeptScenes

@@ -1,19 +1,22 @@
 -- What is shown of a scene and of its documents, by what its rules say.
-use Rattle.std.specs.Prelude.{ℕ, List, Option}
+use Rattle.std.specs.Prelude.{ℕ, List, Option, Result}
 use Rattle.std.specs.Global.{Vec}
+use Rattle.shred_world.specs.Worlds.{Slots}
 use Rattle.shred.specs.Dispatching.{Dispatching}
 use Rattle.scene_model.specs.declared.command.Command.{Command}
+use Rattle.scene_model.specs.declared.refusals.FrameRefusal.{FrameRefusal}
 use Rattle.scene_model.specs.Parts.{Json}
 use Rattle.scene_model.specs.Queues.{plain_commands}
 use Rattle.scene_model.specs.Scenes.{PlainScene, PlainFrame}
 use Rattle.scene_document.specs.declared.loaded.Limits.{Limits}
-use Rattle.scene_snapshot.specs.declared.columns.KeptScene.{KeptScene}
+use Rattle.scene_snapshot.specs.declared.kept.KeptScene.{KeptScene}
 use Rattle.scene_world.specs.Members.{Members, kinds_by, placed_by}
 use Rattle.scene_world.specs.declared.placed.Placed.{Placed}
 use Rattle.scene_world.specs.declared.value.SceneValue as values
 use Rattle.scene_dispatch.specs.Orders.{turn_order}
+use Rattle.scene.specs.Coming.{HaveCome}
 use Rattle.scene.specs.Turns.{Shown}
-use Rattle.scene.specs.Running.{shown_of, listed_scene, IsReady, IsOpened, IsOpenedFrom, IsPlaced, IsPrepared}
+use Rattle.scene.specs.Running.{shown_of, listed_scene, IsReady, IsUnderWay, MayBegin, HasRunOut, IsOpened, IsOpenedFrom, IsPlaced, IsPrepared}
 use Rattle.scene.specs.declared.frame.Scene.{Scene}
 use Rattle.scene.specs.declared.load.Opened.{Opened}
 use Rattle.scene.specs.declared.load.Prepared.{Prepared}
@@ -39,6 +42,22 @@ module _ {R V D G S : Type 0} (rules : Members R V D G S) where
     -- a scene is ready for its next frame
     abbrev pub IsReadyBy : Scene R V D G S → Type 0
     IsReadyBy = IsReady (kinds_by rules held) rules.part_of rules.global_of (placed_by rules) rules.book
+
+    -- the systems of a frame have come to an outcome over a scene
+    abbrev pub HaveComeBy : R → Dispatching (Placed R V D G S) (Placed R V D G S) → Slots V → PlainScene → Result (Unit {0}) FrameRefusal → Type 0
+    HaveComeBy own systems w scene outcome = HaveCome (kinds_by rules held) (placed_by rules) (rules.book own) systems w scene outcome
+
+    -- the systems of a scene's next frame have come to an outcome, and nothing else of the frame was done
+    abbrev pub IsUnderWayBy : Scene R V D G S → Result (Unit {0}) FrameRefusal → Type 0
+    IsUnderWayBy = IsUnderWay (kinds_by rules held) rules.part_of rules.global_of (placed_by rules) rules.book
+
+    -- a scene is ready, and none of its frames has run
+    abbrev pub MayBeginBy : Scene R V D G S → Type 0
+    MayBeginBy = MayBegin (kinds_by rules held) rules.part_of rules.global_of (placed_by rules) rules.book
+
+    -- the frames of a scene have run to their end
+    abbrev pub HasRunOutBy : Scene R V D G S → Scene R V D G S → Type 0
+    HasRunOutBy = HasRunOut (kinds_by rules held) rules.part_of rules.global_of (placed_by rules) rules.book
 
     -- a document stands in a world, before anything is kept of its scene
     abbrev pub IsPlacedBy : R → Limits → Json → Opened R V D G S → Type 0

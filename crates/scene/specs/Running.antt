@@ -1,10 +1,12 @@
 -- What a scene is that runs in a world of entities: what is shown of it, and when it is ready for its next frame.
-use Rattle.std.specs.Prelude.{◌≡◌, ℕ, List, [], codes, Ok, Some, None, Option, All, slice_get}
+use Rattle.std.specs.Prelude.{◌≡◌, ℕ, List, [], codes, min, Result, Ok, Some, None, Option, All, slice_get}
 use Rattle.std.specs.Global.{Vec}
 use Rattle.shred_world.specs.Worlds.{Slots}
 use Rattle.shred_world.specs.Bundles.{holding_of}
+use Rattle.shred_stages.specs.Worth.{most_worth}
 use Rattle.shred.specs.Dispatching.{Dispatching}
 use Rattle.scene_model.specs.declared.command.Command.{Command}
+use Rattle.scene_model.specs.declared.refusals.FrameRefusal.{FrameRefusal}
 use Rattle.scene_model.specs.declared.store.Store.TheVariants as stores
 use Rattle.scene_model.specs.Parts.{Json, Name, Part}
 use Rattle.scene_model.specs.Rulebook.{Access, Book}
@@ -19,7 +21,7 @@ use Rattle.scene_document.specs.declared.loaded.Limits.{Limits}
 use Rattle.scene_document.specs.Documents.{document_from, refusal_of}
 use Rattle.scene_document.specs.Openings.{first_scene, frames_of}
 use Rattle.scene_document.specs.Loading.{commands_at}
-use Rattle.scene_snapshot.specs.declared.columns.KeptScene.{KeptScene}
+use Rattle.scene_snapshot.specs.declared.kept.KeptScene.{KeptScene}
 use Rattle.scene_snapshot.specs.KeptScenes.{kept_scene}
 use Rattle.scene_world.specs.Standing.{Kinds, plain_of, IsSceneWorld}
 use Rattle.scene_world.specs.Turns.{Meaning, IsOfBook}
@@ -28,8 +30,9 @@ use Rattle.scene_dispatch.specs.Orders.{turn_order}
 use Rattle.scene_dispatch.specs.Frames.{AreReady}
 use Rattle.scene_commands.specs.Acts.{seen_of}
 use Rattle.scene.specs.Waiting.{AreTheirPlaces, NoneWaits}
+use Rattle.scene.specs.Coming.{HaveCome}
 use Rattle.scene.specs.Runs.{CanBegin}
-use Rattle.scene.specs.Turns.{Shown, opening}
+use Rattle.scene.specs.Turns.{Shown, opening, nothing_yet, Going, RunsOut}
 use Rattle.scene.specs.declared.frame.Scene.{Scene}
 use Rattle.scene.specs.declared.load.Opened.{Opened}
 use Rattle.scene.specs.declared.load.Prepared.{Prepared}
@@ -117,6 +120,10 @@ pub record IsPlaced {R V D G S : Type 0} (kinds : Kinds V) (part_of : D → Part
 abbrev pub rules_of : {R V D G S : Type 0} → Scene R V D G S → R
 rules_of scene = scene.rules
 
+-- how many workers a crew has that stands by for a scene's frames
+abbrev pub crew_of : {R V D G S : Type 0} → Scene R V D G S → ℕ
+crew_of scene = min scene.dispatcher.workers (most_worth scene.dispatcher.staging.planning.stages)
+
 module _ {R V D G S : Type 0} (kinds : Kinds V) (part_of : D → Part) (global_of : G → Json) (meaning : Meaning (Placed R V D G S)) (book_of : R → Book) where
   -- what is shown of a scene: what is kept of the last accepted one, and its frames
   abbrev pub shown_of : Scene R V D G S → Shown
@@ -134,6 +141,31 @@ module _ {R V D G S : Type 0} (kinds : Kinds V) (part_of : D → Part) (global_o
     pub stands : scene.report.refused ≡ None → Stands kinds meaning (book_of scene.rules) scene.dispatcher scene.world scene.places.items (listed_scene part_of global_of (book_of scene.rules) scene.kept)
     pub lawful : (number : ℕ) → All (IsLawful (book_of scene.rules)) (commands_at part_of scene.commands.items number)
     pub proper : IsProper (book_of scene.rules) (listed_scene part_of global_of (book_of scene.rules) scene.kept)
+
+  -- the systems of a scene's next frame have come to an outcome, and nothing else of the frame was done
+  pub record IsUnderWay (scene : Scene R V D G S) (outcome : Result (Unit {0}) FrameRefusal) : Type 0 where
+    pub going : scene.report.refused ≡ None
+    pub come : HaveCome kinds meaning (book_of scene.rules) scene.dispatcher scene.world (listed_scene part_of global_of (book_of scene.rules) scene.kept) outcome
+    pub places : AreTheirPlaces scene.places.items (turn_order meaning.plain scene.dispatcher)
+    pub lawful : (number : ℕ) → All (IsLawful (book_of scene.rules)) (commands_at part_of scene.commands.items number)
+    pub proper : IsProper (book_of scene.rules) (listed_scene part_of global_of (book_of scene.rules) scene.kept)
+
+  -- a scene is ready, and none of its frames has run
+  pub record MayBegin (scene : Scene R V D G S) : Type 0 where
+    pub ready : IsReady scene
+    pub start : (shown_of scene).report ≡ nothing_yet
+
+  -- some frames of a scene have run, and all were accepted
+  pub record IsGoing (start now : Scene R V D G S) : Type 0 where
+    pub rules : rules_of now ≡ rules_of start
+    pub ready : IsReady now
+    pub going : Going (book_of (rules_of start)) (shown_of start) (shown_of now)
+
+  -- the frames of a scene have run to their end
+  pub record HasRunOut (start now : Scene R V D G S) : Type 0 where
+    pub rules : rules_of now ≡ rules_of start
+    pub ready : IsReady now
+    pub end : RunsOut (book_of (rules_of start)) (shown_of start) (shown_of now)
 
   -- a scene was opened from a JSON: a document under these limits, before any frame, and it can begin
   pub record IsOpened (rules : R) (limits : Limits) (json : Json) (scene : Scene R V D G S) : Type 0 where

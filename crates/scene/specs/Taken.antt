@@ -1,17 +1,18 @@
 -- What is taken off a world to be kept; no public clause cites this.
-use Rattle.std.specs.Prelude.{◌≡◌, ℕ, true, List, [], ◌∷◌, map, Option, Some, IsSome, is_some, option_map, ◌==◌}
+use Rattle.std.specs.Prelude.{◌≡◌, ◌<◌, ℕ, true, List, [], ◌∷◌, map, Option, None, Some, IsSome, option_map, ◌==◌, if◌then◌else◌}
 use Rattle.std.specs.List.{All, list_any}
 use Rattle.specs_entity.specs.Life.{LifeAt}
 use Rattle.specs_layouts.specs.Flagged.{Flagged}
 use Rattle.specs_layouts.specs.Masked.{Masked}
 use Rattle.specs_layouts.specs.declared.storages.vec.VecStorage.{VecStorage}
 use Rattle.scene_world.specs.Markers.{marker_at}
-use Rattle.scene_model.specs.Parts.{Name, Part}
+use Rattle.scene_model.specs.Parts.{Name, Part, name_at}
 use Rattle.scene_world.specs.Stored.{part_under}
-use Rattle.scene_world.specs.Rolls.{Roll, id_at, index_of, ref_to, part_in}
+use Rattle.scene_world.specs.Rolls.{Roll, id_at, ref_to}
 use Rattle.scene_world.specs.Standing.{Sight, Kinds, roll_of, column_of}
 use Rattle.scene_world.specs.Putting.{each_there}
-use Rattle.scene_snapshot.specs.Keeping.{Keeping, kept_at}
+use Rattle.scene_snapshot.specs.declared.kept.KeptScene.{KeptScene}
+use Rattle.scene_snapshot.specs.Rows.{seat_at, datum_at}
 
 -- these are the ids with which the indices of entities are marked
 abbrev pub AreMarkedBy : Roll → List LifeAt → List ℕ → Type 0
@@ -31,14 +32,15 @@ pub record ArePairs (roll : Roll) (pairs : List (ℕ × ℕ)) : Type 0 where
   pub each : All (λ pair. id_at roll pair.1 ≡ Some pair.0) pairs
   pub all : (index : ℕ) → IsSome (id_at roll index) → IsAmong (map (λ pair. pair.1) pairs) index
 
--- the ids that are kept are those of who lives
-abbrev pub HasIdsOf : {G : Type 0} → Roll → Keeping Unit G → Type 0
-HasIdsOf roll kept = (id : ℕ) → is_some (kept_at kept id) ≡ is_some (index_of roll id)
+-- what stands behind a number in a list, the last of several, or what stood there before
+abbrev pub with_last : {X : Type 0} → List (ℕ × X) → (ℕ → Option X) → ℕ → Option X
+with_last [] before number = before number
+with_last (one ∷ others) before number = with_last others (λ other. if other == one.0 then Some one.1 else before other) number
 
-module _ {D G X : Type 0} (part_of : D → X) (want : ℕ → Option X) where
-  -- what is kept of an id is wanted of it
-  abbrev pub IsWanted : Keeping D G → ℕ → Type 0
-  IsWanted kept id = option_map part_of (kept_at kept id) ≡ want id
+-- nothing is kept at any index
+pub record IsBare {D G : Type 0} (kept : KeptScene D G) : Type 0 where
+  pub seats : (index : ℕ) → seat_at kept index ≡ None
+  pub rows : (place index : ℕ) → datum_at kept place index ≡ None
 
 -- the part of a kind at an index, where each entity that it names is a reference to its id
 abbrev pub part_at : {V : Type 0} → Kinds V → Sight V → ℕ → Name → Option Part
@@ -49,13 +51,10 @@ module _ {V D : Type 0} (kinds : Kinds V) (part_of : D → Part) (w : Sight V) w
   abbrev pub AreOfPairs : Name → List (ℕ × ℕ) → List (ℕ × Option D) → Type 0
   AreOfPairs kind pairs found = each_there (option_map part_of) found ≡ each_there (λ index. part_at kinds w index kind) pairs
 
-  -- the column of a kind is kept
-  abbrev pub IsColumnOf : Name → Keeping D Unit → Type 0
-  IsColumnOf kind column = (id : ℕ) → IsWanted part_of (part_in (roll_of kinds w) (column_of kinds w kind)) column id
+  -- what is kept at an index in the row of a kind is the part there
+  abbrev pub IsRowOf : {G : Type 0} → Name → ℕ → KeptScene D G → ℕ → Type 0
+  IsRowOf kind place kept index = option_map part_of (datum_at kept place index) ≡ part_at kinds w index kind
 
-  -- the columns of kinds are kept, in their order
-  abbrev pub AreColumnsOf : List Name → List (Keeping D Unit) → Type 0
-  AreColumnsOf [] [] = Unit
-  AreColumnsOf [] (column ∷ columns) = ⊥
-  AreColumnsOf (kind ∷ kinds_left) [] = ⊥
-  AreColumnsOf (kind ∷ kinds_left) (column ∷ columns) = IsColumnOf kind column × AreColumnsOf kinds_left columns
+  -- so it is of the first of these kinds, each at its place, where somebody lives
+  abbrev pub AreRowsOf : {G : Type 0} → List Name → ℕ → KeptScene D G → Type 0
+  AreRowsOf names count kept = (place : ℕ) → place < count → (index : ℕ) → IsSome (id_at (roll_of kinds w) index) → IsRowOf (name_at names place) place kept index

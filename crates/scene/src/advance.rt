@@ -1,4 +1,4 @@
-//! One frame of a scene that stands in a world, and what is kept of the scene after it.
+//! The rest of a frame of a scene that stands in a world, and what is kept of the scene after it.
 ghost use Rattle.std.specs.Prelude.{◌≡◌, ◌++◌, ◌≤◌, ℕ, List, All, IfErr, OnOk, OnErr, take};
 ghost use Rattle.scene_model.specs.Lawful.{IsLawful};
 ghost use Rattle.scene_model.specs.Commands.{skips_of};
@@ -6,54 +6,53 @@ ghost use Rattle.scene_model.specs.Frames.{Accepts, Refuses};
 ghost use Rattle.scene_model.specs.Queues.{plain_commands};
 ghost use Rattle.scene_dispatch.specs.Orders.{turn_order};
 ghost use Rattle.scene.specs.Running.{Stands};
-ghost use Rattle.scene.specs.Members.{frame_by, listed_by};
+ghost use Rattle.scene.specs.Waiting.{AreTheirPlaces};
+ghost use Rattle.scene.specs.Members.{frame_by, listed_by, HaveComeBy};
 ghost use Rattle.scene_world.specs.Members.{kinds_by, placed_by};
 
 use crate::laws::a_refusal_in_a_world_is_one_of_the_scene;
-use crate::{FrameInput, keep_scene, run_frame};
+use crate::running::finish_frame;
+use crate::{FrameInput, keep_scene};
 use scene_dispatch::SceneDispatcher;
 use scene_model::{FrameRefusal, Skip};
 use scene_snapshot::KeptScene;
 use scene_world::Rules;
 use shred_world::World;
-use std::sync::Wait;
-use std::thread::Threads;
+use std::alloc::Global;
 
-/// Runs a frame in a world, and keeps the scene after it. Errors: those of the frame; the scene before is kept.
-pub(crate) fn advance<R: Rules + Send + Sync, H: AllocGlobal + Threads + Wait + Sync>(
-    rt: &H,
+/// The rest of a frame in a world, once its systems have come to this outcome, and the scene after it is kept. Errors:
+/// those of the frame; the scene before is kept.
+pub(crate) fn advance<R: Rules>(
     rules: &R,
-    dispatcher: &mut SceneDispatcher<R>,
+    dispatcher: &SceneDispatcher<R>,
+    outcome: Result<(), FrameRefusal>,
     world: &mut World<R::Value>,
     input: &FrameInput<'_, R::Data>,
     skips: &mut Vec<Skip>,
     kept: &mut KeptScene<R::Data, Vec<Option<R::Global>>>,
+    alloc: Global,
 ) -> Result<(), FrameRefusal>
 where
-    R::Value: Drop + Send + Sync,
-    R::Data: Send + Sync,
-    R::Global: Send + Sync,
-    R::System: Send + Sync,
-    requires stands { Stands (kinds_by R.Rules R.Value.SceneValue) (placed_by R.Rules)
-        (R.book rules.now) dispatcher.old world.old input.now.places.now (listed_by R.Rules rules.now kept.old) }
+    R::Value: Drop,
+    requires come { HaveComeBy R.Rules R.Value.SceneValue rules.now dispatcher.now world.old
+        (listed_by R.Rules rules.now kept.old) outcome }
+    requires places { AreTheirPlaces input.now.places.now (turn_order (placed_by R.Rules).plain dispatcher.now) }
     requires given { All (IsLawful (R.book rules.now)) (plain_commands R.part_of input.now.given.now) }
     ensures accepted { OnOk result ((skipped : List ℕ) × Accepts (R.book rules.now) input.now.limit
-        (frame_by R.Rules dispatcher.old input.now.given.now) (listed_by R.Rules rules.now kept.old)
+        (frame_by R.Rules dispatcher.now input.now.given.now) (listed_by R.Rules rules.now kept.old)
         (listed_by R.Rules rules.now kept.new) skipped
         × (skips.new.items ≡ skips.old.items ++ skips_of input.now.number skipped)) }
     ensures stands { OnOk result (Stands (kinds_by R.Rules R.Value.SceneValue) (placed_by R.Rules)
-        (R.book rules.now) dispatcher.new world.new input.now.places.now (listed_by R.Rules rules.now kept.new)) }
+        (R.book rules.now) dispatcher.now world.new input.now.places.now (listed_by R.Rules rules.now kept.new)) }
     ensures refused { IfErr result (Refuses (R.book rules.now) input.now.limit
-        (frame_by R.Rules dispatcher.old input.now.given.now) (listed_by R.Rules rules.now kept.old)) }
+        (frame_by R.Rules dispatcher.now input.now.given.now) (listed_by R.Rules rules.now kept.old)) }
     ensures skips { OnErr result (skips.new.items ≡ skips.old.items) }
     ensures kept { OnErr result (kept.new ≡ kept.old) }
-    ensures order { turn_order (placed_by R.Rules).plain dispatcher.new ≡ turn_order
-        (placed_by R.Rules).plain dispatcher.old }
 {
     a_refusal_in_a_world_is_one_of_the_scene(rules);
     let noted = skips.len();
-    run_frame(rt, rules, dispatcher, world, input, skips)?;
-    match keep_scene(rules, world, rt.alloc()) {
+    finish_frame(rules, dispatcher, outcome, world, input, skips, alloc)?;
+    match keep_scene(rules, world, alloc) {
         Ok(now) => {
             *kept = now;
             Ok(())

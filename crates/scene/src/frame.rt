@@ -1,19 +1,21 @@
 //! A scene that runs frame by frame in a world of entities.
-ghost use Rattle.std.specs.Prelude.{◌≡◌, ◌<◌, OnOk, OnErr, IfOk, MatchResult};
+ghost use Rattle.std.specs.Prelude.{◌≡◌, ◌<◌, is_some, OnOk, OnErr, IfOk, MatchResult};
 ghost use Rattle.scene_model.specs.Parts.{Part};
 ghost use Rattle.scene_model.specs.Queues.{plain_commands};
 ghost use Rattle.scene_document.specs.Loading.{commands_at};
-ghost use Rattle.scene.specs.Members.{shown_by, IsReadyBy, IsOpenedBy, IsReadAndOpened, IsPlacedBy};
+ghost use Rattle.scene.specs.Members.{shown_by, IsReadyBy, IsUnderWayBy, IsOpenedBy, IsReadAndOpened, IsPlacedBy};
 
 use crate::advance::advance;
 use crate::load::{Course, Opened, place_document, prepare_document};
 use crate::{FrameInput, keep_scene};
-use scene_dispatch::SceneDispatcher;
+use scene_dispatch::{SceneDispatcher, Works};
 use scene_document::{JsonError, Limits, LoadError, read_json};
-use scene_model::{Command, DocRefusal, Report, Skips};
+use scene_model::{Command, DocRefusal, FrameRefusal, Report, Skips};
 use scene_snapshot::{KeptScene, kept_text};
 use scene_world::Rules;
 use serde_json::Value;
+use shred_crew::Crew;
+use shred_stages::Pack;
 use shred_world::World;
 use std::alloc::{AllocError, Global};
 use std::mem;
@@ -65,7 +67,7 @@ where
     ghost use Rattle.scene.specs.Outcomes.{IsNoDocument, bounds_of};
     ghost use Rattle.scene_document.specs.Loading.{IsNotLoaded};
     ghost use Rattle.scene_document.specs.Texts.{scene_json, text_of, ReadsBack};
-    ghost use Rattle.scene.specs.Running.{rules_of};
+    ghost use Rattle.scene.specs.Running.{rules_of, crew_of};
     ghost use Rattle.scene_model.specs.Parts.{Json};
     ghost use Rattle.scene_document.specs.declared.loaded.LoadError.TheVariants.{Memory};
 
@@ -197,7 +199,7 @@ where
     pub fn next(&self) -> u64
         ensures { result ≡ (shown_by R.Rules R.Value.SceneValue self.now).scene.next }
     {
-        self.kept.living.next()
+        self.kept.next()
     }
 
     /// How far the scene has come: accepted frames, skipped commands, and the refusal if there is one.
@@ -205,6 +207,21 @@ where
         ensures { result.now ≡ (shown_by R.Rules R.Value.SceneValue self.now).report }
     {
         &self.report
+    }
+
+    /// Whether a frame was refused, so that no other may run.
+    fn is_over(&self) -> bool
+        ensures { result ≡ is_some (shown_by R.Rules R.Value.SceneValue self.now).report.refused }
+    {
+        self.report.refused.is_some()
+    }
+
+    /// How many workers a crew has that stands by for the scene's frames: as many as its document asks for, or as a
+    /// stage of its systems is worth, whichever is less. Where that is less than two, no thread is worth starting.
+    pub fn crew_size(&self) -> usize
+        ensures { result ≡ crew_of self.now }
+    {
+        self.dispatcher.crew_size()
     }
 
     /// The report, for whom the scene has ended.
@@ -226,6 +243,78 @@ where
             ..
         } = self;
         (kept, told)
+    }
+
+    /// The rest of the next frame, once its systems have come to this outcome.
+    fn finish(&mut self, alloc: Global, outcome: Result<(), FrameRefusal>) -> Result<(), Refused>
+        requires under_way { IsUnderWayBy R.Rules R.Value.SceneValue self.old outcome }
+        requires left { 0 < frames_left (shown_by R.Rules R.Value.SceneValue self.old) }
+        ensures rules { rules_of self.new ≡ rules_of self.old }
+        ensures ready { IsReadyBy R.Rules R.Value.SceneValue self.new }
+        ensures ok { OnOk result (Advances (R.book (rules_of self.old))
+            (shown_by R.Rules R.Value.SceneValue self.old) (shown_by R.Rules R.Value.SceneValue self.new)) }
+        ensures err { OnErr result (Stays (R.book (rules_of self.old))
+            (shown_by R.Rules R.Value.SceneValue self.old) (shown_by R.Rules R.Value.SceneValue self.new)) }
+    {
+        prove!(self.report.frames < self.asked);
+        let frame = self.report.frames + 1;
+        let told = Skips::from_vec(Vec::new(alloc));
+        let mut skips = mem::replace(&mut self.report.skips, told).into_vec();
+        let given = commands_for(self.commands.as_slice(), frame);
+        let input = FrameInput {
+            number: frame,
+            limit: self.limit,
+            places: self.places.as_slice(),
+            given,
+        };
+        match advance(
+            &self.rules,
+            &self.dispatcher,
+            outcome,
+            &mut self.world,
+            &input,
+            &mut skips,
+            &mut self.kept,
+            alloc,
+        ) {
+            Ok(()) => {
+                self.report.skips = Skips::from_vec(skips);
+                self.report.frames = frame;
+                Ok(())
+            }
+            Err(cause) => {
+                self.report.skips = Skips::from_vec(skips);
+                self.report.refused = Some((frame, cause));
+                Err(Refused)
+            }
+        }
+    }
+
+    /// Runs the next frame as `run_frame` does, its systems by the workers of a crew that stands by: it starts no
+    /// thread.
+    ///
+    /// Asked for is that frames are left.
+    pub fn run_frame_with<H: AllocGlobal + Wait>(
+        &mut self,
+        rt: &H,
+        crew: &mut Crew<World<R::Value>, Pack<R::Value, Works<R, R::Value>>>,
+    ) -> Result<(), Refused>
+        requires ready { IsReadyBy R.Rules R.Value.SceneValue self.old }
+        requires left { 0 < frames_left (shown_by R.Rules R.Value.SceneValue self.old) }
+        ensures rules { rules_of self.new ≡ rules_of self.old }
+        ensures ready { IsReadyBy R.Rules R.Value.SceneValue self.new }
+        ensures ok { OnOk result (Advances (R.book (rules_of self.old))
+            (shown_by R.Rules R.Value.SceneValue self.old) (shown_by R.Rules R.Value.SceneValue self.new)) }
+        ensures err { OnErr result (Stays (R.book (rules_of self.old))
+            (shown_by R.Rules R.Value.SceneValue self.old) (shown_by R.Rules R.Value.SceneValue self.new)) }
+    {
+        if self.is_over() {
+            return Err(Refused);
+        }
+        let outcome = self
+            .dispatcher
+            .run_systems_with(rt, crew, &self.rules, &mut self.world);
+        self.finish(rt.alloc(), outcome)
     }
 }
 
@@ -259,39 +348,12 @@ where
         ensures err { OnErr result (Stays (R.book (rules_of self.old))
             (shown_by R.Rules R.Value.SceneValue self.old) (shown_by R.Rules R.Value.SceneValue self.new)) }
     {
-        if self.report.refused.is_some() {
+        if self.is_over() {
             return Err(Refused);
         }
-        prove!(self.report.frames < self.asked);
-        let frame = self.report.frames + 1;
-        let told = Skips::from_vec(Vec::new(rt.alloc()));
-        let mut skips = mem::replace(&mut self.report.skips, told).into_vec();
-        let given = commands_for(self.commands.as_slice(), frame);
-        let input = FrameInput {
-            number: frame,
-            limit: self.limit,
-            places: self.places.as_slice(),
-            given,
-        };
-        match advance(
-            rt,
-            &self.rules,
-            &mut self.dispatcher,
-            &mut self.world,
-            &input,
-            &mut skips,
-            &mut self.kept,
-        ) {
-            Ok(()) => {
-                self.report.skips = Skips::from_vec(skips);
-                self.report.frames = frame;
-                Ok(())
-            }
-            Err(cause) => {
-                self.report.skips = Skips::from_vec(skips);
-                self.report.refused = Some((frame, cause));
-                Err(Refused)
-            }
-        }
+        let outcome = self
+            .dispatcher
+            .run_systems(rt, &self.rules, &mut self.world);
+        self.finish(rt.alloc(), outcome)
     }
 }

@@ -1,23 +1,25 @@
 //! The scene that stands in a world, kept.
-ghost use Rattle.std.specs.Prelude.{◌≡◌, true, IfOk};
+ghost use Rattle.std.specs.Prelude.{◌≡◌, ◌≢◌, ◌<◌, ℕ, true, length, map, None, All, IfOk, OnOk};
 ghost use Rattle.scene_model.specs.Parts.{is_among};
 ghost use Rattle.scene_model.specs.Declaring.{texts};
 ghost use Rattle.scene_world.specs.Standing.{roll_of, IsSceneWorld};
 ghost use Rattle.scene_world.specs.Members.{kinds_by};
 ghost use Rattle.scene_commands.specs.Acts.{seen_of};
 ghost use Rattle.scene_commands.specs.Members.{scene_in};
+ghost use Rattle.scene_snapshot.specs.Rows.{seat_at, datum_at, kinds_kept, HasRoom, SameCourse};
 ghost use Rattle.scene_snapshot.specs.KeptScenes.{kept_scene};
-ghost use Rattle.scene.specs.Taken.{ArePairs, HasIdsOf, IsColumnOf, AreColumnsOf};
+ghost use Rattle.scene_world.specs.Putting.{each_there};
+ghost use Rattle.scene.specs.Taken.{ArePairs, IsAmong, IsRowOf, AreRowsOf, IsBare, with_last};
 
 use crate::taking::{data_at, globals_in, next_in, pairs_in};
-use scene_snapshot::{ByPlace, Kept, KeptScene};
+use scene_snapshot::{ByPlace, KeptScene};
 use scene_world::Rules;
 use shred_world::World;
 use std::alloc::{AllocError, Global};
 
 /// What is kept of the scene that stands in a world: all of it, read off the world.
 ///
-/// The columns stand by the places of their kinds, and the globals by those of their names.
+/// The rows stand by the places of their kinds, and the globals by those of their names.
 ///
 /// Errors: want of memory.
 pub fn keep_scene<R: Rules>(
@@ -32,81 +34,149 @@ pub fn keep_scene<R: Rules>(
     let globals = globals_in::<R>(world, rules.global_names(), alloc)?;
     let next = next_in::<R>(world)?;
     let pairs = pairs_in(rules, world, alloc)?;
-    let living = keep_ids(rules, world, &pairs, next, globals, alloc)?;
-    let columns = keep_columns(rules, world, rules.part_names(), &pairs, alloc)?;
-    Ok(KeptScene { living, columns })
+    let names = rules.part_names();
+    let mut kept = KeptScene::new(alloc, next, globals, names.len())?;
+    let count = room_for(&pairs);
+    kept.make_room(count)?;
+    write_rows(rules, world, names, &pairs, count, &mut kept, alloc)?;
+    enter_all(&pairs, count, &mut kept);
+    Ok(kept)
 }
 
-/// The ids of the living, kept, with the next id and the globals.
-///
-/// Errors: want of memory, and where the ids of the pairs don't rise.
-fn keep_ids<R: Rules, G: Drop>(
-    rules: &R,
-    world: &World<R::Value>,
-    pairs: &[(u64, u32)],
-    next: u64,
-    globals: G,
-    alloc: Global,
-) -> Result<Kept<(), G>, AllocError>
-    requires stands { IsSceneWorld (kinds_by R.Rules R.Value.SceneValue) (R.book rules.now)
-        (seen_of world.now) }
-    requires pairs { ArePairs (roll_of (kinds_by R.Rules R.Value.SceneValue) (seen_of world.now)) pairs.now }
-    ensures next { IfOk result (λ kept. kept.next ≡ next) }
-    ensures globals { IfOk result (λ kept. kept.globals ≡ globals) }
-    ensures ids { IfOk result (HasIdsOf (roll_of (kinds_by R.Rules R.Value.SceneValue) (seen_of world.now))) }
+/// A number above each index of these pairs.
+fn room_for(pairs: &[(u64, u32)]) -> usize
+    ensures { All (λ pair. pair.1 < result) pairs.now }
 {
-    let mut slots = Vec::with_capacity(alloc, pairs.len())?;
+    let mut count = 0;
     for pair in pairs {
-        slots.push((pair.0, Some(())))?;
+        count = count.max(pair.1 as usize + 1);
     }
-    Kept::of_slots(next, globals, slots).ok_or(AllocError)
+    count
 }
 
-/// The data of the living, kept in a column for each of these kinds. Errors: want of memory.
-fn keep_columns<R: Rules>(
+/// The indices of pairs, each behind itself. Errors: want of memory.
+fn indices_of(pairs: &[(u64, u32)], alloc: Global) -> Result<Vec<(u64, u32)>, AllocError>
+    ensures { IfOk result (λ indices. indices.items ≡ map (λ pair. (pair.1, pair.1)) pairs.now) }
+{
+    let mut indices = Vec::with_capacity(alloc, pairs.len())?;
+    for pair in pairs {
+        indices.push((u64::from(pair.1), pair.1))?;
+    }
+    Ok(indices)
+}
+
+/// Enters the id of each of these pairs at its index.
+fn enter_all<D: Drop, G>(pairs: &[(u64, u32)], count: usize, kept: &mut KeptScene<D, G>)
+    requires within { All (λ pair. pair.1 < count) pairs.now }
+    requires room { HasRoom count kept.old }
+    ensures seats { (index : ℕ) → seat_at kept.new index
+        ≡ with_last (map (λ pair. (pair.1, pair.0)) pairs.now) (seat_at kept.old) index }
+    ensures rows { (place index : ℕ) → datum_at kept.new place index ≡ datum_at kept.old place index }
+    ensures course { SameCourse kept.old kept.new }
+{
+    for pair in pairs {
+        kept.enter(pair.1 as usize, pair.0);
+    }
+}
+
+/// Writes the data of the living into the rows of these kinds.
+///
+/// Errors: want of memory.
+fn write_rows<R: Rules, G>(
     rules: &R,
     world: &World<R::Value>,
     names: &[&'static str],
     pairs: &[(u64, u32)],
+    count: usize,
+    kept: &mut KeptScene<R::Data, G>,
     alloc: Global,
-) -> Result<Vec<Kept<R::Data, ()>>, AllocError>
+) -> Result<(), AllocError>
     requires stands { IsSceneWorld (kinds_by R.Rules R.Value.SceneValue) (R.book rules.now)
         (seen_of world.now) }
     requires known { texts names.now ≡ (R.book rules.now).part_names }
     requires pairs { ArePairs (roll_of (kinds_by R.Rules R.Value.SceneValue) (seen_of world.now)) pairs.now }
-    ensures { IfOk result (λ columns. AreColumnsOf (kinds_by R.Rules R.Value.SceneValue) R.part_of
-        (seen_of world.now) (texts names.now) columns.items) }
+    requires kinds { kinds_kept kept.old ≡ length names.now }
+    requires room { HasRoom count kept.old }
+    requires bare { IsBare kept.old }
+    ensures rows { OnOk result (AreRowsOf (kinds_by R.Rules R.Value.SceneValue) R.part_of
+        (seen_of world.now) (texts names.now) (length names.now) kept.new) }
+    ensures seats { OnOk result ((index : ℕ) → seat_at kept.new index ≡ None) }
+    ensures room { OnOk result (HasRoom count kept.new) }
+    ensures course { OnOk result (SameCourse kept.old kept.new) }
 {
-    let mut columns = Vec::with_capacity(alloc, names.len())?;
-    for kind in names {
-        columns.push(keep_column(rules, world, kind, pairs, alloc)?)?;
+    let indices = indices_of(pairs, alloc)?;
+    for (place, kind) in names.iter().enumerate() {
+        write_row(rules, world, kind, place, &indices, count, kept, alloc)?;
     }
-    Ok(columns)
+    Ok(())
 }
 
-/// The data of the living under a kind, kept.
+/// Writes the data of a kind at these indices, each of which stands behind itself, into the row of the kind.
 ///
-/// Errors: want of memory, and where the ids of the pairs don't rise.
-fn keep_column<R: Rules>(
+/// Errors: want of memory, and where a datum is read at another index.
+fn write_row<R: Rules, G>(
     rules: &R,
     world: &World<R::Value>,
     kind: &str,
-    pairs: &[(u64, u32)],
+    place: usize,
+    indices: &[(u64, u32)],
+    count: usize,
+    kept: &mut KeptScene<R::Data, G>,
     alloc: Global,
-) -> Result<Kept<R::Data, ()>, AllocError>
+) -> Result<(), AllocError>
     requires stands { IsSceneWorld (kinds_by R.Rules R.Value.SceneValue) (R.book rules.now)
         (seen_of world.now) }
     requires known { is_among kind.now R.columns.part_names ≡ true }
-    requires pairs { ArePairs (roll_of (kinds_by R.Rules R.Value.SceneValue) (seen_of world.now)) pairs.now }
-    ensures { IfOk result
-        (IsColumnOf (kinds_by R.Rules R.Value.SceneValue) R.part_of (seen_of world.now) kind.now) }
+    requires indices { All (λ pair. pair.0 ≡ pair.1) indices.now }
+    requires kinds { place < kinds_kept kept.old }
+    requires room { HasRoom count kept.old }
+    requires free { (index : ℕ) → seat_at kept.old index ≡ None }
+    requires bare { (index : ℕ) → datum_at kept.old place index ≡ None }
+    ensures row { OnOk result ((index : ℕ) → IsAmong (map (λ pair. pair.1) indices.now) index
+        → IsRowOf (kinds_by R.Rules R.Value.SceneValue) R.part_of (seen_of world.now) kind.now place kept.new index) }
+    ensures others { OnOk result ((other index : ℕ) → other ≢ place
+        → datum_at kept.new other index ≡ datum_at kept.old other index) }
+    ensures seats { OnOk result ((index : ℕ) → seat_at kept.new index ≡ None) }
+    ensures room { OnOk result (HasRoom count kept.new) }
+    ensures course { OnOk result (SameCourse kept.old kept.new) }
 {
     let Some(value) = world.get_raw(R::part_id(kind)) else {
-        return Ok(Kept::new(alloc, 0, ()));
+        return Ok(());
     };
-    let slots = match R::get_each(value, kind, pairs, alloc)? {
+    let found = match R::get_each(value, kind, indices, alloc)? {
         Some(found) => found,
-        None => data_at(rules, world, kind, value, pairs, alloc)?,
+        None => data_at(rules, world, kind, value, indices, alloc)?,
     };
-    Kept::of_slots(0, (), slots).ok_or(AllocError)
+    write_found(found, place, count, kept)
+}
+
+/// Writes data into the row of a kind, each at the index behind which it stands; where several stand behind one, the last.
+///
+/// Errors: where one stands behind an index for which there is no room.
+fn write_found<D: Drop, G>(
+    found: Vec<(u64, Option<D>)>,
+    place: usize,
+    count: usize,
+    kept: &mut KeptScene<D, G>,
+) -> Result<(), AllocError>
+    requires kinds { place < kinds_kept kept.old }
+    requires room { HasRoom count kept.old }
+    requires free { (index : ℕ) → seat_at kept.old index ≡ None }
+    ensures row { OnOk result ((index : ℕ) → datum_at kept.new place index
+        ≡ with_last (each_there (λ one. one) found.items) (datum_at kept.old place) index) }
+    ensures others { OnOk result ((other index : ℕ) → other ≢ place
+        → datum_at kept.new other index ≡ datum_at kept.old other index) }
+    ensures seats { OnOk result ((index : ℕ) → seat_at kept.new index ≡ None) }
+    ensures room { OnOk result (HasRoom count kept.new) }
+    ensures course { OnOk result (SameCourse kept.old kept.new) }
+{
+    for (index, datum) in found {
+        if let Some(datum) = datum {
+            if index >= count as u64 {
+                return Err(AllocError);
+            }
+            kept.write(place, index as usize, Some(datum));
+        }
+    }
+    Ok(())
 }

@@ -16,6 +16,7 @@ mod load;
 mod queues;
 mod runner;
 mod running;
+mod standing;
 mod taking;
 
 pub use commands::{FrameInput, run_commands};

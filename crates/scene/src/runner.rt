@@ -4,13 +4,14 @@ ghost use Rattle.scene.specs.Limits.{AreLimits};
 ghost use Rattle.scene.specs.Turns.{RunsOut, nothing_yet};
 ghost use Rattle.scene.specs.Outcomes.{IsRunOf, IsNoDocument, RunsDocument, reading, writing, bounds_of, full_bounds};
 ghost use Rattle.scene.specs.Running.{rules_of};
-ghost use Rattle.scene.specs.Members.{shown_by, IsReadyBy};
+ghost use Rattle.scene.specs.Members.{shown_by, IsReadyBy, MayBeginBy, HasRunOutBy};
 
 use crate::frame::Scene;
 use scene_devices::{CountedRead, CountedWrite, ReadFailure, read_bytes, write_text};
 use scene_document::{JsonError, Limits, LoadError, read_json};
 use scene_model::{DocRefusal, Report};
 use scene_world::Rules;
+use shred_crew::{Unmanned, with_crew};
 use std::sync::Wait;
 use std::thread::Threads;
 
@@ -53,38 +54,65 @@ where
         Err(JsonError::Memory) => return Err(LoadError::Memory),
     };
     drop(bytes);
-    let mut scene = Scene::load_owned(rt.alloc(), rules, limits, value)?;
-    run_to_end(rt, &mut scene);
+    let scene = Scene::load_owned(rt.alloc(), rules, limits, value)?;
+    let scene = run_to_end(rt, scene);
     let Ok(text) = scene.snapshot(rt.alloc()) else {
         return Err(LoadError::Memory);
     };
     Ok((scene.into_report(), text))
 }
 
-/// Runs the frames of a scene to their end: all that were asked for, or up to the first that is refused.
-///
-/// Asked for is that none has run yet.
-pub fn run_to_end<R: Rules + Drop + Send + Sync, H: AllocGlobal + Threads + Wait + Sync>(
+/// Runs the frames of a scene to their end, each with workers of its own.
+fn run_each<R: Rules + Drop + Send + Sync, H: AllocGlobal + Threads + Wait + Sync>(
     rt: &H,
-    scene: &mut Scene<R>,
-)
+    scene: Scene<R>,
+) -> Scene<R>
 where
     R::Value: Drop + Send + Sync,
     R::Data: Send + Sync,
     R::Global: Send + Sync,
     R::System: Send + Sync,
-    requires ready { IsReadyBy R.Rules R.Value.SceneValue scene.old }
-    requires start { (shown_by R.Rules R.Value.SceneValue scene.old).report ≡ nothing_yet }
-    ensures rules { rules_of scene.new ≡ rules_of scene.old }
-    ensures ready { IsReadyBy R.Rules R.Value.SceneValue scene.new }
-    ensures end { RunsOut (R.book (rules_of scene.old)) (shown_by R.Rules R.Value.SceneValue scene.old)
-        (shown_by R.Rules R.Value.SceneValue scene.new) }
+    requires { MayBeginBy R.Rules R.Value.SceneValue scene }
+    ensures { HasRunOutBy R.Rules R.Value.SceneValue scene result }
 {
+    let mut scene = scene;
     while scene.left() > 0 {
         match scene.run_frame(rt) {
             Ok(()) => {}
-            Err(_) => return,
+            Err(_) => return scene,
         }
+    }
+    scene
+}
+
+/// Runs the frames of a scene to their end: all that were asked for, or up to the first that is refused. The workers
+/// stand by over all frames: each other than the caller's thread is started once; where one can't be, each frame starts
+/// its own.
+///
+/// Asked for is that none has run yet.
+pub fn run_to_end<R: Rules + Drop + Send + Sync, H: AllocGlobal + Threads + Wait + Sync>(
+    rt: &H,
+    scene: Scene<R>,
+) -> Scene<R>
+where
+    R::Value: Drop + Send + Sync,
+    R::Data: Send + Sync,
+    R::Global: Send + Sync,
+    R::System: Send + Sync,
+    requires ready { IsReadyBy R.Rules R.Value.SceneValue scene }
+    requires start { (shown_by R.Rules R.Value.SceneValue scene).report ≡ nothing_yet }
+    ensures rules { rules_of result ≡ rules_of scene }
+    ensures ready { IsReadyBy R.Rules R.Value.SceneValue result }
+    ensures end { RunsOut (R.book (rules_of scene)) (shown_by R.Rules R.Value.SceneValue scene)
+        (shown_by R.Rules R.Value.SceneValue result) }
+{
+    let workers = scene.crew_size();
+    if workers < 2 || scene.left() == 0 {
+        return run_each(rt, scene);
+    }
+    match with_crew(rt, workers, scene) {
+        Ok(after) => after,
+        Err(Unmanned { shift, .. }) => run_each(rt, shift),
     }
 }
 

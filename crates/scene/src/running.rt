@@ -2,6 +2,7 @@
 ghost use Rattle.std.specs.Prelude.{◌≡◌, ◌<◌, ◌++◌, ℕ, List, All, IfErr, OnOk, OnErr};
 ghost use Rattle.shred_world.specs.Bundles.{holding_of};
 ghost use Rattle.scene_model.specs.Lawful.{IsLawful};
+ghost use Rattle.scene_model.specs.Scenes.{PlainScene};
 ghost use Rattle.scene_model.specs.Commands.{skips_of};
 ghost use Rattle.scene_model.specs.Frames.{Accepts};
 ghost use Rattle.scene_model.specs.Queues.{plain_commands};
@@ -14,7 +15,7 @@ ghost use Rattle.scene_commands.specs.Acts.{seen_of};
 ghost use Rattle.scene_commands.specs.Members.{scene_in};
 ghost use Rattle.scene.specs.Waiting.{AreTheirPlaces, NoneWaits};
 ghost use Rattle.scene.specs.Refusals.{RefusedIn};
-ghost use Rattle.scene.specs.Members.{frame_by};
+ghost use Rattle.scene.specs.Members.{frame_by, HaveComeBy};
 
 use crate::commands::{FrameInput, run_commands};
 use scene_commands::laws::{a_scene_may_be_acted_on, a_scene_stands_after_commands};
@@ -22,6 +23,7 @@ use scene_dispatch::SceneDispatcher;
 use scene_model::{FrameRefusal, Skip};
 use scene_world::Rules;
 use shred_world::World;
+use std::alloc::Global;
 use std::sync::Wait;
 use std::thread::Threads;
 
@@ -31,6 +33,47 @@ fn rules_stand<R: Rules>(rules: &R)
     ensures named { AreNamedIn R.columns (R.book rules.now) }
     ensures apart { StandApart (kinds_by R.Rules R.Value.SceneValue) }
 {}
+
+/// The rest of a frame in a world, once its systems have come to this outcome: the given commands, then those of the
+/// systems by their places. Then it looks for references that are gone.
+///
+/// Errors: that of the systems; those of `run_commands`.
+pub(crate) fn finish_frame<R: Rules>(
+    rules: &R,
+    dispatcher: &SceneDispatcher<R>,
+    outcome: Result<(), FrameRefusal>,
+    world: &mut World<R::Value>,
+    input: &FrameInput<'_, R::Data>,
+    skips: &mut Vec<Skip>,
+    alloc: Global,
+) -> Result<(), FrameRefusal>
+where
+    R::Value: Drop,
+    requires come { (scene : PlainScene)
+        × HaveComeBy R.Rules R.Value.SceneValue rules.now dispatcher.now world.old scene outcome }
+    requires places { AreTheirPlaces input.now.places.now (turn_order (placed_by R.Rules).plain dispatcher.now) }
+    requires given { All (IsLawful (R.book rules.now)) (plain_commands R.part_of input.now.given.now) }
+    ensures accepted { OnOk result ((scene : PlainScene)
+        → HaveComeBy R.Rules R.Value.SceneValue rules.now dispatcher.now world.old scene outcome
+        → (skipped : List ℕ) × Accepts (R.book rules.now) input.now.limit
+        (frame_by R.Rules dispatcher.now input.now.given.now) scene (scene_in R.Rules R.Value.SceneValue world.new)
+        skipped × (skips.new.items ≡ skips.old.items ++ skips_of input.now.number skipped)) }
+    ensures ready { OnOk result (AreReady (kinds_by R.Rules R.Value.SceneValue) (placed_by R.Rules)
+        (R.book rules.now) dispatcher.now (holding_of world.new)) }
+    ensures none { OnOk result (NoneWaits (kinds_by R.Rules R.Value.SceneValue) (seen_of world.new)) }
+    ensures refused { IfErr result (λ cause. (scene : PlainScene)
+        → HaveComeBy R.Rules R.Value.SceneValue rules.now dispatcher.now world.old scene outcome
+        → RefusedIn (kinds_by R.Rules R.Value.SceneValue) (R.book rules.now) input.now.limit
+        (frame_by R.Rules dispatcher.now input.now.given.now) scene cause) }
+    ensures skips { OnErr result (skips.new.items ≡ skips.old.items) }
+    ensures threads { IfErr outcome (λ cause. ¬ (WantsThread cause)) → IfErr result (λ cause. ¬ (WantsThread cause)) }
+{
+    outcome?;
+    rules_stand(rules);
+    a_scene_may_be_acted_on(rules);
+    a_scene_stands_after_commands(rules);
+    run_commands(rules, world, input, skips, alloc)
+}
 
 /// Runs a frame in a world in which a scene stands: the systems of a dispatcher, then the given commands, then those
 /// of the systems by their places. Then it looks for references that are gone.
@@ -79,9 +122,6 @@ where
     ensures workers { dispatcher.new.workers ≡ dispatcher.old.workers }
     ensures threads { dispatcher.old.workers < 2 → IfErr result (λ cause. ¬ (WantsThread cause)) }
 {
-    dispatcher.run_systems(rt, rules, world)?;
-    rules_stand(rules);
-    a_scene_may_be_acted_on(rules);
-    a_scene_stands_after_commands(rules);
-    run_commands(rules, world, input, skips, rt.alloc())
+    let outcome = dispatcher.run_systems(rt, rules, world);
+    finish_frame(rules, dispatcher, outcome, world, input, skips, rt.alloc())
 }

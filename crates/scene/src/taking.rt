@@ -45,7 +45,7 @@ fn pairs_of(
     Ok(pairs)
 }
 
-/// The ids of the living, ascending, each before the index of its entity.
+/// The ids of the living, each before the index of its entity, in the order of the indices.
 ///
 /// Errors: want of memory, and where the world has no markers.
 pub(crate) fn pairs_in<R: Rules>(
@@ -59,9 +59,7 @@ pub(crate) fn pairs_in<R: Rules>(
         (λ pairs. ArePairs (roll_of (kinds_by R.Rules R.Value.SceneValue) (seen_of world.now)) pairs.items) }
 {
     let markers = markers_in::<R>(world)?;
-    let mut pairs = pairs_of(markers, alloc)?;
-    pairs.sort_unstable_by_key(|pair| pair.0);
-    Ok(pairs)
+    pairs_of(markers, alloc)
 }
 
 /// The ids with which the indices of entities are marked, in their order.

@@ -10,8 +10,10 @@ use Rattle.scene_model.specs.Parts.{Json, Name, Part, is_among, place_of}
 use Rattle.scene_model.specs.Rulebook.{Book}
 use Rattle.scene_model.specs.Scenes.{PlainScene, IsProper}
 use Rattle.scene_model.specs.Laws.{Ascend}
-use Rattle.scene_snapshot.specs.declared.columns.KeptScene.{KeptScene}
-use Rattle.scene_snapshot.specs.KeptScenes.{kept_datum}
+use Rattle.std.specs.FinMap as finite
+use Rattle.scene_snapshot.specs.declared.kept.KeptScene.{KeptScene}
+use Rattle.scene_snapshot.specs.Rows.{seats_kept, datum_at}
+use Rattle.scene_snapshot.specs.KeptScenes.{bearers, part_kept}
 use Rattle.scene_document.specs.Drafts.{Draft, draft_from}
 use Rattle.scene_document.specs.Texts.{json_of, scene_json}
 use Rattle.scene_document.proofs.CallerLemmas.{is_some-place_of}
@@ -70,24 +72,32 @@ module _ {D G : Type 0} (part_of : D → Part) (global_of : G → Json) (book : 
   scene = listed_scene part_of global_of book kept
 
   stands : (id : ℕ) (kind : Name) (held : Part) → scene.part id kind ≡ Some held → is_among kind book.part_names ≡ true
-  stands id kind held is = here (place_of kind book.part_names) (is_some-place_of kind book.part_names) is
+  stands id kind held is = go (finite.get (bearers (seats_kept kept)) id) is
     where
-      here : (o : Option ℕ) → is_some o ≡ is_among kind book.part_names → option_map part_of (option_and_then (kept_datum kept.columns.items id) o) ≡ Some held → is_among kind book.part_names ≡ true
-      here None among some = absurd (none-some held some)
-      here (Some place) among some = sym among
+      here : (index : ℕ) (o : Option ℕ) → is_some o ≡ is_among kind book.part_names → option_map part_of (option_and_then (λ place. datum_at kept place index) o) ≡ Some held → is_among kind book.part_names ≡ true
+      here index None among some = absurd (none-some held some)
+      here index (Some place) among some = sym among
+
+      go : (o : Option ℕ) → option_and_then (λ index. part_kept part_of book kept index kind) o ≡ Some held → is_among kind book.part_names ≡ true
+      go None some = absurd (none-some held some)
+      go (Some index) some = here index (place_of kind book.part_names) (is_some-place_of kind book.part_names) some
 
   named : (name : Name) (one : Json) → scene.global name ≡ Some one → is_among name book.global_names ≡ true
   named name one is = here (place_of name book.global_names) (is_some-place_of name book.global_names) is
     where
-      here : (o : Option ℕ) → is_some o ≡ is_among name book.global_names → option_map global_of (option_and_then (value_at kept.living.globals) o) ≡ Some one → is_among name book.global_names ≡ true
+      here : (o : Option ℕ) → is_some o ≡ is_among name book.global_names → option_map global_of (option_and_then (value_at kept.globals) o) ≡ Some one → is_among name book.global_names ≡ true
       here None among some = absurd (none-some one some)
       here (Some place) among some = sym among
 
   parts-back : (id : ℕ) (kind : Name) (held : Part) → scene.part id kind ≡ Some held → book.read_part kind held.json ≡ Some held
-  parts-back id kind held is = from_map part_of (option_and_then (kept_datum kept.columns.items id) (place_of kind book.part_names)) held is (λ datum found made. of_datum datum made)
+  parts-back id kind held is = go (finite.get (bearers (seats_kept kept)) id) is
     where
       of_datum : (datum : D) → part_of datum ≡ held → book.read_part kind held.json ≡ Some held
       of_datum datum made = subst (λ (part : Part). book.read_part kind part.json ≡ Some part) made (back kind datum (ap (book.admits kind) made ∙ proper.admitted id kind held is))
+
+      go : (o : Option ℕ) → option_and_then (λ index. part_kept part_of book kept index kind) o ≡ Some held → book.read_part kind held.json ≡ Some held
+      go None some = absurd (none-some held some)
+      go (Some index) some = from_map part_of (option_and_then (λ place. datum_at kept place index) (place_of kind book.part_names)) held some (λ datum found made. of_datum datum made)
 
   -- it can be read
   pub can-be-read : CanBeRead book scene

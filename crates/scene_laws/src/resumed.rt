@@ -91,11 +91,11 @@ where
     ensures done { IfOk result (λ done. IsFinished (R.book rules) limits (view document.now) done.report
         done.text.items) }
 {
-    let mut scene = match Scene::load(rt.alloc(), rules, limits, document) {
+    let scene = match Scene::load(rt.alloc(), rules, limits, document) {
         Ok(scene) => scene,
         Err(error) => return Err(ResumeError::Load(error)),
     };
-    run_to_end(rt, &mut scene);
+    let scene = run_to_end(rt, scene);
     a_ready_scene_can_be_read(&scene);
     let text = scene.snapshot(rt.alloc())?;
     let (rules, report) = scene.into_parts();

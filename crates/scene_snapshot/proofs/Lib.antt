@@ -1,6 +1,6 @@
-pub mod IdLemmas
-pub mod PlaceLemmas
-pub mod KeptLemmas
 pub mod CallerLemmas
 pub mod PrintLemmas
 pub mod KeptTextLemmas
+pub mod KeptLemmas
+pub mod BearerLemmas
+pub mod IdLemmas

@@ -1,4 +1,3 @@
-pub mod Keeping
-pub mod Places
+pub mod Rows
 pub mod KeptScenes
 pub mod Printing

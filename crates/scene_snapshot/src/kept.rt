@@ -1,84 +1,68 @@
-//! What is kept of a scene, entity by entity.
-ghost use Rattle.std.specs.Prelude.{◌≡◌, ◌<◌, ◌≤◌, ◌+◌, IsSome, IsOk, IfOk, IfErr, OnOk, OnErr, All, option_copied};
-ghost use Rattle.std.specs.Prelude.{AllPairs, IfSome};
-ghost use Rattle.std.specs.FinMap as map;
-ghost use Rattle.scene_snapshot.specs.Keeping.{kept_at, present, Enters, LeavesOut};
+//! What is kept of a scene: at each index of its world the id that it bears, and a row of data.
+ghost use Rattle.std.specs.Prelude.{◌≡◌, ◌==◌, ◌<◌, ◌≤◌, ◌+◌, ℕ, None, Some, is_some, if◌then◌else◌, IfOk, OnOk, option_copied};
+ghost use Rattle.scene_snapshot.specs.Rows.{seat_at, datum_at, entry_at, counted, seats_kept, kinds_kept, HasRoom, IsSettled, SameCourse};
 
-use crate::places::{Slot, leave, place_of, put, rise};
-use std::alloc::{AllocError, AllocFailed, Global};
-use std::marker::Model;
+use crate::lengthen::lengthen;
+use std::alloc::{AllocError, Global};
 use std::mem;
 
-/// What is kept of a scene: what stands for each entity, by its id, with the globals and the next id; and how many
-/// changes were made of its entries.
+/// What is kept of a scene: at each index of its world the id that it bears, if it bears one, and a row with a datum of
+/// each kind that has one there; with the globals and the next id; and how many changes were made of its entries.
 ///
-/// `P` is what is kept of an entity, `G` what is kept of the globals. Entries stand in the order of their ids: one that
-/// is put in behind all others, or stands behind the one that was put in last, costs a write; another that is there
-/// already, or one that is taken out, the logarithm of their number; and a new one before others the moves of those.
+/// An entry is an id that is borne, with the row of its index. Entries come and go by `enter` and `leave_out` alone, each
+/// of which counts one; a row is written only where no entry stands. No call looks further than at the index that it
+/// names, and but for `make_room` none takes memory.
+///
+/// `D` is a datum, `G` what is kept of the globals.
+///
+/// ```text
+/// let mut kept = KeptScene::new(alloc, 1, (), 2)?;
+/// kept.make_room(8)?;
+/// kept.write(1, 5, Some(datum));              // of the second kind, at index 5
+/// kept.enter(5, 0);                           // id 0 has that datum
+/// ```
 #[derive(Drop)]
-pub struct Kept<P, G> {
+pub struct KeptScene<D, G> {
     next: u64,
-    slots: Vec<Slot<P>>,
-    guess: usize,
-    gaps: usize,
+    seats: Vec<Option<u64>>,
+    columns: Vec<Vec<Option<D>>>,
     globals: G,
     changes: u64,
 }
 
-impl<P, G> Model for Kept<P, G> {
-    ghost use Rattle.std.specs.Prelude.{◌-◌, vec_len, vec_capacity};
-    ghost use Rattle.scene_snapshot.specs.Keeping.{Keeping, keeping_code, entries_of};
-    ghost use Rattle.scene_snapshot.specs.Places.{AreSorted};
-
-    ghost Value = { Keeping P G };
-
-    ghost coded = { keeping_code P.code G.code };
-
-    ghost view = { λ k. record {
-      next = k.next;
-      entries = entries_of k.slots.items;
-      globals = k.globals;
-      changes = k.changes;
-      room = vec_capacity k.slots - vec_len k.slots;
-    } };
-
-    ghost invariant = { λ k. AreSorted k.slots.items };
-}
-
-impl<P, G> Kept<P, G> {
-    ghost use Rattle.std.specs.Prelude.{◌-◌, vec_len, vec_capacity};
-    ghost use Rattle.scene_snapshot.specs.Keeping.{entries_of};
-    ghost use Rattle.scene_snapshot.specs.Places.{AreSorted};
-
-    /// Nothing is kept yet of any entity, and no change was made. Takes no memory.
-    pub fn new(alloc: Global, next: u64, globals: G) -> Kept<P, G>
-        ensures { result ≡ record { next = next; entries = map.empty; globals = globals; changes = 0; room = 0 } }
+impl<D: Drop, G> KeptScene<D, G> {
+    /// Nothing is kept yet of any entity, for so many kinds, and no change was made.
+    ///
+    /// Errors: want of memory.
+    pub fn new(
+        alloc: Global,
+        next: u64,
+        globals: G,
+        kinds: usize,
+    ) -> Result<KeptScene<D, G>, AllocError>
+    where
+        G: Drop,
+        ensures seats { IfOk result (λ kept. (index : ℕ) → seat_at kept index ≡ None) }
+        ensures rows { IfOk result (λ kept. (place index : ℕ) → datum_at kept place index ≡ None) }
+        ensures kinds { IfOk result (λ kept. kinds_kept kept ≡ kinds) }
+        ensures next { IfOk result (λ kept. kept.next ≡ next) }
+        ensures globals { IfOk result (λ kept. kept.globals ≡ globals) }
+        ensures changes { IfOk result (λ kept. kept.changes ≡ 0) }
     {
-        Kept::with_slots(next, globals, Vec::new(alloc))
-    }
-
-    /// What stands in these slots. No change was made.
-    fn with_slots(next: u64, globals: G, slots: Vec<Slot<P>>) -> Kept<P, G>
-        requires sorted { AreSorted slots.items }
-        ensures { result ≡ record {
-          next = next;
-          entries = entries_of slots.items;
-          globals = globals;
-          changes = 0;
-          room = vec_capacity slots - vec_len slots;
-        } }
-    {
-        Kept {
+        let mut columns = Vec::with_capacity(alloc, kinds)?;
+        for _ in 0..kinds {
+            columns.push(Vec::new(alloc))?;
+        }
+        Ok(KeptScene {
             next,
-            slots,
-            guess: 0,
-            gaps: 0,
+            seats: Vec::new(alloc),
+            columns,
             globals,
             changes: 0,
-        }
+        })
     }
 
-    /// The next id.
+    /// The scene's next id.
     pub fn next(&self) -> u64
         ensures { result ≡ self.now.next }
     {
@@ -92,131 +76,110 @@ impl<P, G> Kept<P, G> {
         &self.globals
     }
 
-    /// How many changes were made of its entries, up to 18,446,744,073,709,551,615.
+    /// How many entries came and went, up to the greatest number of 64 bits.
     pub fn changes(&self) -> u64
         ensures { result ≡ self.now.changes }
     {
         self.changes
     }
 
-    /// What is kept of an entity.
-    pub fn get(&self, id: u64) -> Option<&P>
-        ensures { option_copied result ≡ kept_at self.now id }
+    /// The id that an index bears, if it bears one.
+    pub fn seat(&self, index: usize) -> Option<u64>
+        ensures { result ≡ seat_at self.now index }
     {
-        self.get_near(id, self.guess)
+        *self.seats.get(index)?
     }
 
-    /// What is kept of an entity, as `get`, which costs little where its slot stands at the place that is guessed.
-    pub fn get_near(&self, id: u64, guess: usize) -> Option<&P>
-        ensures { option_copied result ≡ kept_at self.now id }
+    /// What each index bears, from index 0 on.
+    pub fn seats(&self) -> &[Option<u64>]
+        ensures { result.now ≡ seats_kept self.now }
     {
-        match place_of(&self.slots, id, guess) {
-            Ok(place) => self.slots[place].1.as_ref(),
-            Err(_) => None,
-        }
+        self.seats.as_slice()
     }
 
-    /// The entries ascending by id, and between them empty slots of ids that were left out.
-    pub fn slots(&self) -> &[Slot<P>]
-        ensures entries { present result.now ≡ map.entries self.now.entries }
-        ensures each { All (λ slot. kept_at self.now slot.0 ≡ slot.1) result.now }
+    /// What stands at an index in the row of a kind, by the kind's place, if something does.
+    pub fn datum(&self, place: usize, index: usize) -> Option<&D>
+        ensures { option_copied result ≡ datum_at self.now place index }
     {
-        self.slots.as_slice()
+        self.columns.get(place)?.get(index)?.as_ref()
     }
 
-    /// Makes room for so many ids more: then as many new ones are entered without being refused.
+    /// Makes room for entries and data at so many indices, from index 0 on. No entry and no datum changes.
     ///
-    /// Errors: `AllocError`, and nothing changed.
+    /// Errors: want of memory; nothing that is kept changed.
     pub fn make_room(&mut self, count: usize) -> Result<(), AllocError>
-        ensures ok { OnOk result (count ≤ self.new.room) }
-        ensures room { self.old.room ≤ self.new.room }
-        ensures same { self.new ≡ record self.old { room = self.new.room } }
-        ensures err { OnErr result (self.new ≡ self.old) }
-        ensures succeeds { count ≤ self.old.room → IsOk result }
+        ensures ok { OnOk result (HasRoom count self.new) }
+        ensures seats { (index : ℕ) → seat_at self.new index ≡ seat_at self.old index }
+        ensures rows { (place index : ℕ) → datum_at self.new place index ≡ datum_at self.old place index }
+        ensures course { SameCourse self.old self.new }
+        ensures changes { self.new.changes ≡ self.old.changes }
     {
-        self.slots.reserve(count)
+        lengthen(&mut self.seats, count)?;
+        for place in 0..self.columns.len() {
+            lengthen(&mut self.columns[place], count)?;
+        }
+        Ok(())
     }
 
-    /// Puts the next id and the globals, and gives back the globals that were there. Takes no memory, and is no change
-    /// of an entry.
+    /// The globals and the next id become these, and the globals that were kept come back. It is no change of an entry.
     pub fn settle(&mut self, next: u64, globals: G) -> G
         ensures globals { result ≡ self.old.globals }
-        ensures settled { self.new ≡ record self.old { next = next; globals = globals } }
+        ensures settled { IsSettled self.old next globals self.new }
     {
         self.next = next;
         mem::replace(&mut self.globals, globals)
     }
-}
 
-impl<P: Drop, G: Drop> Kept<P, G> {
-    ghost use Rattle.std.specs.Prelude.{◌-◌, vec_len, vec_capacity};
-    ghost use Rattle.scene_snapshot.specs.Keeping.{entries_of};
-
-    /// What stands in these slots, each of which has what is kept of its id, or nothing. They become its own: it takes no
-    /// memory. No change was made.
-    ///
-    /// `None` where their ids don't rise.
-    pub fn of_slots(next: u64, globals: G, slots: Vec<Slot<P>>) -> Option<Kept<P, G>>
-        ensures some { IfSome result (λ kept. kept ≡ record {
-          next = next;
-          entries = entries_of slots.items;
-          globals = globals;
-          changes = 0;
-          room = vec_capacity slots - vec_len slots;
-        }) }
-        ensures rise { AllPairs (λ one other. one.0 < other.0) slots.items → IsSome result }
+    /// Takes the entry at an index out, if there is one, and counts it then: the id that the index bore. Its row stays, as
+    /// that of no entry.
+    pub fn leave_out(&mut self, index: usize) -> Option<u64>
+        ensures value { result ≡ seat_at self.old index }
+        ensures seats { (other : ℕ) → seat_at self.new other ≡ (if other == index then None
+            else seat_at self.old other) }
+        ensures rows { (place other : ℕ) → datum_at self.new place other ≡ datum_at self.old place other }
+        ensures changes { self.new.changes ≡ (if is_some (seat_at self.old index) then counted self.old.changes
+            else self.old.changes) }
+        ensures course { SameCourse self.old self.new }
+        ensures room { (count : ℕ) → HasRoom count self.old → HasRoom count self.new }
     {
-        if !rise(&slots) {
+        if index >= self.seats.len() {
             return None;
         }
-        Some(Kept::with_slots(next, globals, slots))
-    }
-}
-
-impl<P: Drop, G> Kept<P, G> {
-    /// Puts in what is kept of an entity, gives back what was kept of it, and counts it as a change.
-    ///
-    /// Errors: want of memory for an id that is new, which hands `parts` back, and nothing changed.
-    pub fn enter(&mut self, id: u64, parts: P) -> Result<Option<P>, AllocFailed<P>>
-        ensures was_there { IfOk result (λ was. was ≡ kept_at self.old id) }
-        ensures ok { OnOk result (Enters self.old id parts self.new) }
-        ensures err { OnErr result (self.new ≡ self.old) }
-        ensures handed_back { IfErr result (λ refused. refused.value ≡ parts) }
-
-        // It isn't refused where there is room or the id is there, and it uses up the room of one.
-        ensures succeeds { 0 < self.old.room → IsOk result }
-        ensures there { IsSome (kept_at self.old id) → IsOk result }
-        ensures room { self.old.room ≤ self.new.room + 1 }
-    {
-        let was = put(&mut self.slots, &mut self.guess, id, parts)?;
-        self.changes = self.changes.saturating_add(1);
-        Ok(was)
-    }
-
-    /// Takes out what is kept of an entity, and counts it as a change where there was something. Takes no memory.
-    pub fn leave_out(&mut self, id: u64) -> Option<P>
-        ensures value { result ≡ kept_at self.old id }
-        ensures left { LeavesOut self.old id self.new }
-        ensures room { self.old.room ≤ self.new.room }
-    {
-        let taken = leave(&mut self.slots, self.guess, &mut self.gaps, id);
+        let taken = self.seats[index].take();
         if taken.is_some() {
             self.changes = self.changes.saturating_add(1);
         }
         taken
     }
 
-    /// Takes all entries out, and begins to count anew. Their memory stays, as room.
-    pub fn clear(&mut self)
-        ensures entries { self.new.entries ≡ map.empty }
-        ensures changes { self.new.changes ≡ 0 }
-        ensures next { self.new.next ≡ self.old.next }
-        ensures globals { self.new.globals ≡ self.old.globals }
-        ensures room { self.old.room + map.len self.old.entries ≤ self.new.room }
+    /// Puts an entry in at an index: this id, with the row that is there, in the place of the id that it bears, if it does.
+    /// It counts as a change.
+    pub fn enter(&mut self, index: usize, id: u64)
+        requires room { HasRoom (index + 1) self.old }
+        ensures seats { (other : ℕ) → seat_at self.new other ≡ (if other == index then Some id
+            else seat_at self.old other) }
+        ensures rows { (place other : ℕ) → datum_at self.new place other ≡ datum_at self.old place other }
+        ensures changes { self.new.changes ≡ counted self.old.changes }
+        ensures course { SameCourse self.old self.new }
+        ensures room { (count : ℕ) → HasRoom count self.old → HasRoom count self.new }
     {
-        self.slots.clear();
-        self.guess = 0;
-        self.gaps = 0;
-        self.changes = 0;
+        self.seats[index] = Some(id);
+        self.changes = self.changes.saturating_add(1);
+    }
+
+    /// Writes what stands at an index in the row of a kind, by the kind's place. No entry stands there, so none changes.
+    pub fn write(&mut self, place: usize, index: usize, datum: Option<D>)
+        requires place { place < kinds_kept self.old }
+        requires room { HasRoom (index + 1) self.old }
+        requires free { seat_at self.old index ≡ None }
+        ensures rows { (at other : ℕ) → datum_at self.new at other ≡ (if at == place
+            then (if other == index then datum else datum_at self.old at other) else datum_at self.old at other) }
+        ensures seats { (other : ℕ) → seat_at self.new other ≡ seat_at self.old other }
+        ensures entries { (other : ℕ) → entry_at self.new other ≡ entry_at self.old other }
+        ensures changes { self.new.changes ≡ self.old.changes }
+        ensures course { SameCourse self.old self.new }
+        ensures room { (count : ℕ) → HasRoom count self.old → HasRoom count self.new }
+    {
+        self.columns[place][index] = datum;
     }
 }

@@ -5,15 +5,17 @@ ghost use Rattle.serde_json.specs.Data.{array};
 ghost use Rattle.serde_json.specs.View.{view, items_of};
 ghost use Rattle.serde_json.specs.Written.{has_float};
 ghost use Rattle.scene_document.specs.Texts.{globals_json, entity_json, scene_json, text_of, ReadsBack};
-ghost use Rattle.scene_snapshot.specs.KeptScenes.{kept_scene, kept_datum, kept_part, entity_with, parts_with};
+ghost use Rattle.scene_snapshot.specs.Rows.{seats_kept};
+ghost use Rattle.scene_snapshot.specs.KeptScenes.{bearers, kept_scene, part_kept, entity_with, parts_with};
 ghost use Rattle.scene_snapshot.specs.Printing.{AddsJson, AddsMembers, AddsFound};
 
 use crate::by_place::ByPlace;
-use crate::{Kept, KeptScene};
+use crate::kept::KeptScene;
 use json::{Reader, Scratch, Writer};
 use scene_model::DocumentRules;
 use serde_json::Value;
 use std::alloc::{AllocError, Global};
+use std::collections::BTreeMap;
 
 /// The text of the scene that is kept: the compact text of its JSON, with its entities in the order of their ids and
 /// only the parts and globals that are there.
@@ -52,8 +54,21 @@ fn put_scene<R: DocumentRules, V: ByPlace<R::Global>>(
     out.key("globals")?;
     put_globals(alloc, rules, kept, out)?;
     out.key("next")?;
-    out.u64(kept.living.next())?;
+    out.u64(kept.next())?;
     out.end_object()
+}
+
+// The index of each id that is borne.
+fn bearers_of(alloc: Global, seats: &[Option<u64>]) -> Result<BTreeMap<u64, usize>, AllocError>
+    ensures { IfOk result (λ found. found.entries ≡ finite.entries (bearers seats.now)) }
+{
+    let mut found = BTreeMap::new(alloc);
+    for (index, seat) in seats.iter().enumerate() {
+        if let Some(id) = seat {
+            found.insert(*id, index)?;
+        }
+    }
+    Ok(found)
 }
 
 // Prints each entity, in the order of the ids.
@@ -65,63 +80,51 @@ fn put_entities<R: DocumentRules, V: ByPlace<R::Global>>(
 ) -> Result<(), AllocError>
     ensures { OnOk result (AddsJson (array (items_of (map (entity_json (R.book rules.now)
         (kept_scene R.part_of R.global_of V.at_place (R.book rules.now) kept.now))
-        (finite.keys kept.now.living.entries)))) out.old out.new) }
+        (finite.keys (bearers (seats_kept kept.now)))))) out.old out.new) }
 {
-    let slots = kept.living.slots();
-    let columns = kept.columns.as_slice();
+    let found = bearers_of(alloc, kept.seats())?;
     out.begin_array()?;
-    for (row, (id, slot)) in slots.iter().enumerate() {
-        match slot {
-            Some(()) => put_entity(alloc, rules, *id, columns, row, out)?,
-            None => {}
-        }
+    for (id, index) in &found {
+        put_entity(alloc, rules, kept, *id, *index, out)?;
     }
     out.end_array()
 }
 
-// Prints an entity, of which the data in these columns are looked for at a row first.
-fn put_entity<R: DocumentRules>(
+// Prints an entity, whose data stand at an index.
+fn put_entity<R: DocumentRules, V>(
     alloc: Global,
     rules: &R,
+    kept: &KeptScene<R::Data, V>,
     id: u64,
-    columns: &[Kept<R::Data, ()>],
-    row: usize,
+    index: usize,
     out: &mut Writer,
 ) -> Result<(), AllocError>
     ensures { OnOk result (AddsJson (entity_with (R.book rules.now)
-        (kept_part R.part_of (R.book rules.now) columns.now id) id) out.old out.new) }
+        (part_kept R.part_of (R.book rules.now) kept.now index) id) out.old out.new) }
 {
     out.begin_object()?;
     out.key("id")?;
     out.u64(id)?;
     out.key("parts")?;
-    put_parts(alloc, rules, id, columns, row, out)?;
+    put_parts(alloc, rules, kept, index, out)?;
     out.end_object()
 }
 
-// What is kept of an entity in the column at a place, if there is one. It is looked for at a row first.
-fn datum_at<D>(columns: &[Kept<D, ()>], place: usize, id: u64, row: usize) -> Option<&D>
-    ensures { option_copied result ≡ kept_datum columns.now id place }
-{
-    columns.get(place)?.get_near(id, row)
-}
-
-// Prints the parts of an entity that are there, under their kinds.
-fn put_parts<R: DocumentRules>(
+// Prints the parts at an index that are there, under their kinds.
+fn put_parts<R: DocumentRules, V>(
     alloc: Global,
     rules: &R,
-    id: u64,
-    columns: &[Kept<R::Data, ()>],
-    row: usize,
+    kept: &KeptScene<R::Data, V>,
+    index: usize,
     out: &mut Writer,
 ) -> Result<(), AllocError>
     ensures { OnOk result (AddsJson (parts_with (R.book rules.now)
-        (kept_part R.part_of (R.book rules.now) columns.now id)) out.old out.new) }
+        (part_kept R.part_of (R.book rules.now) kept.now index)) out.old out.new) }
 {
     let names = rules.part_names();
     out.begin_object()?;
     for (place, kind) in names.iter().enumerate() {
-        put_part(alloc, rules, kind, datum_at(columns, place, id, row), out)?;
+        put_part(alloc, rules, kind, kept.datum(place, index), out)?;
     }
     out.end_object()
 }
@@ -157,7 +160,7 @@ fn put_globals<R: DocumentRules, V: ByPlace<R::Global>>(
     let names = rules.global_names();
     out.begin_object()?;
     for (place, name) in names.iter().enumerate() {
-        put_global(alloc, rules, name, kept.living.globals().at(place), out)?;
+        put_global(alloc, rules, name, kept.globals().at(place), out)?;
     }
     out.end_object()
 }

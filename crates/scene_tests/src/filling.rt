@@ -1,24 +1,21 @@
-//! A caller that keeps what a walk comes to, ascending by id.
-ghost use Rattle.std.specs.Prelude.{◌≡◌, ◌<◌, ◌≤◌, ◌+◌, ℕ, map, length, OnOk, IsOk, AllPairs};
-ghost use Rattle.std.specs.FinMap as finite;
+//! A caller that puts another entity in the place of one that is kept.
+ghost use Rattle.std.specs.Prelude.{◌≡◌, ◌≢◌, ◌<◌, ◌+◌, ℕ, Some, is_some, if◌then◌else◌};
+ghost use Rattle.scene_snapshot.specs.Rows.{seat_at, datum_at, counted, kinds_kept, HasRoom};
 
-use scene_snapshot::Kept;
-use std::alloc::AllocError;
+use scene_snapshot::KeptScene;
 
-/// Keeps for each id its double, in the place of all that was kept.
-///
-/// Errors: `AllocError`, where there was no room for so many.
-pub fn keep_doubles<G>(kept: &mut Kept<u64, G>, ids: &[u32]) -> Result<(), AllocError>
-    requires ascend { AllPairs (λ one other. one < other) ids.now }
-    ensures entries { OnOk result (finite.entries kept.new.entries ≡ map (λ id. (id, id + id)) ids.now) }
-    ensures succeeds { length ids.now ≤ kept.old.room → IsOk result }
+/// At an index another id stands, with this datum of the first kind: what the index bore is left out, the datum is
+/// written, and the id is entered.
+pub fn replace_entry<G>(kept: &mut KeptScene<u64, G>, index: usize, id: u64, datum: u64)
+    requires room { HasRoom (index + 1) kept.old }
+    requires kinds { 0 < kinds_kept kept.old }
+    ensures seat { seat_at kept.new index ≡ Some id }
+    ensures datum { datum_at kept.new 0 index ≡ Some datum }
+    ensures seats { (other : ℕ) → other ≢ index → seat_at kept.new other ≡ seat_at kept.old other }
+    ensures changes { kept.new.changes ≡ counted (if is_some (seat_at kept.old index) then counted kept.old.changes
+        else kept.old.changes) }
 {
-    kept.clear();
-    for id in ids {
-        match kept.enter(*id as u64, *id as u64 + *id as u64) {
-            Ok(_) => {}
-            Err(_) => return Err(AllocError),
-        }
-    }
-    Ok(())
+    let _ = kept.leave_out(index);
+    kept.write(0, index, Some(datum));
+    kept.enter(index, id);
 }

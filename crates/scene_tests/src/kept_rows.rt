@@ -1,25 +1,31 @@
 //! Calls on what is kept, one after the other, and what each leaves.
-use scene_snapshot::Kept;
+ghost use Rattle.std.specs.Prelude.{◌≡◌, IfOk};
+ghost use Rattle.scene_snapshot.specs.Rows.{kinds_kept};
+
+use scene_snapshot::KeptScene;
 use std::alloc::{AllocError, Global};
 
 /// A call.
 #[derive(Clone, Copy)]
 enum Call {
-    /// An entry is put in.
-    Enter(u64, u32),
-    /// An entry is taken out, of which this was kept.
-    LeaveOut(u64, Option<u32>),
-    /// All are taken out.
-    Clear,
+    /// At an index an id is entered.
+    Enter(usize, u64),
+    /// At an index the entry is taken out, which was of this id.
+    LeaveOut(usize, Option<u64>),
+    /// At an index a datum is written into the row of a kind.
+    Write(usize, usize, Option<u32>),
 }
 
-use Call::{Clear, Enter, LeaveOut};
+use Call::{Enter, LeaveOut, Write};
 
-/// Calls on nothing, what is kept after them, ascending by id, and how many changes were counted.
+/// An index that bears an id, with what stands there of either kind.
+type Entry = (usize, u64, Option<u32>, Option<u32>);
+
+/// Calls on nothing, what is kept after them, and how many changes were counted.
 struct Row {
     name: &'static str,
     calls: &'static [Call],
-    kept: &'static [(u64, u32)],
+    kept: &'static [Entry],
     changes: u64,
 }
 
@@ -31,91 +37,118 @@ const ROWS: [Row; 7] = [
         changes: 0,
     },
     Row {
-        name: "entries out of order",
-        calls: &[Enter(5, 50), Enter(1, 10), Enter(3, 30), Enter(9, 90)],
-        kept: &[(1, 10), (3, 30), (5, 50), (9, 90)],
-        changes: 4,
-    },
-    Row {
-        name: "an entry in the place of another",
-        calls: &[Enter(1, 10), Enter(2, 20), Enter(1, 11)],
-        kept: &[(1, 11), (2, 20)],
-        changes: 3,
-    },
-    Row {
-        name: "all again, ascending, and one behind them",
+        name: "entries with their data",
         calls: &[
-            Enter(1, 10),
-            Enter(3, 30),
-            Enter(5, 50),
-            Enter(1, 11),
-            Enter(3, 33),
-            Enter(5, 55),
-            Enter(7, 77),
+            Write(0, 5, Some(50)),
+            Write(1, 5, Some(51)),
+            Enter(5, 7),
+            Write(1, 1, Some(11)),
+            Enter(1, 9),
         ],
-        kept: &[(1, 11), (3, 33), (5, 55), (7, 77)],
-        changes: 7,
+        kept: &[(1, 9, None, Some(11)), (5, 7, Some(50), Some(51))],
+        changes: 2,
     },
     Row {
-        name: "entries that are left out, and one that wasn't there",
+        name: "a row without an entry",
+        calls: &[Write(0, 3, Some(30)), Enter(4, 2)],
+        kept: &[(4, 2, None, None)],
+        changes: 1,
+    },
+    Row {
+        name: "an entry that is left out, and two that weren't there",
         calls: &[
-            Enter(1, 10),
             Enter(2, 20),
             Enter(3, 30),
             LeaveOut(2, Some(20)),
             LeaveOut(2, None),
             LeaveOut(7, None),
+            LeaveOut(700, None),
         ],
-        kept: &[(1, 10), (3, 30)],
-        changes: 4,
+        kept: &[(3, 30, None, None)],
+        changes: 3,
     },
     Row {
-        name: "all are left out, and one comes again",
+        name: "an entry that comes again with its row",
+        calls: &[
+            Write(0, 6, Some(60)),
+            Enter(6, 1),
+            LeaveOut(6, Some(1)),
+            Enter(6, 1),
+        ],
+        kept: &[(6, 1, Some(60), None)],
+        changes: 3,
+    },
+    Row {
+        name: "another id at an index, with other data",
+        calls: &[
+            Write(0, 0, Some(1)),
+            Write(1, 0, Some(2)),
+            Enter(0, 4),
+            LeaveOut(0, Some(4)),
+            Write(0, 0, None),
+            Write(1, 0, Some(3)),
+            Enter(0, 8),
+        ],
+        kept: &[(0, 8, None, Some(3))],
+        changes: 3,
+    },
+    Row {
+        name: "all are left out",
         calls: &[
             Enter(1, 10),
             Enter(2, 20),
-            Enter(3, 30),
-            LeaveOut(1, Some(10)),
-            LeaveOut(3, Some(30)),
             LeaveOut(2, Some(20)),
-            Enter(2, 22),
+            LeaveOut(1, Some(10)),
         ],
-        kept: &[(2, 22)],
-        changes: 7,
-    },
-    Row {
-        name: "a cleared one",
-        calls: &[Enter(1, 10), Enter(2, 20), Clear, Enter(4, 40)],
-        kept: &[(4, 40)],
-        changes: 1,
+        kept: &[],
+        changes: 4,
     },
 ];
 
-/// Whether a call answers what it does.
-fn answers(kept: &mut Kept<u32, ()>, call: Call) -> Result<bool, AllocError> {
+/// Makes a call, with room for its index, and tells whether it answers what it does.
+fn answers(kept: &mut KeptScene<u32, ()>, call: Call) -> Result<bool, AllocError>
+    requires { kinds_kept kept.old ≡ 2 }
+    ensures { kinds_kept kept.new ≡ 2 }
+{
     match call {
-        Enter(id, parts) => {
-            let before = kept.get(id).copied();
-            match kept.enter(id, parts) {
-                Ok(was) => Ok(was == before && kept.get(id) == Some(&parts)),
-                Err(_) => Err(AllocError),
+        Enter(index, id) => {
+            kept.make_room(index.saturating_add(1))?;
+            if index == usize::MAX {
+                return Ok(false);
             }
+            kept.enter(index, id);
+            Ok(kept.seat(index) == Some(id))
         }
-        LeaveOut(id, was) => Ok(kept.leave_out(id) == was && kept.get(id).is_none()),
-        Clear => {
-            kept.clear();
-            Ok(true)
+        LeaveOut(index, was) => Ok(kept.leave_out(index) == was && kept.seat(index).is_none()),
+        Write(place, index, datum) => {
+            kept.make_room(index.saturating_add(1))?;
+            if place >= 2 || index == usize::MAX || kept.seat(index).is_some() {
+                return Ok(false);
+            }
+            kept.write(place, index, datum);
+            Ok(kept.datum(place, index).copied() == datum)
         }
     }
 }
 
-/// Whether the slots that aren't empty are these entries.
-fn is_kept(kept: &Kept<u32, ()>, entries: &[(u64, u32)]) -> bool {
+/// What is kept at an index, if it bears an id.
+fn entry_of(kept: &KeptScene<u32, ()>, index: usize) -> Option<Entry> {
+    let id = kept.seat(index)?;
+    Some((
+        index,
+        id,
+        kept.datum(0, index).copied(),
+        kept.datum(1, index).copied(),
+    ))
+}
+
+/// Whether these entries are kept, and no others.
+fn is_kept(kept: &KeptScene<u32, ()>, entries: &[Entry]) -> bool {
     let mut right = true;
     let mut place: usize = 0;
-    for (id, slot) in kept.slots() {
-        if let Some(parts) = slot {
-            right = right && entries.get(place) == Some(&(*id, *parts));
+    for index in 0..kept.seats().len() {
+        if let Some(entry) = entry_of(kept, index) {
+            right = right && entries.get(place) == Some(&entry);
             place = place.wrapping_add(1);
         }
     }
@@ -124,10 +157,10 @@ fn is_kept(kept: &Kept<u32, ()>, entries: &[(u64, u32)]) -> bool {
 
 /// Whether a row holds.
 fn holds(alloc: Global, row: &Row) -> Result<bool, AllocError> {
-    let mut kept = Kept::new(alloc, 0, ());
+    let mut kept = KeptScene::new(alloc, 0, (), 2)?;
     let mut right = true;
     for call in row.calls {
-        right = right && answers(&mut kept, *call)?;
+        right = answers(&mut kept, *call)? && right;
     }
     Ok(right && is_kept(&kept, row.kept) && kept.changes() == row.changes)
 }
@@ -144,105 +177,14 @@ fn entries_are_kept_by_rows(rt: HostRuntime) {
 }
 
 /// Whether the next id and the globals are what was settled, and what was there is given back.
-fn settles(alloc: Global) -> bool {
-    let mut kept: Kept<u32, u8> = Kept::new(alloc, 3, 1);
+fn settles(alloc: Global) -> Result<bool, AllocError> {
+    let mut kept: KeptScene<u32, u8> = KeptScene::new(alloc, 3, 1, 0)?;
     let began = kept.next() == 3 && *kept.globals() == 1;
-    began && kept.settle(4, 2) == 1 && kept.next() == 4 && *kept.globals() == 2
+    let was = kept.settle(4, 2);
+    Ok(began && was == 1 && kept.next() == 4 && *kept.globals() == 2 && kept.changes() == 0)
 }
 
 #[test]
 fn what_is_settled_is_there(rt: HostRuntime) {
-    assert!(rt; settles(rt.alloc()));
-}
-
-/// How many of a thousand entries are there once each third was left out.
-fn thirds(alloc: Global) -> Result<usize, AllocError> {
-    let mut kept: Kept<u64, ()> = Kept::new(alloc, 0, ());
-    kept.make_room(1000)?;
-    for id in 0..1000u64 {
-        if kept.enter(id, id).is_err() {
-            return Err(AllocError);
-        }
-    }
-    for id in 0..1000u64 {
-        if id % 3 != 0 {
-            let _ = kept.leave_out(id);
-        }
-    }
-    let mut there: usize = 0;
-    for (id, slot) in kept.slots() {
-        if *slot == Some(*id) {
-            there = there.wrapping_add(1);
-        }
-    }
-    Ok(there)
-}
-
-#[test]
-fn a_third_of_a_thousand_stays(rt: HostRuntime) {
-    assert!(rt; thirds(rt.alloc()) == Ok(334));
-}
-
-/// Slots, and what is kept of them, where they are taken.
-struct SlotRow {
-    name: &'static str,
-    slots: &'static [(u64, Option<u32>)],
-    kept: Option<&'static [(u64, u32)]>,
-}
-
-const SLOTS: [SlotRow; 5] = [
-    SlotRow {
-        name: "no slots",
-        slots: &[],
-        kept: Some(&[]),
-    },
-    SlotRow {
-        name: "ids that rise, of which one has nothing",
-        slots: &[(1, Some(10)), (3, None), (4, Some(40)), (9, Some(90))],
-        kept: Some(&[(1, 10), (4, 40), (9, 90)]),
-    },
-    SlotRow {
-        name: "an id that stands twice",
-        slots: &[(1, Some(10)), (3, Some(30)), (3, Some(33))],
-        kept: None,
-    },
-    SlotRow {
-        name: "an id twice, of which the first has nothing",
-        slots: &[(3, None), (3, Some(33))],
-        kept: None,
-    },
-    SlotRow {
-        name: "ids that fall at the end",
-        slots: &[(1, Some(10)), (5, Some(50)), (4, Some(40))],
-        kept: None,
-    },
-];
-
-/// Whether a row of slots holds: what is kept of them has its next id, no change, each entry, and takes one entry more.
-fn takes(alloc: Global, row: &SlotRow) -> Result<bool, AllocError> {
-    let mut slots = Vec::new(alloc);
-    for slot in row.slots {
-        slots.push(*slot)?;
-    }
-    let (made, wanted) = (Kept::of_slots(7, (), slots), row.kept);
-    match (made, wanted) {
-        (Some(mut kept), Some(entries)) => {
-            let began = kept.next() == 7 && kept.changes() == 0 && is_kept(&kept, entries);
-            let more = answers(&mut kept, Enter(2, 20))?;
-            Ok(began && more && kept.changes() == 1)
-        }
-        (None, None) => Ok(true),
-        _ => Ok(false),
-    }
-}
-
-#[test]
-fn slots_are_kept_where_their_ids_rise(rt: HostRuntime) {
-    let mut wrong = None;
-    for row in &SLOTS {
-        if !matches!(takes(rt.alloc(), row), Ok(true)) {
-            wrong = Some(row.name);
-        }
-    }
-    assert_eq!(rt; wrong, None);
+    assert_eq!(rt; settles(rt.alloc()), Ok(true));
 }

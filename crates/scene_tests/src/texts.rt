@@ -1,14 +1,17 @@
 //! Texts of scenes that are kept.
+ghost use Rattle.std.specs.Prelude.{◌≡◌};
+ghost use Rattle.scene_snapshot.specs.Rows.{kinds_kept};
+
 use scene_basics::Basics;
 use scene_basics::data::Datum;
-use scene_snapshot::{Kept, KeptScene, kept_text};
+use scene_snapshot::{KeptScene, kept_text};
 use std::alloc::{AllocError, Global};
 
 /// What is kept of an entity: its hp, its owner, its pos and its vel.
 type Parts = &'static [Option<Datum>];
 
-/// An id, and what is entered or left out under it.
-type Change = (u64, Option<Parts>);
+/// An index, and what comes to stand there: an id with its parts, or nobody.
+type Change = (usize, Option<(u64, Parts)>);
 
 /// Changes of nothing, the value of `g`, and the text after them.
 struct Row {
@@ -32,17 +35,20 @@ const ROWS: [Row; 3] = [
     Row {
         name: "entities put in out of order, one without parts",
         changes: &[
-            (3, Some(&[None, Some(Datum::Owner(0)), None, None])),
+            (0, Some((3, &[None, Some(Datum::Owner(0)), None, None]))),
             (
-                0,
-                Some(&[
-                    Some(Datum::Whole(5)),
-                    None,
-                    Some(Datum::Whole(-1)),
-                    Some(Datum::Whole(2)),
-                ]),
+                6,
+                Some((
+                    0,
+                    &[
+                        Some(Datum::Whole(5)),
+                        None,
+                        Some(Datum::Whole(-1)),
+                        Some(Datum::Whole(2)),
+                    ],
+                )),
             ),
-            (2, Some(NO_PARTS)),
+            (1, Some((2, NO_PARTS))),
         ],
         next: 4,
         g: Some(-7),
@@ -51,11 +57,11 @@ const ROWS: [Row; 3] = [
     Row {
         name: "an entity that is left out, and one that changes",
         changes: &[
-            (1, Some(&[Some(Datum::Whole(1)), None, None, None])),
-            (2, Some(&[Some(Datum::Whole(2)), None, None, None])),
-            (4, Some(&[Some(Datum::Whole(4)), None, None, None])),
+            (1, Some((1, &[Some(Datum::Whole(1)), None, None, None]))),
+            (2, Some((2, &[Some(Datum::Whole(2)), None, None, None]))),
+            (0, Some((4, &[Some(Datum::Whole(4)), None, None, None]))),
             (2, None),
-            (1, Some(&[Some(Datum::Whole(11)), None, None, None])),
+            (1, Some((1, &[Some(Datum::Whole(11)), None, None, None]))),
         ],
         next: 5,
         g: None,
@@ -63,32 +69,38 @@ const ROWS: [Row; 3] = [
     },
 ];
 
-/// So many empty columns.
-fn columns(alloc: Global, count: usize) -> Result<Vec<Kept<Datum, ()>>, AllocError> {
-    let mut columns = Vec::new(alloc);
-    for _ in 0..count {
-        columns.push(Kept::new(alloc, 0, ()))?;
-    }
-    Ok(columns)
-}
-
-/// Enters an id, where it isn't there.
-fn enter<P: Drop, G>(kept: &mut Kept<P, G>, id: u64, parts: P) -> Result<(), AllocError> {
-    match kept.enter(id, parts) {
-        Ok(_) => Ok(()),
-        Err(_) => Err(AllocError),
-    }
-}
-
-/// Enters these parts of an entity, each in its column, and leaves the others out.
-fn change_parts(columns: &mut [Kept<Datum, ()>], id: u64, parts: Parts) -> Result<(), AllocError> {
-    for (column, part) in columns.iter_mut().zip(parts) {
-        match part {
-            Some(datum) => enter(column, id, *datum)?,
-            None => {
-                let _ = column.leave_out(id);
-            }
+/// Writes these parts into the row of an index that bears nobody, each at its kind's place.
+fn write_parts<G>(
+    kept: &mut KeptScene<Datum, G>,
+    index: usize,
+    parts: Parts,
+) -> Result<(), AllocError>
+    requires { kinds_kept kept.old ≡ 4 }
+    ensures { kinds_kept kept.new ≡ 4 }
+{
+    for (place, part) in parts.iter().enumerate() {
+        kept.make_room(index.saturating_add(1))?;
+        if place < 4 && index < usize::MAX && kept.seat(index).is_none() {
+            kept.write(place, index, *part);
         }
+    }
+    Ok(())
+}
+
+/// Makes a change.
+fn make_change<G>(kept: &mut KeptScene<Datum, G>, change: &Change) -> Result<(), AllocError>
+    requires { kinds_kept kept.old ≡ 4 }
+    ensures { kinds_kept kept.new ≡ 4 }
+{
+    let index = change.0;
+    let _ = kept.leave_out(index);
+    let Some((id, parts)) = change.1 else {
+        return Ok(());
+    };
+    write_parts(kept, index, parts)?;
+    kept.make_room(index.saturating_add(1))?;
+    if index < usize::MAX {
+        kept.enter(index, id);
     }
     Ok(())
 }
@@ -96,21 +108,9 @@ fn change_parts(columns: &mut [Kept<Datum, ()>], id: u64, parts: Parts) -> Resul
 /// The text after the changes of a row.
 fn text_after(alloc: Global, row: &Row) -> Result<Vec<u8>, AllocError> {
     let globals = Vec::from_slice(alloc, &[row.g])?;
-    let mut kept = KeptScene {
-        living: Kept::new(alloc, row.next, globals),
-        columns: columns(alloc, NO_PARTS.len())?,
-    };
-    for (id, change) in row.changes {
-        match change {
-            Some(parts) => {
-                enter(&mut kept.living, *id, ())?;
-                change_parts(&mut kept.columns, *id, *parts)?;
-            }
-            None => {
-                let _ = kept.living.leave_out(*id);
-                change_parts(&mut kept.columns, *id, NO_PARTS)?;
-            }
-        }
+    let mut kept = KeptScene::new(alloc, row.next, globals, 4)?;
+    for change in row.changes {
+        make_change(&mut kept, change)?;
     }
     kept_text(alloc, &Basics, &kept)
 }

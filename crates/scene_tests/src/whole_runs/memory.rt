@@ -6,6 +6,7 @@ use scene::{Counted, RunError, run};
 use scene_model::{FrameRefusal, Report};
 use scene_world_tests::commands::Owning;
 use scene_world_tests::turns::Drifting;
+use std::alloc::{AllocError, Global};
 use std::sync::Wait;
 use std::thread::Threads;
 
@@ -51,9 +52,9 @@ const COURSES: [Course; 3] = [
 ];
 
 /// Whether a report is of all frames, or tells that the frame after the accepted ones wanted memory or a thread.
-fn is_of_its_frames(report: &Report, texts: &[&str]) -> bool {
+fn is_of_its_frames(report: &Report, frames: usize) -> bool {
     match &report.refused {
-        None => report.frames as usize + 1 == texts.len(),
+        None => report.frames as usize == frames,
         Some((frame, FrameRefusal::Memory | FrameRefusal::Threads)) => {
             *frame == report.frames.saturating_add(1)
         }
@@ -81,7 +82,8 @@ fn answers_by_name<H: AllocGlobal + Threads + Wait + Sync>(
                 .get(report.frames as usize)
                 .copied()
                 .unwrap_or("");
-            is_of_its_frames(&report, course.texts) && out.get_ref().as_slice() == text.as_bytes()
+            is_of_its_frames(&report, course.texts.len().saturating_sub(1))
+                && out.get_ref().as_slice() == text.as_bytes()
         }
         Err(RunError::Memory) => out.get_ref().is_empty(),
         Err(_) => false,
@@ -99,4 +101,37 @@ fn want_is_an_answer(rt: HostRuntime) {
         }
     }
     assert_eq!(rt; wrong, None);
+}
+
+/// One who drifts beside two who watch, over fifty frames, with a worker for each.
+const FIFTY: &str =
+    "{\"next\":1,\"entities\":[{\"id\":0,\"parts\":{\"pos\":0,\"vel\":2}}],\"systems\":[{\"kind\":\"watch\"},{\"kind\":\"drift\"},{\"kind\":\"watch\"}],\"frames\":50,\"workers\":3}";
+
+/// The text of the scene after some of the fifty frames.
+fn text_after(alloc: Global, frames: u32) -> Result<String, AllocError> {
+    let pos = frames.saturating_mul(2);
+    format!(in alloc;
+        "{{\"entities\":[{{\"id\":0,\"parts\":{{\"pos\":{pos},\"vel\":2}}}}],\"globals\":{{}},\"next\":1}}"
+    )
+}
+
+/// Whether the fifty frames give a report with the text of those that were accepted, or tell that memory was wanting
+/// and write nothing.
+fn fifty_are_answered<H: AllocGlobal + Threads + Wait + Sync>(rt: &H) -> Result<bool, AllocError> {
+    let mut reader = Counted::new(FIFTY.as_bytes());
+    let mut out = Counted::new(Vec::with_capacity(rt.alloc(), 4096)?);
+    match run(rt, Watched, &mut reader, &mut out) {
+        Ok(report) => {
+            let text = text_after(rt.alloc(), report.frames)?;
+            Ok(is_of_its_frames(&report, 50) && out.get_ref().as_slice() == text.as_bytes())
+        }
+        Err(RunError::Memory) => Ok(out.get_ref().is_empty()),
+        Err(_) => Ok(false),
+    }
+}
+
+// Where a worker of the crew can't be started, each frame starts its own, so that one refused start costs no frame.
+#[test]
+fn fifty_frames_are_an_answer(rt: HostRuntime) {
+    assert!(rt; fifty_are_answered(&rt) != Ok(false));
 }

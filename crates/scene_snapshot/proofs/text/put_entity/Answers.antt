@@ -2,7 +2,7 @@ use Rattle.std.proofs.Common.{[], ◌∷◌, codes, refl}
 use Rattle.json.specs.Token.{begin_object, end_object, key}
 use Rattle.serde_json.specs.Data.{number, unsigned}
 use Rattle.scene_model.specs.Parts.{Json, Name}
-use Rattle.scene_snapshot.specs.KeptScenes.{kept_part, parts_with}
+use Rattle.scene_snapshot.specs.KeptScenes.{part_kept, parts_with}
 use Rattle.scene_snapshot.proofs.PrintLemmas.{wrote, on-wrote, members-none, members-one, members-then, object-added, whole-added}
 use Rattle.scene_snapshot.proofs.text.put_entity.Goals as goal
 
@@ -10,7 +10,7 @@ pub returns : goal.returns
 returns g c =
     let book = g.R.DocumentRules.book c.args.rules.now in
     let id : Name × Json = (codes "id", number (unsigned c.args.id)) in
-    let parts : Name × Json = (codes "parts", parts_with book (kept_part g.R.DocumentRules.part_of book c.args.columns.now c.args.id)) in
+    let parts : Name × Json = (codes "parts", parts_with book (part_kept g.R.DocumentRules.part_of book c.args.kept.now c.args.index)) in
     let old = c.args.out.now in
     let opened = members-none (begin_object ∷ []) old c.begin_object.new.self (wrote _ old c.begin_object.new.self begin_object c.in_ok-begin_object.ensures) in
     let first = members-one id.0 id.1 c.begin_object.new.self c.key.new.self c.u64.new.self (wrote _ c.begin_object.new.self c.key.new.self (key id.0) c.in_ok-key.ensures)

@@ -19,7 +19,7 @@ loop-place-preserved g c =
     let book = g.R.DocumentRules.book rules in
     let scene = kept_scene g.R.DocumentRules.part_of g.R.DocumentRules.global_of g.V.ByPlace.at_place book c.args.kept.now in
     let more =
-    found-more (λ name one. option_map (λ json. (name, json)) (option_map g.R.DocumentRules.global_of one)) (g.V.ByPlace.at_place c.args.kept.now.living.globals) book.global_names c.global_names-names.result.now c.loop-place.place _
+    found-more (λ name one. option_map (λ json. (name, json)) (option_map g.R.DocumentRules.global_of one)) (g.V.ByPlace.at_place c.args.kept.now.globals) book.global_names c.global_names-names.result.now c.loop-place.place _
     (option_copied c.at.result) c.global_names-names.ensures (g.met.R.DocumentRules.globals_ascend rules) (omega arith)
     (c.at.ensures ∙ ap (λ globals. g.V.ByPlace.at_place globals c.loop-place.place) c.globals.ensures) in
     subst (λ pairs. AddsMembers (begin_object ∷ []) pairs c.args.out.now c.put_global.new.out) (sym more)

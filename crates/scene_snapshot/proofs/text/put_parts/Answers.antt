@@ -4,7 +4,8 @@ use Rattle.json.specs.Token.{begin_object, end_object}
 use Rattle.scene_model.specs.Declaring.{texts}
 use Rattle.scene_model.specs.Parts.{Name}
 use Rattle.scene_document.proofs.CallerLemmas.{pairs_of, members-pairs, ordered-pairs}
-use Rattle.scene_snapshot.specs.KeptScenes.{kept_datum, kept_part}
+use Rattle.scene_snapshot.specs.Rows.{datum_at}
+use Rattle.scene_snapshot.specs.KeptScenes.{part_kept}
 use Rattle.scene_snapshot.specs.Printing.{AddsMembers}
 use Rattle.scene_snapshot.proofs.KeptTextLemmas.{found-more}
 use Rattle.scene_snapshot.proofs.PrintLemmas.{wrote, on-wrote, members-none, members-then, object-added}
@@ -17,17 +18,17 @@ pub loop-place-preserved : goal.loop-place-preserved
 loop-place-preserved g c =
     let rules = c.args.rules.now in
     let book = g.R.DocumentRules.book rules in
-    let part = kept_part g.R.DocumentRules.part_of book c.args.columns.now c.args.id in
+    let part = part_kept g.R.DocumentRules.part_of book c.args.kept.now c.args.index in
     let more =
-    found-more (λ kind one. option_map (λ part. (kind, part.json)) (option_map g.R.DocumentRules.part_of one)) (kept_datum c.args.columns.now c.args.id) book.part_names c.part_names-names.result.now c.loop-place.place _
-    (option_copied c.datum_at.result) c.part_names-names.ensures (g.met.R.DocumentRules.kinds_ascend rules) (omega arith) c.datum_at.ensures in
+    found-more (λ kind one. option_map (λ part. (kind, part.json)) (option_map g.R.DocumentRules.part_of one)) (λ place. datum_at c.args.kept.now place c.args.index) book.part_names c.part_names-names.result.now c.loop-place.place _
+    (option_copied c.datum.result) c.part_names-names.ensures (g.met.R.DocumentRules.kinds_ascend rules) (omega arith) c.datum.ensures in
     subst (λ pairs. AddsMembers (begin_object ∷ []) pairs c.args.out.now c.put_part.new.out) (sym more)
     (members-then (begin_object ∷ []) (pairs_of (λ one. one.json) part (take c.loop-place.place (texts c.part_names-names.result.now))) _ c.args.out.now c.loop-place.out c.put_part.new.out c.loop-place.invariant c.in_ok-put_part.ensures)
 
 pub returns : goal.returns
 returns g c =
     let book = g.R.DocumentRules.book c.args.rules.now in
-    let part = kept_part g.R.DocumentRules.part_of book c.args.columns.now c.args.id in
+    let part = part_kept g.R.DocumentRules.part_of book c.args.kept.now c.args.index in
     let pairs = pairs_of (λ one. one.json) part book.part_names in
     let all : take c.loop-place.place (texts c.part_names-names.result.now) ≡ book.part_names =
     take_all c.loop-place.place (texts c.part_names-names.result.now) (omega (arith, length-map c.part_names-names.result.now (λ (name : Bor Name). name.now))) ∙ c.part_names-names.ensures in

@@ -5,7 +5,8 @@ use Rattle.serde_json.specs.Data.{array, number, unsigned}
 use Rattle.serde_json.specs.View.{items_of}
 use Rattle.scene_model.specs.Parts.{Json, Name}
 use Rattle.scene_document.specs.Texts.{entity_json, globals_json}
-use Rattle.scene_snapshot.specs.KeptScenes.{kept_scene}
+use Rattle.scene_snapshot.specs.Rows.{seats_kept}
+use Rattle.scene_snapshot.specs.KeptScenes.{bearers, kept_scene}
 use Rattle.scene_snapshot.specs.Printing.{AddsJson}
 use Rattle.scene_snapshot.proofs.PrintLemmas.{wrote, on-wrote, members-none, members-one, members-then, object-added, whole-added}
 use Rattle.scene_snapshot.proofs.text.put_scene.Goals as goal
@@ -14,9 +15,9 @@ pub returns : goal.returns
 returns g c =
     let book = g.R.DocumentRules.book c.args.rules.now in
     let scene = kept_scene g.R.DocumentRules.part_of g.R.DocumentRules.global_of g.V.ByPlace.at_place book c.args.kept.now in
-    let entities : Name × Json = (codes "entities", array (items_of (map (entity_json book scene) (finite.keys c.args.kept.now.living.entries)))) in
+    let entities : Name × Json = (codes "entities", array (items_of (map (entity_json book scene) (finite.keys (bearers (seats_kept c.args.kept.now)))))) in
     let globals : Name × Json = (codes "globals", globals_json book scene) in
-    let next : Name × Json = (codes "next", number (unsigned c.args.kept.now.living.next)) in
+    let next : Name × Json = (codes "next", number (unsigned c.args.kept.now.next)) in
     let old = c.args.out.now in
     let opened = members-none (begin_object ∷ []) old c.begin_object.new.self (wrote _ old c.begin_object.new.self begin_object c.in_ok-begin_object.ensures) in
     let first = members-one entities.0 entities.1 c.begin_object.new.self c.key.new.self c.put_entities.new.out (wrote _ c.begin_object.new.self c.key.new.self (key entities.0) c.in_ok-key.ensures) c.in_ok-put_entities.ensures in

@@ -1,76 +1,45 @@
-use Rattle.std.proofs.Common.{arith, ◌≡◌, ◌∙◌, ◌+◌, ◌++◌, refl, ap, sym, subst, suc, Some, All}
-use Rattle.std.proofs.lemmas.Option.{none-some}
-use Rattle.scene_model.specs.Commands.{skips_of}
-use Rattle.scene_model.specs.Frames.{Accepts, Refuses}
-use Rattle.scene_model.specs.Lawful.{IsLawful}
-use Rattle.scene_model.specs.Scenes.{IsProper}
-use Rattle.scene_model.specs.Queues.{plain_commands}
-use Rattle.scene_document.specs.Loading.{commands_at}
+use Rattle.std.proofs.Common.{◌∙◌, sym, subst}
+use Rattle.std.proofs.lemmas.Result.{on_ok_weaker, on_err_weaker}
 use Rattle.scene_world.specs.Places.{kinds_of}
 use Rattle.scene_world.specs.Turns.{placed_as}
-use Rattle.scene_dispatch.specs.Orders.{turn_order}
-use Rattle.scene.proofs.TurnLemmas.{none_there, told_first}
-use Rattle.scene.specs.Running.{listed_scene, course_of, Stands}
+use Rattle.scene.specs.Waiting.{AreTheirPlaces}
+use Rattle.scene.specs.Turns.{Advances, Stays}
+use Rattle.scene.specs.Running.{shown_of}
+use Rattle.scene.proofs.TurnLemmas.{none_there}
+use Rattle.scene.proofs.FrameLemmas.{have-come, same-shown}
 use Rattle.scene.proofs.frame.Scene.run_frame.Goals as goal
 
-pub advance-requires-clause-stands : goal.advance-requires-clause-stands
-advance-requires-clause-stands g c κs within =
-    subst (λ places. Stands (kinds_of g.R.Value.SceneValue.places g.R.DocumentRules.part_of g.R.Rules.columns) (placed_as (λ placed. placed.position) (λ placed. placed.system) g.R.DocumentRules.kind_of g.R.DocumentRules.config_of g.R.DocumentRules.declared g.R.Rules.sense g.R.Rules.does) (g.R.DocumentRules.book c.args.self.now.rules) c.args.self.now.dispatcher c.args.self.now.world places (listed_scene g.R.DocumentRules.part_of g.R.DocumentRules.global_of (g.R.DocumentRules.book c.args.self.now.rules) c.args.self.now.kept)) (sym c.as_slice-2.ensures.value)
-    (c.requires.ready.stands (none_there c.args.self.now.report.refused (sym c.is_some.ensures ∙ c.if-is_some.false)))
-
-pub advance-requires-clause-given : goal.advance-requires-clause-given
-advance-requires-clause-given g c κs within =
-    subst (All (IsLawful (g.R.DocumentRules.book c.args.self.now.rules))) (sym (c.commands_for-given.ensures g.R.DocumentRules.part_of ∙ ap (λ lists. commands_at g.R.DocumentRules.part_of lists (c.args.self.now.report.frames + 1)) c.as_slice.ensures.value)) (c.requires.ready.lawful (c.args.self.now.report.frames + 1))
-
-pub returns-in-Ok-clause-ok : goal.returns-in-Ok-clause-ok
-returns-in-Ok-clause-ok g c =
-    let more : c.args.self.now.report.frames + 1 ≡ suc c.args.self.now.report.frames = omega arith in
-    let none = none_there c.args.self.now.report.refused (sym c.is_some.ensures ∙ c.if-is_some.false) in
-    let given : plain_commands g.R.DocumentRules.part_of c.commands_for-given.result.now ≡ commands_at g.R.DocumentRules.part_of c.args.self.now.commands.items (c.args.self.now.report.frames + 1) = c.commands_for-given.ensures g.R.DocumentRules.part_of ∙ ap (λ lists. commands_at g.R.DocumentRules.part_of lists (c.args.self.now.report.frames + 1)) c.as_slice.ensures.value in
-    let accepted = c.in-Ok.ensures.accepted in
-    let skips : c.from_vec.result ≡ c.args.self.now.report.skips ++ skips_of (suc c.args.self.now.report.frames) accepted.0 =
-    c.from_vec.ensures ∙ accepted.2 ∙ ap (λ old. old ++ skips_of (c.args.self.now.report.frames + 1) accepted.0) (c.into_vec-skips.ensures ∙ c.replace.ensures.value) ∙ ap (λ n. c.args.self.now.report.skips ++ skips_of n accepted.0) more in
+pub finish-requires-clause-under_way : goal.finish-requires-clause-under_way
+finish-requires-clause-under_way g c =
+    let kinds = kinds_of g.R.Value.SceneValue.places g.R.DocumentRules.part_of g.R.Rules.columns in
+    let meaning = placed_as (λ placed. placed.position) (λ placed. placed.system) g.R.DocumentRules.kind_of g.R.DocumentRules.config_of g.R.DocumentRules.declared g.R.Rules.sense g.R.Rules.does in
+    let shown = shown_of kinds g.R.DocumentRules.part_of g.R.DocumentRules.global_of meaning g.R.DocumentRules.book in
+    let book = g.R.DocumentRules.book c.args.self.now.rules in
+    let order = c.run_systems-outcome.ensures.order in
+    let going = none_there c.args.self.now.report.refused (sym c.is_over.ensures ∙ c.if-is_over.false) in
+    let stands = c.requires.ready.stands going in
     record {
-      was_going = none;
-      accepted = (
-        accepted.0,
-        subst (λ n. Accepts (g.R.DocumentRules.book c.args.self.now.rules) c.args.self.now.limit (course_of g.R.DocumentRules.part_of (turn_order (placed_as (λ placed. placed.position) (λ placed. placed.system) g.R.DocumentRules.kind_of g.R.DocumentRules.config_of g.R.DocumentRules.declared g.R.Rules.sense g.R.Rules.does).plain c.args.self.now.dispatcher) c.args.self.now.commands.items n) (listed_scene g.R.DocumentRules.part_of g.R.DocumentRules.global_of (g.R.DocumentRules.book c.args.self.now.rules) c.args.self.now.kept) (listed_scene g.R.DocumentRules.part_of g.R.DocumentRules.global_of (g.R.DocumentRules.book c.args.self.now.rules) c.advance.new.kept) accepted.0) more
-            (subst (λ commands. Accepts (g.R.DocumentRules.book c.args.self.now.rules) c.args.self.now.limit (record { order = turn_order (placed_as (λ placed. placed.position) (λ placed. placed.system) g.R.DocumentRules.kind_of g.R.DocumentRules.config_of g.R.DocumentRules.declared g.R.Rules.sense g.R.Rules.does).plain c.args.self.now.dispatcher; commands = commands }) (listed_scene g.R.DocumentRules.part_of g.R.DocumentRules.global_of (g.R.DocumentRules.book c.args.self.now.rules) c.args.self.now.kept) (listed_scene g.R.DocumentRules.part_of g.R.DocumentRules.global_of (g.R.DocumentRules.book c.args.self.now.rules) c.advance.new.kept) accepted.0) given accepted.1),
-        λ i. record { frames = more i; skips = skips i; refused = none i },
-      );
-      course = record { frames = ap (λ order. course_of g.R.DocumentRules.part_of order c.args.self.now.commands.items) c.in-Ok.ensures.order; limit = refl; asked = refl };
-    }
-
-pub returns-in-Ok-clause-ready : goal.returns-in-Ok-clause-ready
-returns-in-Ok-clause-ready g c =
-    let stands = subst (λ places. Stands (kinds_of g.R.Value.SceneValue.places g.R.DocumentRules.part_of g.R.Rules.columns) (placed_as (λ placed. placed.position) (λ placed. placed.system) g.R.DocumentRules.kind_of g.R.DocumentRules.config_of g.R.DocumentRules.declared g.R.Rules.sense g.R.Rules.does) (g.R.DocumentRules.book c.args.self.now.rules) c.advance.new.dispatcher c.advance.new.world places (listed_scene g.R.DocumentRules.part_of g.R.DocumentRules.global_of (g.R.DocumentRules.book c.args.self.now.rules) c.advance.new.kept)) c.as_slice-2.ensures.value c.in-Ok.ensures.stands in
-    record {
-      stands = λ none. stands;
+      going = going;
+      come = have-come kinds meaning book c.args.self.now.dispatcher c.run_systems-outcome.new.self c.args.self.now.world c.run_systems-outcome.new.world _ c.run_systems-outcome.result stands.none stands.same order (c.run_systems-outcome.ensures.comes stands.ready);
+      places = subst (AreTheirPlaces c.args.self.now.places.items) (sym order) stands.places;
       lawful = c.requires.ready.lawful;
-      proper = subst (IsProper (g.R.DocumentRules.book c.args.self.now.rules)) stands.same stands.ready.world.proper;
+      proper = c.requires.ready.proper;
     }
 
-pub returns-in-Err-clause-err : goal.returns-in-Err-clause-err
-returns-in-Err-clause-err g c =
-    let more : c.args.self.now.report.frames + 1 ≡ suc c.args.self.now.report.frames = omega arith in
-    let given : plain_commands g.R.DocumentRules.part_of c.commands_for-given.result.now ≡ commands_at g.R.DocumentRules.part_of c.args.self.now.commands.items (c.args.self.now.report.frames + 1) = c.commands_for-given.ensures g.R.DocumentRules.part_of ∙ ap (λ lists. commands_at g.R.DocumentRules.part_of lists (c.args.self.now.report.frames + 1)) c.as_slice.ensures.value in
-    let skips = c.from_vec-in-Err.ensures ∙ c.in-Err.ensures.skips ∙ c.into_vec-skips.ensures ∙ c.replace.ensures.value in
-    record {
-      scene = ap (listed_scene g.R.DocumentRules.part_of g.R.DocumentRules.global_of (g.R.DocumentRules.book c.args.self.now.rules)) c.in-Err.ensures.kept;
-      course = record { frames = ap (λ order. course_of g.R.DocumentRules.part_of order c.args.self.now.commands.items) c.in-Err.ensures.order; limit = refl; asked = refl };
-      told = told_first _ c.args.self.now.report.refused (none_there c.args.self.now.report.refused (sym c.is_some.ensures ∙ c.if-is_some.false)) (
-        c.in-Err.cause,
-        record {
-          refused = subst (λ n. Refuses (g.R.DocumentRules.book c.args.self.now.rules) c.args.self.now.limit (course_of g.R.DocumentRules.part_of (turn_order (placed_as (λ placed. placed.position) (λ placed. placed.system) g.R.DocumentRules.kind_of g.R.DocumentRules.config_of g.R.DocumentRules.declared g.R.Rules.sense g.R.Rules.does).plain c.args.self.now.dispatcher) c.args.self.now.commands.items n) (listed_scene g.R.DocumentRules.part_of g.R.DocumentRules.global_of (g.R.DocumentRules.book c.args.self.now.rules) c.args.self.now.kept) c.in-Err.cause) more
-              (subst (λ commands. Refuses (g.R.DocumentRules.book c.args.self.now.rules) c.args.self.now.limit (record { order = turn_order (placed_as (λ placed. placed.position) (λ placed. placed.system) g.R.DocumentRules.kind_of g.R.DocumentRules.config_of g.R.DocumentRules.declared g.R.Rules.sense g.R.Rules.does).plain c.args.self.now.dispatcher; commands = commands }) (listed_scene g.R.DocumentRules.part_of g.R.DocumentRules.global_of (g.R.DocumentRules.book c.args.self.now.rules) c.args.self.now.kept) c.in-Err.cause) given c.in-Err.ensures.refused);
-          report = λ i. record { frames = c.args.self.now.report.frames; skips = skips i; refused = Some (more i, c.in-Err.cause) };
-        },
-      );
-    }
+pub returns-clause-ok : goal.returns-clause-ok
+returns-clause-ok g c =
+    let kinds = kinds_of g.R.Value.SceneValue.places g.R.DocumentRules.part_of g.R.Rules.columns in
+    let meaning = placed_as (λ placed. placed.position) (λ placed. placed.system) g.R.DocumentRules.kind_of g.R.DocumentRules.config_of g.R.DocumentRules.declared g.R.Rules.sense g.R.Rules.does in
+    let shown = shown_of kinds g.R.DocumentRules.part_of g.R.DocumentRules.global_of meaning g.R.DocumentRules.book in
+    let book = g.R.DocumentRules.book c.args.self.now.rules in
+    let order = c.run_systems-outcome.ensures.order in
+    on_ok_weaker c.finish.result (λ advances. subst (λ start. Advances book start (shown c.finish.new.self)) (same-shown kinds g.R.DocumentRules.part_of g.R.DocumentRules.global_of meaning g.R.DocumentRules.book c.args.self.now c.run_systems-outcome.new.self c.run_systems-outcome.new.world order) advances) c.finish.ensures.ok
 
-pub returns-in-Err-clause-ready : goal.returns-in-Err-clause-ready
-returns-in-Err-clause-ready g c = record {
-  stands = λ none. absurd (none-some (c.args.self.now.report.frames + 1, c.in-Err.cause) (sym none));
-  lawful = c.requires.ready.lawful;
-  proper = subst (λ kept. IsProper (g.R.DocumentRules.book c.args.self.now.rules) (listed_scene g.R.DocumentRules.part_of g.R.DocumentRules.global_of (g.R.DocumentRules.book c.args.self.now.rules) kept)) (sym c.in-Err.ensures.kept) c.requires.ready.proper;
-}
+pub returns-clause-err : goal.returns-clause-err
+returns-clause-err g c =
+    let kinds = kinds_of g.R.Value.SceneValue.places g.R.DocumentRules.part_of g.R.Rules.columns in
+    let meaning = placed_as (λ placed. placed.position) (λ placed. placed.system) g.R.DocumentRules.kind_of g.R.DocumentRules.config_of g.R.DocumentRules.declared g.R.Rules.sense g.R.Rules.does in
+    let shown = shown_of kinds g.R.DocumentRules.part_of g.R.DocumentRules.global_of meaning g.R.DocumentRules.book in
+    let book = g.R.DocumentRules.book c.args.self.now.rules in
+    let order = c.run_systems-outcome.ensures.order in
+    on_err_weaker c.finish.result (λ stays. subst (λ start. Stays book start (shown c.finish.new.self)) (same-shown kinds g.R.DocumentRules.part_of g.R.DocumentRules.global_of meaning g.R.DocumentRules.book c.args.self.now c.run_systems-outcome.new.self c.run_systems-outcome.new.world order) stays) c.finish.ensures.err

@@ -1,0 +1,37 @@
+use Rattle.std.proofs.Common.{◌∷◌, refl, ap, ◌∙◌, arith}
+use Rattle.scene_snapshot.proofs.CallerLemmas.{has-room}
+use Rattle.scene.proofs.KeepLemmas.{no-items, writing-begins, writing-ends, writing-passes, writing-goes}
+use Rattle.scene.proofs.keeping.write_found.Goals as goal
+
+pub loop-index-init : goal.loop-index-init
+loop-index-init g c =
+    writing-begins c.args.found.items c.into_iter-index-iterator.result.rest.items c.args.place c.args.count c.args.kept.now c.args.kept.now c.into_iter-index-iterator.ensures.into_iter_gives.0 refl c.requires.free
+    c.requires.room
+
+pub write-requires : goal.write-requires
+write-requires g c = record {
+  place = omega (arith, c.requires.kinds, c.loop-index.invariant.course.kinds);
+  room = has-room c.loop-index.kept c.args.count c.in-Some.index c.loop-index.invariant.room c.if-index-count.false;
+  free = c.loop-index.invariant.seats c.in-Some.index;
+}
+
+pub loop-index-preserved : goal.loop-index-preserved
+loop-index-preserved g c =
+    let rest = c.next.new.self.rest.items in
+    writing-passes c.args.found.items c.loop-index.index-iterator.rest.items c.args.place c.args.count c.args.kept.now c.loop-index.kept c.loop-index.invariant c.in-Some.index rest
+    (c.in-Some.ensures.steps.0 ∙ ap (λ datum. (c.in-Some.index, datum) ∷ rest) c.in_default.is)
+
+pub loop-index-preserved-in-Some-datum : goal.loop-index-preserved-in-Some-datum
+loop-index-preserved-in-Some-datum g c =
+    let rest = c.next.new.self.rest.items in
+    writing-goes c.args.found.items c.loop-index.index-iterator.rest.items c.args.place c.args.count c.args.kept.now c.loop-index.kept c.loop-index.invariant c.in-Some.index rest c.in-Some-datum.datum c.write.new.self
+    (c.in-Some.ensures.steps.0 ∙ ap (λ datum. (c.in-Some.index, datum) ∷ rest) c.in-Some-datum.is) c.write.ensures.rows c.write.ensures.seats c.write.ensures.course c.write.ensures.room
+
+pub returns : goal.returns
+returns g c = record {
+  row = writing-ends c.args.found.items c.loop-index.index-iterator.rest.items c.args.place c.args.count c.args.kept.now c.loop-index.kept c.loop-index.invariant (no-items c.loop-index.index-iterator.rest.items (omega (arith, c.loop-index.index-iterator.rest.ok, c.in-None.ensures.steps.0)));
+  others = c.loop-index.invariant.others;
+  seats = c.loop-index.invariant.seats;
+  room = c.loop-index.invariant.room;
+  course = c.loop-index.invariant.course;
+}

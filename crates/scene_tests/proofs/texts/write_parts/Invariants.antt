@@ -1,0 +1,7 @@
+use Rattle.std.proofs.Common.{◌≡◌}
+use Rattle.scene_snapshot.specs.Rows.{kinds_kept}
+use Rattle.scene_tests.proofs.texts.write_parts.Given as goal
+
+-- there are rows for four kinds
+abbrev pub invariant-loop-place : goal.invariant-loop-place
+invariant-loop-place g l = kinds_kept l.kept ≡ 4
