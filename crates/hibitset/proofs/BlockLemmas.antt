@@ -4,10 +4,16 @@ use Rattle.std.proofs.lemmas.Bool.{true≢false}
 use mathlib.Core.Logic.{dite}
 use native.Mathlib.Decide.{ℕ_discrete}
 use Rattle.hibitset_sets.specs.Bits.{has_bit}
+use Rattle.hibitset_sets.specs.Words.{word_of}
+use Rattle.hibitset_sets.specs.WordLemmas.{words_agree-word_of}
 
 and-false : (test : Bool) → (test && false) ≡ false
 and-false true = refl
 and-false false = refl
+
+-- a member whose word is known is told by its bit
+pub as-in-word : (words : ℕ → ℕ) (members : ℕ → Bool) (place index : ℕ) → words place ≡ word_of members 0 place → index / 64 ≡ place → members index ≡ has_bit (words (index / 64)) (index % 64)
+as-in-word words members place index held same = sym (ap (λ word. has_bit word (index % 64)) (ap words same ∙ (held ∙ ap (word_of members 0) (sym same))) ∙ words_agree-word_of members index)
 
 -- what is true only where something false is, is false
 pub never-true : (test : Bool) → (test ≡ true → ⊥) → test ≡ false
@@ -21,11 +27,6 @@ chosen false set was is = absurd (true≢false (sym is))
 pub other : (test : Bool) (set was : Bool) → test ≡ false → (if test then set else was) ≡ was
 other true set was is = absurd (true≢false is)
 other false set was is = refl
-
--- what holds of what stays holds of what is put in its place
-chosen-set : (test set was : Bool) → (was ≡ true → set ≡ true) → (if test then set else was) ≡ true → set ≡ true
-chosen-set true set was stays is = is
-chosen-set false set was stays is = stays is
 
 module _ (words : ℕ → ℕ) (old : ℕ → Bool) where
   -- the words of a block before a place are put in
@@ -60,11 +61,6 @@ module _ (words : ℕ → ℕ) (old : ℕ → Bool) where
       (λ differ. let equal : nat_lt (index / 64) place ≡ nat_lt (index / 64) (place + 1) = grind (arith, differ) in
       kept index differ ∙ (was index ∙ ap (λ test. if (index / 4096 == block) && test then has_bit (words (index / 64)) (index % 64) else old index) equal))
 
-  -- before its word is put in, an index is as it was
-  pub in_block-before : (block place index : ℕ) → index / 64 ≡ place → in_block block place index ≡ old index
-  in_block-before block place index same = let past : nat_lt (index / 64) place ≡ false = grind (arith, same) in
-      ap (λ test. if (index / 4096 == block) && test then has_bit (words (index / 64)) (index % 64) else old index) past ∙ other ((index / 4096 == block) && false) _ _ (and-false (index / 4096 == block))
-
   -- one block more
   pub in_blocks-next : (block : ℕ) (now new : ℕ → Bool) → ((index : ℕ) → now index ≡ in_blocks block index) → ((index : ℕ) → index / 4096 ≡ block → new index ≡ has_bit (words (index / 64)) (index % 64))
       → ((index : ℕ) → index / 4096 ≢ block → new index ≡ now index) → (index : ℕ) → new index ≡ in_blocks (block + 1) index
@@ -75,10 +71,6 @@ module _ (words : ℕ → ℕ) (old : ℕ → Bool) where
 
   pub in_blocks-before : (block index : ℕ) → index / 4096 ≡ block → in_blocks block index ≡ old index
   in_blocks-before block index same = let past : nat_lt (index / 4096) block ≡ false = grind (arith, same) in ap (λ test. if test then has_bit (words (index / 64)) (index % 64) else old index) past
-
-  -- a member has its bit, where the old members have theirs
-  pub in_blocks-held : (block index : ℕ) → (old index ≡ true → has_bit (words (index / 64)) (index % 64) ≡ true) → in_blocks block index ≡ true → has_bit (words (index / 64)) (index % 64) ≡ true
-  in_blocks-held block index = chosen-set (nat_lt (index / 4096) block) _ (old index)
 
   -- with all blocks put in, each index is told by its bit
   pub in_blocks-end : (block index : ℕ) → block ≡ 4096 → index < 16777216 → in_blocks block index ≡ has_bit (words (index / 64)) (index % 64)

@@ -25,6 +25,28 @@ fn copy_layer(row: &mut Vec<u64>, set: &BitSet, layer: usize, start: usize, coun
     }
 }
 
+/// A row of so many words that begins with the first `count` words of layer 0, and is zero from there on.
+///
+/// Errors: `AllocError`.
+fn row_with_lowest(
+    alloc: Global,
+    set: &BitSet,
+    count: usize,
+    words: usize,
+) -> Result<Vec<u64>, AllocError>
+    requires room { count ≤ words }
+    ensures length { IfOk result (λ row. length row.items ≡ words) }
+    ensures copied { IfOk result (λ row. (place : ℕ) → place < count
+        → slice_index row.items place ≡ word_of (has_member set.now) 0 place) }
+{
+    let lowest = set.layer0_as_slice();
+    let kept = lowest.len().min(count);
+    let mut row = Vec::with_capacity(alloc, words)?;
+    row.extend_from_slice(&lowest[..kept])?;
+    row.resize(words, 0)?;
+    Ok(row)
+}
+
 /// The words of the four layers that reach over the indices below `count`, the lowest layer first.
 ///
 /// Errors: `AllocError`.
@@ -40,8 +62,7 @@ pub(crate) fn layers_in_row(
     let first = (count + 63) / 64;
     let second = (first + 63) / 64;
     let third = (second + 63) / 64;
-    let mut row = Vec::from_elem(alloc, 0u64, first + second + third + 1)?;
-    copy_layer(&mut row, set, 0, 0, first);
+    let mut row = row_with_lowest(alloc, set, first, first + second + third + 1)?;
     copy_layer(&mut row, set, 1, first, second);
     copy_layer(&mut row, set, 2, first + second, third);
     copy_layer(&mut row, set, 3, first + second + third, 1);

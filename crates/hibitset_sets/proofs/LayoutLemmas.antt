@@ -595,6 +595,23 @@ module _ (below : List ℕ) (w x : ℕ) (within : w < length below) where
             ];
       }
 
+  -- with a word that isn't zero in place of another
+  pub IsSummary-refilled : (above : List ℕ) → IsSummary below above → x < 2 ^ 64 → x ≢ 0 → slice_index below w ≢ 0 → IsSummary (slice_set below w x) above
+  IsSummary-refilled above summary x_fits some was =
+      let long = summary.long in
+      record {
+        fits = put-fits x_fits summary.fits;
+        long = (let l = length-set below w x in omega arith);
+        bits = λ v.
+            summary.bits v
+            ∙ elim (cases_eq v w) [
+              | inl here ↦
+                  ap (λ y. not (eqb y 0)) (ap (slice_index below) here) ∙ not_zero_test _ (omega arith)
+                  ∙ sym (ap (λ y. not (eqb y 0)) (ap (slice_index (slice_set below w x)) here ∙ put-at) ∙ not_zero_test x (omega arith))
+              | inr there ↦ ap (λ y. not (eqb y 0)) (sym (put-other v there))
+            ];
+      }
+
   -- with the word zero, and without its summary bit
   pub IsSummary-emptied : (above : List ℕ) → IsSummary below above → x ≡ 0 → IsSummary (slice_set below w x) (without_bit above w)
   IsSummary-emptied above summary zeroed =
@@ -645,6 +662,16 @@ module _ {l0 l1 l2 : List ℕ} {l3 : ℕ} (layered : IsLayered l0 l1 l2 l3) (w :
         second = IsSummary-with l1 l2 w word-in.in1 layered.second;
         third = subst (IsSummary (with_bit l2 (w / 64))) (with-top l3 (w / 64 / 64) word-in.in3) (IsSummary-with l2 (l3 ∷ []) (w / 64) word-in.in2 layered.third);
         fits = or_lt 64 l3 (2 ^ (w / 64 / 64)) layered.fits (pow_below (w / 64 / 64) 64 word-in.in3);
+      }
+
+  -- where the word wasn't zero either, it changes layer 0 alone
+  pub layered-refilled : (x : ℕ) → x < 2 ^ 64 → x ≢ 0 → slice_index l0 w ≢ 0 → IsLayered (slice_set l0 w x) l1 l2 l3
+  layered-refilled x fits some was =
+      record {
+        first = IsSummary-refilled l0 w x within l1 layered.first fits some was;
+        second = layered.second;
+        third = layered.third;
+        fits = layered.fits;
       }
 
   pub layered-emptied1 : slice_index (without_bit l1 w) (w / 64) ≢ 0 → IsLayered (slice_set l0 w 0) (without_bit l1 w) l2 l3

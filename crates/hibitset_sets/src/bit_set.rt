@@ -197,6 +197,9 @@ impl BitSet {
 
     /// Replaces a word of layer 0 that there is room for: bit `i` of `word` says whether
     /// `64 * place + i` is a member from now on, and no other index comes or goes.
+    ///
+    /// The summaries are written only where the word becomes zero, or was zero.
+    #[inline]
     pub fn put_word(&mut self, place: usize, word: u64)
         requires { 64 * place < self.old.room }
         ensures members { PutsWord (has_member self.old) place word (has_member self.new) }
@@ -210,18 +213,22 @@ impl BitSet {
     }
 
     /// Replaces a word of layer 0 by one that isn't zero.
+    #[inline]
     fn fill_word(&mut self, place: usize, word: u64)
         requires room { 64 * place < self.old.room }
         requires some { word ≢ 0 }
         ensures members { PutsWord (has_member self.old) place word (has_member self.new) }
         ensures room { self.new.room ≡ self.old.room }
     {
-        let second = place / 64;
-        let third = second / 64;
+        let old = self.layer0[place];
         self.layer0[place] = word;
-        set_bit(&mut self.layer1, place);
-        set_bit(&mut self.layer2, second);
-        self.layer3 |= 1 << third;
+        if old == 0 {
+            let second = place / 64;
+            let third = second / 64;
+            set_bit(&mut self.layer1, place);
+            set_bit(&mut self.layer2, second);
+            self.layer3 |= 1 << third;
+        }
     }
 
     /// Makes a word of layer 0 zero.

@@ -108,6 +108,7 @@ impl SharedBitSet {
     /// step. The seat lists the call.
     ///
     /// It sets the bit and then the three summary bits upwards, also where the bit was there.
+    #[inline]
     pub fn add_atomic(&self, seat: &mut BitSeat, id: Index) -> bool
         requires seat { IsSeatOf self.now seat.old }
         requires range { id < 16777216 }
@@ -134,6 +135,7 @@ impl SharedBitSet {
     ///
     /// It is true of each old member and of each index that the seat lists or has seen; where it is
     /// true the seat has seen `id` from then on.
+    #[inline]
     pub fn contains(&self, seat: &mut BitSeat, id: Index) -> bool
         requires { IsSeatOf self.now seat.old }
         ensures seat { IsSeatOf self.entry.now seat.new }

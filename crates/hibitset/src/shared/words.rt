@@ -1,5 +1,5 @@
 //! The words of a set, as they are shared and as they come back.
-ghost use Rattle.std.specs.Prelude.{◌≡◌, ℕ, ◌/◌, ◌%◌, ◌<◌, ◌≤◌, ◌==◌, true, IfOk, if◌then◌else◌, slice_index};
+ghost use Rattle.std.specs.Prelude.{◌≡◌, ℕ, ◌/◌, ◌%◌, ◌<◌, ◌≤◌, ◌==◌, IfOk, if◌then◌else◌, slice_index};
 ghost use Rattle.std.specs.Slots.{slots_items, slots_len, IsFull};
 ghost use Rattle.hibitset_sets.specs.BitSet.{has_member};
 ghost use Rattle.hibitset_sets.specs.Bits.{has_bit};
@@ -19,13 +19,11 @@ pub(super) fn row_of(alloc: Global, bits: &BitSet) -> Result<Vec<u64>, AllocErro
     layers_in_row(alloc, bits, 16_777_216)
 }
 
-/// Puts 64 words of layer 0 into a set, those over which one word of layer 1 stands.
+/// Puts 64 words of layer 0 into a set, those over which one word of layer 1 stands. A word that is as it was isn't written.
 pub(super) fn put_block(bits: &mut BitSet, closed: &Closed<(), Global>, block: usize)
     requires block { block < 4096 }
     requires full { (slots_len closed.now.words ≡ 266305) × IsFull closed.now.words }
     requires room { 16777216 ≤ bits.old.room }
-    requires held { (index : ℕ) → index < 16777216 → has_member bits.old index ≡ true
-        → has_bit (slice_index (slots_items closed.now.words) (index / 64)) (index % 64) ≡ true }
     ensures members { (index : ℕ) → has_member bits.new index ≡ (if index / 4096 == block
         then has_bit (slice_index (slots_items closed.now.words) (index / 64)) (index % 64)
         else has_member bits.old index) }
@@ -33,7 +31,7 @@ pub(super) fn put_block(bits: &mut BitSet, closed: &Closed<(), Global>, block: u
 {
     for place in 64 * block..64 * block + 64 {
         let word = closed.word(place);
-        if word != 0 {
+        if word != bits.layer0_as_slice()[place] {
             bits.put_word(place, word);
         }
     }

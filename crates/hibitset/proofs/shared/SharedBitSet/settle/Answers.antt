@@ -6,20 +6,9 @@ use Rattle.hibitset_sets.specs.Bits.{has_bit}
 use Rattle.hibitset.specs.declared.shared_rule.SeatView.{SeatView}
 use Rattle.hibitset.specs.SharedRule.{Settles}
 use Rattle.hibitset.proofs.SharedLemmas.{closed-settles, get_elem-get_or, old-has_bit, empty-block, settled-set}
-use Rattle.hibitset.proofs.BlockLemmas.{never-true, chosen, other, in_blocks-next, in_blocks-before, in_blocks-held, in_blocks-end}
+use Rattle.hibitset.proofs.BlockLemmas.{never-true, chosen, other, in_blocks-next, in_blocks-before, in_blocks-end}
 use Rattle.hibitset.proofs.shared.SharedBitSet.settle.Goals.{then-word-ne0, else-word-ne0}
 use Rattle.hibitset.proofs.shared.SharedBitSet.settle.Goals as goal
-
-pub put_block-requires-clause-held : goal.put_block-requires-clause-held
-put_block-requires-clause-held c = λ index low is.
-    let view : SeatView = c.args.seat.seat.me.0 in
-    let words : List ℕ = slots_items c.close_with-closed.result.words in
-    let counted = c.args.seat.counted in
-    let few = c.args.seat.few in
-    let test = c.if-seat-lt-ALL_PARTS.false in
-    let known : Settles view words = closed-settles c.args.self.table.shared.key words _ c.args.seat.seat.id view c.close_with-closed.ensures.values.2 (omega (arith, counted, few, test)) c.args.seat.idle in
-    let old_is : has_member c.args.self.bits index ≡ has_member view.old index = c.args.self.same index ∙ ap (λ (set : SetWithRoom). has_member set index) (sym c.requires.2) in
-    in_blocks-held (λ number. get_or words number 0) (has_member c.args.self.bits) c.loop-block.block index (λ was. old-has_bit view words known index low (sym old_is ∙ was)) (sym (c.loop-block.invariant.members index) ∙ is)
 
 pub loop-block-preserved : goal.loop-block-preserved
 loop-block-preserved c =
