@@ -1,8 +1,8 @@
 -- A channel that is kept in blocks: what its readers' places say, and how it goes on as blocks come and go.
-use Rattle.std.proofs.Common.{◌≡◌, inl, inr, ℕ, zero, suc, ◌+◌, ◌-◌, ◌/◌, ◌^◌, ◌<◌, ◌≤◌, min, Bool, true, not, ◌&&◌, List, [], ◌∷◌, ◌++◌, length, map, take, drop, set, get_or, slice_index_or, refl, ap, sym, subst, ◌∙◌, arith}
+use Rattle.std.proofs.Common.{◌≡◌, inl, inr, ℕ, zero, suc, ◌+◌, ◌-◌, ◌/◌, ◌^◌, ◌<◌, ◌≤◌, min, Bool, true, not, List, [], ◌∷◌, ◌++◌, length, map, take, drop, set, get_or, slice_index_or, refl, ap, sym, subst, ◌∙◌, arith}
 use Rattle.std.specs.Int.Count.{ones}
-use Rattle.std.proofs.lemmas.Bool.{cases_lt, and_parts, false≢true, eqb-true, eq-eqb, lt-ltb, le-ltb}
-use Rattle.std.proofs.lemmas.List.{append-nil, append_assoc, get_or-map, get_or_past, length-append, length-map, map-append, take-append-le}
+use Rattle.std.proofs.lemmas.Bool.{cases_lt, and_from, and_parts, false≢true, eqb-true, eq-eqb, lt-ltb, le-ltb}
+use Rattle.std.proofs.lemmas.List.{append-nil, append_assoc, get_or-map, get_or_past, length-append, length-map, map-append, take_all, take-append-le}
 use Rattle.std.proofs.lemmas.List.Elements.{All-from_get_or, All-get_or, All-map, All-set, All-weaker}
 use Rattle.hibitset_sets.proofs.CallerLemmas.{word-count}
 use Rattle.hibitset_sets.specs.Walk.{word_indices}
@@ -37,10 +37,7 @@ module _ {E : Type 0} (index_of : E → ℕ) (same_at : E → ℕ → E) where
   at-event blocks place is = eqb-true _ _ (and_parts _ _ is).1
 
   pub at-from : (blocks : List (Block E)) (place : Place) → place.block ≤ length blocks → place.event ≡ length (all (take place.block blocks)) → IsAt blocks place
-  at-from blocks place within is = both (ap not (le-ltb _ _ within)) (eq-eqb _ _ is)
-    where
-      both : {a b : Bool} → a ≡ true → b ≡ true → (a && b) ≡ true
-      both p q = (λ j. p j && q j)
+  at-from blocks place within is = and_from _ _ (ap not (le-ltb _ _ within)) (eq-eqb _ _ is)
 
   -- the events behind a place are those of the blocks behind it
   pub at-rest : (blocks : List (Block E)) (place : Place) → IsAt blocks place → drop place.event (all blocks) ≡ all (drop place.block blocks)
@@ -65,13 +62,9 @@ module _ {E : Type 0} (index_of : E → ℕ) (same_at : E → ℕ → E) where
 
   -- ---- the end, and blocks that come behind it
 
-  take-whole : {A : Type 0} (xs : List A) → take (length xs) xs ≡ xs
-  take-whole [] = refl
-  take-whole (x ∷ xs) = ap (λ ys. x ∷ ys) (take-whole xs)
-
   pub at-end : (blocks : List (Block E)) (place : Place) → place.block ≡ length blocks → place.event ≡ length (all blocks) → IsAt blocks place
   at-end blocks place block event =
-      at-from blocks place (omega (arith, block)) (event ∙ ap (λ bs. length (all bs)) (sym (ap (λ n. take n blocks) block ∙ take-whole blocks)))
+      at-from blocks place (omega (arith, block)) (event ∙ ap (λ bs. length (all bs)) (sym (ap (λ n. take n blocks) block ∙ take_all (length blocks) blocks (omega arith))))
 
   pub at-more : (blocks more : List (Block E)) (place : Place) → IsAt blocks place → IsAt (blocks ++ more) place
   at-more blocks more place is =
@@ -186,7 +179,7 @@ module _ {E : Type 0} (index_of : E → ℕ) (same_at : E → ℕ → E) where
       reader-rest =
           ap (λ n. drop n (all blocks)) (get_or-map event_place places reader place (length (all blocks)) within ∙ ap event_place (sym here))
           ∙ at-rest blocks place reader-at
-          ∙ ap all (sym (ap (λ n. take n (drop place.block blocks)) (sym (length-drop-take blocks place.block)) ∙ take-whole (drop place.block blocks)))
+          ∙ ap all (sym (ap (λ n. take n (drop place.block blocks)) (sym (length-drop-take blocks place.block)) ∙ take_all (length (drop place.block blocks)) (drop place.block blocks) (omega arith)))
 
       pub reader-count : length (all (take (length blocks - place.block) (drop place.block blocks))) ≡ count - place.event
       reader-count =
@@ -194,7 +187,7 @@ module _ {E : Type 0} (index_of : E → ℕ) (same_at : E → ℕ → E) where
           let event = at-event blocks place reader-at in
           let counted = is.counted in
           let whole : length (all (take (length blocks - place.block) (drop place.block blocks))) ≡ length (all (drop place.block blocks)) =
-          ap (λ bs. length (all bs)) (ap (λ n. take n (drop place.block blocks)) (sym (length-drop-take blocks place.block)) ∙ take-whole (drop place.block blocks)) in
+          ap (λ bs. length (all bs)) (ap (λ n. take n (drop place.block blocks)) (sym (length-drop-take blocks place.block)) ∙ take_all (length (drop place.block blocks)) (drop place.block blocks) (omega arith)) in
           omega (arith, sum, event, counted, whole)
 
       pub reader-most : place.event ≤ count
@@ -295,6 +288,13 @@ module _ {E : Type 0} (at : ℕ → E) (indices : List ℕ) (before : Log E) whe
         ∙ more-more before (map at is.done) (map at word)
         ∙ ap (with_more before) (sym (map-append at is.done word));
   }
+
+  -- where it stops, those of some first indices are written
+  pub writing-stopped : (left : List ℕ) (after : Log E) → IsWriting at indices left before after → (first : ℕ) × (after ≡ with_more before (map at (take first indices)))
+  writing-stopped left after is = (
+    length is.done,
+    is.told ∙ ap (λ done. with_more before (map at done)) (sym (ap (take (length is.done)) (sym is.walk) ∙ take-append-le (length is.done) is.done left (omega arith) ∙ take_all (length is.done) is.done (omega arith))),
+  )
 
   pub writing-last : (left : List ℕ) (after : Log E) → left ≡ [] → IsWriting at indices left before after → after ≡ with_more before (map at indices)
   writing-last left after none is = is.told ∙ ap (λ done. with_more before (map at done)) (sym (append-nil is.done) ∙ ap (λ rest. is.done ++ rest) (sym none) ∙ is.walk)

@@ -1,11 +1,11 @@
 //! A channel of events.
 ghost use Rattle.std.specs.Prelude.{◌≡◌, ◌≢◌, ℕ, ◌∷◌, ◌+◌, ◌-◌, ◌<◌, ◌≤◌, ◌++◌, [], OnOk, OnErr, IfOk, IsOk};
-ghost use Rattle.std.specs.Prelude.{List, length, max, map, is_ok, if◌then◌else◌, true, ◌&&◌, ◌||◌, nat_lt};
+ghost use Rattle.std.specs.Prelude.{List, length, max, map, take, is_ok, if◌then◌else◌, true, ◌&&◌, ◌||◌, nat_lt};
 ghost use Rattle.hibitset_sets.specs.BitSet.{has_member};
 ghost use Rattle.hibitset_sets.specs.Walk.{walk};
 ghost use Rattle.specs_layouts.specs.Blocks.{is_named, same_events, with_events};
-ghost use Rattle.specs_layouts.specs.Channels.{with_event, with_room, with_reader, with_more, after_read, let_go, read_by, since};
-ghost use Rattle.specs_layouts.specs.Channels.{has_readers, IsChannel, IsReader, CaughtUp, log_of};
+ghost use Rattle.specs_layouts.specs.Channels.{with_event, with_room, with_reader, with_more, after_read, let_go};
+ghost use Rattle.specs_layouts.specs.Channels.{read_by, since, has_readers, IsChannel, IsReader, CaughtUp, log_of};
 
 use crate::blocks::{Block, Place, append_all, drop_first, index_all, least, lower};
 use crate::index_event::IndexEvent;
@@ -241,8 +241,8 @@ impl<E: IndexEvent> EventChannel<E> {
         E: Drop,
         ensures ok { OnOk result (log_of self.new
             ≡ with_more (log_of self.old) (map (E.same_at event) (walk (M.members set.now)))) }
-        ensures err { OnErr result ((some : List ℕ) × (log_of self.new
-            ≡ with_more (log_of self.old) (map (E.same_at event) some))) }
+        ensures err { OnErr result ((first : ℕ) × (log_of self.new
+            ≡ with_more (log_of self.old) (map (E.same_at event) (take first (walk (M.members set.now)))))) }
     {
         let mut walk = set.iter();
         while let Some((index, more)) = walk.next_word() {

@@ -1,4 +1,4 @@
-use Rattle.std.proofs.Common.{◌≡◌, ◌+◌, ◌/◌, ◌&&◌, ℕ, Bool, false, length, map, Result, Ok, Err, OnOk, is_err, sym, ap, ◌∙◌}
+use Rattle.std.proofs.Common.{◌≡◌, ◌+◌, ◌/◌, ◌&&◌, ℕ, Bool, false, length, map, refl, arith, Result, Ok, Err, OnOk, is_err, sym, ap, ◌∙◌}
 use Rattle.std.proofs.lemmas.Bool.{true≢false}
 use Rattle.hibitset_sets.specs.BitSet.{has_member}
 use Rattle.hibitset_sets.specs.Walk.{walk}
@@ -96,3 +96,7 @@ returns-clause-shows g c =
           (in-range (has_member c.args.mask.now) (length c.layer0_as_slice-words.result.now) c.args.mask.now.room c.layer0_as_slice-words.ensures.within
           c.layer0_as_slice-words.ensures.room c.layer0_as_slice-words.ensures.limit) c.open-beside.ensures.mask c.open-beside.ensures.values c.change_set.result c.change_set.new.parts c.change_set.ensures.ends,
     )
+
+-- no part is changed where there is no memory for the events
+pub returns-then-is_err-clause-memory : goal.returns-then-is_err-clause-memory
+returns-then-is_err-clause-memory g c = (0, record { before = λ other below. absurd (omega (arith, below)); from = λ other low. refl; same = λ other. refl })
