@@ -54,13 +54,13 @@ filtered-distinct (suc n) a p =
     ]
 
 -- a walk comes to no index twice
-walk-distinct : (p : ℕ → Bool) → IsDistinct eqb (walk p)
+pub walk-distinct : (p : ℕ → Bool) → IsDistinct eqb (walk p)
 unfolding walk
 walk-distinct p = filtered-distinct 16777216 0 p
 
 -- ---- accepted deletions
 
-indices-at : (births : Births) (indices : List ℕ) → indices_of (map (entity_at births) indices) ≡ indices
+pub indices-at : (births : Births) (indices : List ℕ) → indices_of (map (entity_at births) indices) ≡ indices
 indices-at births [] = refl
 indices-at births (index ∷ indices) = ap (λ rest. index ∷ rest) (indices-at births indices)
 
@@ -84,7 +84,7 @@ deleted-killable births kept =
       apart = subst (IsDistinct eqb) (sym (deleted-indices births)) (walk-distinct (fin.contains births.deletions));
     }
 
-some-is : (one : Option Life) (other : Life) → is_some one ≡ true → one ≡ Some (unwrap_or one other)
+pub some-is : (one : Option Life) (other : Life) → is_some one ≡ true → one ≡ Some (unwrap_or one other)
 some-is None other some = cc
 some-is (Some life) other some = refl
 

@@ -16,3 +16,5 @@ pub mod PhaseAliveLemmas
 pub mod AcceptLemmas
 pub mod PhaseCloseLemmas
 pub mod PhaseHandLemmas
+pub mod HolderLemmas
+pub mod ClosureLemmas

@@ -12,3 +12,5 @@ pub mod SharedSeats
 pub mod PhaseSeats
 pub mod SharedLayout
 pub mod Accepting
+pub mod Closures
+pub mod Holders

@@ -3,13 +3,16 @@
 
 mod births;
 pub mod builder;
+mod closures;
 pub mod create_iter;
 mod deaths;
 mod emptying;
 pub mod entities_res;
 pub mod errors;
+mod holders;
 pub mod ids;
 pub mod laws;
+mod least;
 mod parts;
 pub mod phase_core;
 pub mod phase_rule;

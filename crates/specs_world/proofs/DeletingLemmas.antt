@@ -11,7 +11,9 @@ use Rattle.shred_world.specs.Worlds.{Slots, value_at, resource_at, is_of_kinds}
 use Rattle.shred_world.proofs.IdLemmas.{same_id-is, same_id-itself}
 use Rattle.shred_world.proofs.WorldLemmas.{get-insert_here}
 use Rattle.specs_entity.proofs.ListLemmas.{fault-not-killable}
-use Rattle.specs_entity.specs.Births.{Births, CanKill, Continues, LivesBut, is_named, living, all_buried, all_deleted, merged, indices_of}
+use Rattle.std.specs.List.{All}
+use Rattle.specs_entity.specs.Births.{Births, CanKill, Continues, IsAlive, LivesBut, is_named, living, all_buried, all_deleted, merged, indices_of}
+use Rattle.specs_entity.specs.Closures.{RefusesClosure}
 use Rattle.specs_entity.specs.declared.ids.Entity.{Entity}
 use Rattle.specs_entity.specs.declared.errors.Error.{Error}
 use Rattle.specs_entity.specs.declared.errors.Error.TheVariants as variant
@@ -200,7 +202,18 @@ whole-refused births None one_id entities error can refused = refused
 whole-refused births (Some kinds) one_id entities error can refused =
     elim refused [ inl same ↦ inl same | inr death ↦ inr (killable-refused births entities error can death) ]
 
+-- so is the deletion of those that fall with roots that are alive, where the list left the births as they were
+pub fall-refused : (births listed : Births) (kinds : Option (List ℕ)) (one_id : Bool) (roots entities : List Entity) (error : Error) → listed ≡ births → CanKill (living births) entities → All (IsAlive births) roots
+    → RefusesIn (Some listed) kinds one_id (λ b. RefusesDeath b entities) error → RefusesIn (Some births) kinds one_id (λ b. RefusesClosure b roots) error
+fall-refused births listed None one_id roots entities error same can alive refused = refused
+fall-refused births listed (Some kinds) one_id roots entities error same can alive refused =
+    elim refused [ inl one ↦ inl one | inr death ↦ inr (inr (killable-refused births entities error can (subst (λ (b : Births). RefusesDeath b entities error) same death), alive)) ]
+
 -- facts of an `Ok`, and of an `Err`, taken together
+pub if_ok_both : {T E : Type 0} {P Q R : T → Type 0} (r : Result T E) → ((t : T) → P t → Q t → R t) → IfOk r P → IfOk r Q → IfOk r R
+if_ok_both (Ok t) f p q = f t p q
+if_ok_both (Err e) f p q = tt
+
 pub on_ok_all : {T E P Q L C R S : Type 0} (r : Result T E) → (P → Q → L → C → R → S) → OnOk r P → OnOk r Q → OnOk r L → OnOk r C → OnOk r R → OnOk r S
 on_ok_all (Ok t) f p q l c s = f p q l c s
 on_ok_all (Err e) f p q l c s = tt

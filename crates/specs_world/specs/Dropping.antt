@@ -8,6 +8,7 @@ use Rattle.shred_world.specs.ResourceIds.{id_of, same_id}
 use Rattle.shred_world.specs.Worlds.{Slots, value_at, is_of_kinds}
 use Rattle.specs_world.specs.Resources.{Place, held}
 use Rattle.specs_entity.specs.Births.{Births, living, all_buried, all_deleted, all_living, merged, indices_of, is_named, CanKill, Continues, LivesBut, RefusesKill}
+use Rattle.specs_entity.specs.Closures.{IsClosure, RefusesClosure}
 use Rattle.specs_entity.specs.declared.ids.Entity.{Entity}
 use Rattle.specs_entity.specs.declared.errors.Error.{Error}
 use Rattle.specs_entity.specs.declared.errors.Error.TheVariants as variant
@@ -71,6 +72,13 @@ pub record DeletesIn {V : Type 0} (births_at : Place V Births) (table_at : Place
 abbrev pub DeletesAll : {V : Type 0} → Place V Births → Place V (List ℕ) → (V → List ℕ → V → Type 0) → Slots V → Slots V → Type 0
 DeletesAll births_at table_at drops before after = (births : Births) × (held births_at before ≡ Some births) × DeletesIn births_at table_at drops (all_living births) before after
 
+-- the entities that fall with some roots died so
+pub record ClosesIn {V : Type 0} (births_at : Place V Births) (table_at : Place V (List ℕ)) (drops : V → List ℕ → V → Type 0) (roots : List Entity) (pairs : List (Entity × Entity)) (entities : List Entity) (before after : Slots V) : Type 0 where
+  pub births : Births
+  pub alive_in : held births_at before ≡ Some births
+  pub closure : IsClosure births roots pairs entities
+  pub deletes : DeletesIn births_at table_at drops entities before after
+
 -- fresh births became persistent, and the entities whose deletion was accepted died with their parts, ascending by index
 pub record MergesIn {V : Type 0} (births_at : Place V Births) (table_at : Place V (List ℕ)) (drops : V → List ℕ → V → Type 0) (deleted : List Entity) (before after : Slots V) : Type 0 where
   pub births : Births
@@ -101,6 +109,10 @@ RefusesInWorld births_at table_at refuses before = RefusesIn (held births_at bef
 -- what the deletion of entities of a world is refused for
 abbrev pub RefusesDeletion : {V : Type 0} → Place V Births → Place V (List ℕ) → List Entity → Slots V → Error → Type 0
 RefusesDeletion births_at table_at entities = RefusesInWorld births_at table_at (λ births. RefusesDeath births entities)
+
+-- what the deletion of those that fall with some roots is refused for
+abbrev pub RefusesClosureIn : {V : Type 0} → Place V Births → Place V (List ℕ) → List Entity → Slots V → Error → Type 0
+RefusesClosureIn births_at table_at roots = RefusesInWorld births_at table_at (λ births. RefusesClosure births roots)
 
 -- what a merge of a world is refused for, and the deletion of all: without entities or table, or for want of memory
 abbrev pub RefusesMerge : {V : Type 0} → Place V Births → Place V (List ℕ) → Slots V → Error → Type 0

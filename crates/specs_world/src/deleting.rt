@@ -7,6 +7,7 @@ ghost use Rattle.shred_world.specs.ResourceIds.{id_of};
 ghost use Rattle.shred_world.specs.Worlds.{resource_at, AreDistinct};
 ghost use Rattle.specs_entity.specs.Births.{living, all_buried, all_deleted, all_living, merged, indices_of, is_named};
 ghost use Rattle.specs_entity.specs.Births.{Continues, CanKill, LivesBut, RefusesKill};
+ghost use Rattle.specs_entity.specs.Closures.{IsClosure, RefusesClosure};
 ghost use Rattle.specs_entity.specs.declared.errors.Error.TheVariants as refusal;
 ghost use Rattle.specs_layouts.specs.Drops.{ids_of};
 ghost use Rattle.specs_world.specs.Resources.{held, place};
@@ -193,6 +194,36 @@ where
     let entities = births.living_entities()?;
     match kill_registered(world, births, &entities) {
         Ok(()) => Ok(()),
+        Err(error) => Err(error),
+    }
+}
+
+/// Lets the entities die that are out of the world and fall with some roots, with their parts in each registered storage,
+/// and answers them, ascending by index.
+pub(crate) fn close_registered<V: AnyStorage + Drop>(
+    world: &mut World<V>,
+    births: &mut EntitiesRes,
+    roots: &[Entity],
+    pairs: &[(Entity, Entity)],
+) -> Result<Vec<Entity>, Error>
+where
+    MetaTable: Resource<V>,
+    ensures closure { IfOk result (λ entities. IsClosure births.old roots.now pairs.now entities.items) }
+    ensures ok { IfOk result (λ entities. Kills
+        ⟦<MetaTable as Held<V>>⟧.stands_at
+        V.drops entities.items births.old births.new world.old world.new) }
+    ensures rests { OnErr result (Rests V.drops world.old world.new) }
+    ensures same { OnErr result (births.new ≡ births.old) }
+    ensures refused { IfErr result (RefusesIn (Some births.old)
+        (held ⟦<MetaTable as Held<V>>⟧.stands_at world.old) false (λ b. RefusesClosure b roots.now)) }
+    ensures outs { StayOut world.old world.new }
+{
+    let Some(_) = world.try_fetch::<MetaTable>() else {
+        return Err(Error::NotRegistered);
+    };
+    let entities = births.closure(roots, pairs)?;
+    match kill_registered(world, births, &entities) {
+        Ok(()) => Ok(entities),
         Err(error) => Err(error),
     }
 }

@@ -10,8 +10,8 @@ ghost use Rattle.specs_layouts.specs.Parts.{HasNone};
 ghost use Rattle.specs_world.specs.Resources.{Allocates, AllocatesAll, Place, place, held, Becomes, IsNew, Registers};
 ghost use Rattle.specs_world.specs.Resources.{IsPersistent};
 ghost use Rattle.specs_world.specs.Resources.{RefusesBirthIn, RefusesBirthsIn, DeletesLater, IsTakenOut};
-ghost use Rattle.specs_world.specs.Dropping.{Rests, DeletesIn, DeletesAll, MergesIn, DropsComponents};
-ghost use Rattle.specs_world.specs.Dropping.{RefusesDeletion, RefusesMerge};
+ghost use Rattle.specs_world.specs.Dropping.{Rests, ClosesIn, DeletesIn, DeletesAll, MergesIn, DropsComponents};
+ghost use Rattle.specs_world.specs.Dropping.{RefusesClosureIn, RefusesDeletion, RefusesMerge};
 ghost use Rattle.specs_world.specs.Lending.{LendsIn};
 ghost use Rattle.specs_world.specs.Phases.{OpensPhase, ClosesPhase};
 ghost use Rattle.specs_entity.specs.PhaseSeats.{view_at};
@@ -19,7 +19,9 @@ ghost use Rattle.specs_world.specs.Inserting.{PutsPart, KeepsStorage, RefusesPar
 
 use crate::builder::EntityBuilder;
 use crate::bundles::WriteStorage;
-use crate::deleting::{drop_registered, kill_living, kill_registered, merge_registered};
+use crate::deleting::{
+    close_registered, drop_registered, kill_living, kill_registered, merge_registered,
+};
 use crate::held::Held;
 use crate::inserting::{lives, put_part, refusal_of};
 use crate::registering::{enter_there, put_and_enter, register_default};
@@ -192,6 +194,24 @@ where
         ensures ok { OnOk result (DeletesAll entities_at table_at V.drops (slots self.old) (slots self.new)) }
         ensures rests { OnErr result (Rests V.drops (slots self.old) (slots self.new)) }
         ensures refused { IfErr result (RefusesMerge entities_at table_at (slots self.old)) };
+
+    /// Lets the entities die that fall with some roots, with their parts in each registered storage, and answers them, ascending by
+    /// index: the least set of living entities that has the roots and, with each target, its living holders. Each pair is a holder
+    /// and its target; one with an end that isn't alive, by index and generation, counts for nothing.
+    ///
+    /// It costs a look at each pair and what `delete_entities` of the answer costs.
+    ///
+    /// Errors: `NotRegistered`, where the world has no entities or no table of kinds; `WrongGeneration` with the first root that isn't
+    /// alive; `Memory`. All leave parts and births as they were; storages may have more room.
+    fn delete_closure(
+        &mut self,
+        roots: &[Entity],
+        pairs: &[(Entity, Entity)],
+    ) -> Result<Vec<Entity>, Error>
+        ensures ok { IfOk result (λ entities. ClosesIn entities_at table_at V.drops roots.now pairs.now entities.items
+            (slots self.old) (slots self.new)) }
+        ensures rests { OnErr result (Rests V.drops (slots self.old) (slots self.new)) }
+        ensures refused { IfErr result (RefusesClosureIn entities_at table_at roots.now (slots self.old)) };
 
     /// Makes fresh births persistent, lets the entities die whose deletion was accepted, with their parts in each registered storage,
     /// and answers these, ascending by index. Room is made in every storage before the first change.
@@ -453,6 +473,19 @@ where
             return Err(Error::NotRegistered);
         };
         let result = kill_living(self, &mut births);
+        put_in(self, births);
+        result
+    }
+
+    fn delete_closure(
+        &mut self,
+        roots: &[Entity],
+        pairs: &[(Entity, Entity)],
+    ) -> Result<Vec<Entity>, Error> {
+        let Some(mut births) = take_out::<V, EntitiesRes>(self) else {
+            return Err(Error::NotRegistered);
+        };
+        let result = close_registered(self, &mut births, roots, pairs);
         put_in(self, births);
         result
     }

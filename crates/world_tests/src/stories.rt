@@ -39,10 +39,14 @@ pub enum Story {
     LentForWriting,
     /// An entity that is built without parts lives, and has none.
     BuiltBare,
+    /// Those that hold on to a root fall with it, in a ring too; a pair with a dead end counts for nothing.
+    FallenWithOthers,
+    /// A root that is dead is refused, and nobody falls.
+    DeadRoot,
 }
 
 /// Every story.
-pub const STORIES: [Story; 13] = [
+pub const STORIES: [Story; 15] = [
     Story::BuiltWithParts,
     Story::RegisteredLate,
     Story::StaleEntity,
@@ -56,6 +60,8 @@ pub const STORIES: [Story; 13] = [
     Story::TakenOut,
     Story::LentForWriting,
     Story::BuiltBare,
+    Story::FallenWithOthers,
+    Story::DeadRoot,
 ];
 
 /// Whether a story is as it should be.
@@ -74,6 +80,8 @@ pub fn holds(alloc: Global, story: Story) -> Result<bool, Error> {
         Story::TakenOut => taken_out(alloc),
         Story::LentForWriting => lent_for_writing(alloc),
         Story::BuiltBare => built_bare(alloc),
+        Story::FallenWithOthers => fallen_with_others(alloc),
+        Story::DeadRoot => dead_root(alloc),
     }
 }
 
@@ -117,7 +125,7 @@ fn has_speed(world: &World<Value>, entity: Entity) -> Option<bool> {
 }
 
 /// Whether a refusal is that the entity isn't alive, and its index has that generation.
-fn is_wrong_generation(refused: &Result<(), Error>, entity: Entity, generation: i32) -> bool {
+fn is_wrong_generation<T>(refused: &Result<T, Error>, entity: Entity, generation: i32) -> bool {
     match refused {
         Err(Error::WrongGeneration(wrong)) => {
             wrong.entity == entity && wrong.actual_gen.id() == generation
@@ -278,4 +286,39 @@ fn built_bare(alloc: Global) -> Result<bool, Error> {
     let mut world = world_with_healths(alloc)?;
     let entity = build_bare(&mut world)?;
     Ok(world.is_alive(entity) && health_at(&world, entity).is_none())
+}
+
+fn fallen_with_others(alloc: Global) -> Result<bool, Error> {
+    let mut world = world_with_healths(alloc)?;
+    let stale = with_health(&mut world, 0)?;
+    world.delete_entity(stale)?;
+    let root = with_health(&mut world, 1)?;
+    let holder = with_health(&mut world, 2)?;
+    let further = with_health(&mut world, 3)?;
+    let other = with_health(&mut world, 4)?;
+    let pairs = [
+        (further, holder),
+        (holder, root),
+        (root, further),
+        (other, stale),
+        (stale, other),
+    ];
+    let fallen = world.delete_closure(&[further, further], &pairs)?;
+    Ok(
+        stale.id() == root.id()
+            && fallen.as_slice() == [root, holder, further].as_slice()
+            && health_at(&world, root).is_none()
+            && health_at(&world, holder).is_none()
+            && health_at(&world, further).is_none()
+            && health_at(&world, other) == Some(Health(4)),
+    )
+}
+
+fn dead_root(alloc: Global) -> Result<bool, Error> {
+    let mut world = world_with_healths(alloc)?;
+    let stale = with_health(&mut world, 0)?;
+    world.delete_entity(stale)?;
+    let root = with_health(&mut world, 7)?;
+    let refused = world.delete_closure(&[root, stale], &[(root, root)]);
+    Ok(is_wrong_generation(&refused, stale, 2) && health_at(&world, root) == Some(Health(7)))
 }

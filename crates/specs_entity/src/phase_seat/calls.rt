@@ -63,6 +63,7 @@ impl PhaseSeat {
     /// Gives the next entity of the reserve, as `SharedEntities::create` does.
     ///
     /// Errors: `AllowanceSpent` exactly where the seat's allowance is 0, and the seat is as it was.
+    #[inline]
     pub fn create(&mut self) -> Result<Entity, AllowanceSpent>
         ensures phase { StaysIn self.old self.new }
         ensures birth { IfOk result (λ entity. IsBirth (phase_at self.old) self.old.seat entity self.new.seat) }
@@ -78,6 +79,7 @@ impl PhaseSeat {
     ///
     /// Errors: `WrongGeneration` where `is_alive` is false, which is so only of an entity that the seat
     /// doesn't know.
+    #[inline]
     pub fn delete(&mut self, entity: Entity) -> Result<(), WrongGeneration>
         ensures phase { StaysIn self.old self.new }
         ensures births { births_at self.new ≡ births_at self.old }
@@ -92,6 +94,7 @@ impl PhaseSeat {
     }
 
     /// Whether an entity is alive, as `SharedEntities::is_alive` tells.
+    #[inline]
     pub fn is_alive(&mut self, entity: Entity) -> bool
         ensures phase { StaysIn self.old self.new }
         ensures looks { LooksAt (view_at self.old) entity.id (view_at self.new) }

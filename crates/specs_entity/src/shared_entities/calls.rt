@@ -46,6 +46,7 @@ impl SharedEntities {
     /// Gives the next entity of the reserve, which no other call gives; the seat lists it as a birth.
     ///
     /// Errors: `AllowanceSpent` exactly where the seat's allowance is 0, and the seat is as it was.
+    #[inline]
     pub fn create(&self, seat: &mut EntitySeat) -> Result<Entity, AllowanceSpent>
         requires { IsSeatOf self.now seat.old }
         ensures seat { IsSeatOf self.entry.now seat.new }
@@ -84,6 +85,7 @@ impl SharedEntities {
     ///
     /// Errors: `WrongGeneration` where `is_alive` is false, which is so only of an entity that the seat
     /// doesn't know.
+    #[inline]
     pub fn delete(&self, seat: &mut EntitySeat, entity: Entity) -> Result<(), WrongGeneration>
         requires { IsSeatOf self.now seat.old }
         ensures seat { IsSeatOf self.entry.now seat.new }
@@ -126,11 +128,13 @@ impl SharedEntities {
     {
         self.entities.refusal(entity)
     }
+
     /// Whether an entity is alive, at the moment of its one load; none is needed where the entity's
     /// birth was persistent at `share`.
     ///
     /// It is true of each entity that the seat knows, and only of one that was alive at `share` or is of
     /// the reserve. Where it is true the seat knows the entity from then on.
+    #[inline]
     pub fn is_alive(&self, seat: &mut EntitySeat, entity: Entity) -> bool
         requires { IsSeatOf self.now seat.old }
         ensures seat { IsSeatOf self.entry.now seat.new }
