@@ -2,6 +2,9 @@ pub mod TextLemmas
 pub mod ShapeLemmas
 pub mod ReadingLemmas
 pub mod PairLemmas
+pub mod TokenLemmas
+pub mod RowLemmas
+pub mod ApartLemmas
 pub mod CallerLemmas
 pub mod PlaceLemmas
 pub mod IdLemmas

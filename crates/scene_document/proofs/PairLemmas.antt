@@ -32,7 +32,7 @@ AllPast [] _ = Unit {0}
 AllPast (pair ∷ pairs) members = Past pair.0 members × AllPast pairs members
 
 -- a member whose key comes after all others goes in last
-put-last : (key : Name) (value : Json) (members : Members) → Past key members → members_list (put key value members) ≡ members_list members ++ (key, value) ∷ []
+pub put-last : (key : Name) (value : Json) (members : Members) → Past key members → members_list (put key value members) ≡ members_list members ++ (key, value) ∷ []
 put-last key value no_members past = refl
 put-last key value (member other one members) past = ap (λ o. members_list (match_ordering o (member key value (member other one members)) (member other value members) (member other one (put key value members)))) past.0 ∙ ap (λ rest. (other, one) ∷ rest) (put-last key value members past.1)
 

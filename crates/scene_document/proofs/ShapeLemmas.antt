@@ -18,11 +18,11 @@ use Rattle.scene_model.specs.Rulebook.{Book, Access}
 use Rattle.scene_model.specs.declared.store.Store.{Store}
 use Rattle.scene_model.specs.Stores.{store_named}
 use Rattle.scene_document.specs.Drafts.{Draft, DraftPart, DraftEntity, DraftEntry, DraftCommand, only_member, each, part_under, read_or, members_list, keys_within, document_keys, whole, whole_32, entities_from, globals_from, entries_from, commands_from, global_under, draft_found, draft_from}
-use Rattle.scene_document.specs.DraftViews.{named, plain_entity, plain_draft, plain_list, IsPlaced, IsAdmitted, IsOfBook, EntryIsMade, AreMade, IsOther, Differ, AreApart, IsReadable, IsDraft}
+use Rattle.scene_document.specs.DraftViews.{named, plain_entity, plain_draft, plain_list, IsPlaced, IsAdmitted, IsPart, IsEntity, IsOfBook, EntryIsMade, AreMade, IsOther, Differ, AreApart, IsReadable, IsDraft}
 use Rattle.serde_json.specs.declared.value.Value.{Value}
 use Rattle.serde_json.specs.Data.{null, boolean, number, string, array, object, Members}
 use Rattle.serde_json.specs.Find.{as_str, as_object}
-use Rattle.scene_document.specs.ShapeWords.{members_seen, draft_in, IsPart, IsEntity, IsEntry, IsAsked, IsKnownAt, IsReadUpTo, IsOtherKey, KeysDiffer}
+use Rattle.scene_document.specs.ShapeWords.{members_seen, draft_in, IsEntry, IsAsked, IsKnownAt, IsReadUpTo, IsOtherKey, KeysDiffer}
 
 -- ---- names
 
@@ -205,6 +205,17 @@ draft_of next entities globals entries frames commands workers store =
     option_map (λ store. record { next = next; entities = entities; globals = globals; entries = entries; frames = frames; commands = commands; workers = workers; store = store })
     store) workers) commands) frames) entries) globals) entities) next
 
+none_listed : (next : Option ℕ) (entities : Option (List DraftEntity)) (globals : Option (List (Option (Name × Json)))) (entries : Option (List DraftEntry)) (frames : Option ℕ) (commands : Option (List (List DraftCommand))) (workers : Option ℕ) (store : Option Name) → entities ≡ None → draft_of next entities globals entries frames commands workers store ≡ None
+none_listed None entities globals entries frames commands workers store is = refl
+none_listed (Some a) None globals entries frames commands workers store is = refl
+none_listed (Some a) (Some b) globals entries frames commands workers store is = absurd cc
+
+none_globals : (next : Option ℕ) (entities : Option (List DraftEntity)) (globals : Option (List (Option (Name × Json)))) (entries : Option (List DraftEntry)) (frames : Option ℕ) (commands : Option (List (List DraftCommand))) (workers : Option ℕ) (store : Option Name) → globals ≡ None → draft_of next entities globals entries frames commands workers store ≡ None
+none_globals None entities globals entries frames commands workers store is = refl
+none_globals (Some a) None globals entries frames commands workers store is = refl
+none_globals (Some a) (Some b) None entries frames commands workers store is = refl
+none_globals (Some a) (Some b) (Some d) entries frames commands workers store is = absurd cc
+
 none_entries : (next : Option ℕ) (entities : Option (List DraftEntity)) (globals : Option (List (Option (Name × Json)))) (entries : Option (List DraftEntry)) (frames : Option ℕ) (commands : Option (List (List DraftCommand))) (workers : Option ℕ) (store : Option Name) → entries ≡ None → draft_of next entities globals entries frames commands workers store ≡ None
 none_entries None entities globals entries frames commands workers store is = refl
 none_entries (Some a) None globals entries frames commands workers store is = refl
@@ -252,6 +263,12 @@ none_store (Some a) (Some b) (Some d) (Some e) (Some f) (Some g) (Some h) (Some 
 
 -- there is no document where one of its fields is none
 module _ (book : Book) (next entities globals systems frames commands workers store : Option Json) where
+  pub no_listed : option_and_then (entities_from book) entities ≡ None → draft_found book next entities globals systems frames commands workers store ≡ None
+  no_listed is = none_listed (option_and_then whole next) (option_and_then (entities_from book) entities) (read_or [] (globals_from book) globals) (read_or [] (entries_from book) systems) (read_or 0 whole_32 frames) (read_or [] (commands_from book) commands) (read_or 1 whole workers) (read_or (codes "vec") as_str store) is
+
+  pub no_globals : read_or [] (globals_from book) globals ≡ None → draft_found book next entities globals systems frames commands workers store ≡ None
+  no_globals is = none_globals (option_and_then whole next) (option_and_then (entities_from book) entities) (read_or [] (globals_from book) globals) (read_or [] (entries_from book) systems) (read_or 0 whole_32 frames) (read_or [] (commands_from book) commands) (read_or 1 whole workers) (read_or (codes "vec") as_str store) is
+
   pub no_entries : read_or [] (entries_from book) systems ≡ None → draft_found book next entities globals systems frames commands workers store ≡ None
   no_entries is = none_entries (option_and_then whole next) (option_and_then (entities_from book) entities) (read_or [] (globals_from book) globals) (read_or [] (entries_from book) systems) (read_or 0 whole_32 frames) (read_or [] (commands_from book) commands) (read_or 1 whole workers) (read_or (codes "vec") as_str store) is
 

@@ -50,6 +50,15 @@ abbrev pub IsAdmitted : {D : Type 0} → (D → Part) → Book → Option (ℕ �
 IsAdmitted part_of book None = Unit {0}
 IsAdmitted part_of book (Some pair) = book.admits (name_at book.part_names pair.0) (part_of pair.1) ≡ true
 
+-- a part that is known is at the place of its kind, and of its kind
+pub record IsPart {D : Type 0} (part_of : D → Part) (book : Book) (part : Option (ℕ × D)) : Type 0 where
+  pub placed : IsPlaced (length book.part_names) part
+  pub admitted : IsAdmitted part_of book part
+
+-- so are all parts of an entity
+abbrev pub IsEntity : {D : Type 0} → (D → Part) → Book → EntityDraft D → Type 0
+IsEntity part_of book entity = All (IsPart part_of book) entity.parts.items
+
 -- what is known of a made system
 abbrev pub facts_of : {S : Type 0} → MadeDraft S → Facts
 facts_of made = record { access = access_of made.accessor; time = units_of made.time }

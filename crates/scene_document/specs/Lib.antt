@@ -4,6 +4,8 @@ pub mod Texts
 pub mod DraftViews
 pub mod ShapeWords
 pub mod Documents
+pub mod Apart
+pub mod TokenWords
 pub mod Openings
 pub mod Loading
 pub mod Names

@@ -1,5 +1,5 @@
 -- What the readers of a document's shape ensure; no public clause cites this.
-use Rattle.std.specs.Prelude.{◌≡◌, ◌<◌, ℕ, true, false, List, [], ◌∷◌, ◌++◌, length, map, String, codes, Option, Some, None, option_map, Result, MatchResult, All}
+use Rattle.std.specs.Prelude.{◌≡◌, ◌<◌, ℕ, true, false, List, [], ◌∷◌, ◌++◌, length, map, String, codes, Option, Some, None, option_map, option_and_then, Result, MatchResult, All}
 use Rattle.std.specs.declared.alloc.Global.{Global}
 use Rattle.std.specs.Str.{bytes_eq}
 use Rattle.serde_json.specs.declared.value.Value.{Value}
@@ -7,14 +7,15 @@ use Rattle.serde_json.specs.Find.{get}
 use Rattle.serde_json.specs.View.{items_view, members_view}
 use Rattle.scene_model.specs.declared.reading.ReadError.{ReadError}
 use Rattle.scene_model.specs.declared.reading.ReadError.TheVariants.{Shape}
+use Rattle.scene_document.specs.declared.draft.DocumentDraft.{DocumentDraft}
 use Rattle.scene_document.specs.declared.draft.EntityDraft.{EntityDraft}
 use Rattle.scene_document.specs.declared.draft.MadeDraft.{MadeDraft}
 use Rattle.scene_document.specs.declared.draft.EntryDraft.{EntryDraft}
 use Rattle.scene_document.specs.declared.draft.CommandDraft.{CommandDraft}
 use Rattle.scene_model.specs.Parts.{Json, Name, Part, is_among, name_at}
 use Rattle.scene_model.specs.Rulebook.{Book, Access}
-use Rattle.scene_document.specs.Drafts.{Draft, DraftEntry, items_list, members_list, each, system_found, draft_found}
-use Rattle.scene_document.specs.DraftViews.{IsPlaced, IsAdmitted, IsMadeAs, IsOfBook, IsMadeIfKnown, EntryIsMade, plain_asked, IsLawfulDraft}
+use Rattle.scene_document.specs.Drafts.{Draft, DraftEntry, items_list, members_list, each, entities_from, system_found, draft_found}
+use Rattle.scene_document.specs.DraftViews.{plain_entity, IsEntity, IsMadeAs, IsOfBook, IsMadeIfKnown, EntryIsMade, AreMade, plain_asked, IsLawfulDraft, IsDraft}
 
 -- the items of a list of values
 abbrev pub items_seen : List Value → List Json
@@ -37,15 +38,6 @@ pub record IsKnownAt (name : Name) (names : List Name) (place : ℕ) : Type 0 wh
   pub known : is_among name names ≡ true
   pub within : place < length names
   pub is_name : name_at names place ≡ name
-
--- a part that is known is at the place of its kind, and of its kind
-pub record IsPart {D : Type 0} (part_of : D → Part) (book : Book) (part : Option (ℕ × D)) : Type 0 where
-  pub placed : IsPlaced (length book.part_names) part
-  pub admitted : IsAdmitted part_of book part
-
--- so are all parts of an entity
-abbrev pub IsEntity : {D : Type 0} → (D → Part) → Book → EntityDraft D → Type 0
-IsEntity part_of book entity = All (IsPart part_of book) entity.parts.items
 
 -- a command asks for what the rules know
 abbrev pub IsAsked : {D : Type 0} → (D → Part) → Book → CommandDraft D → Type 0
@@ -80,6 +72,21 @@ KeysDiffer (first ∷ members) = IsOtherKey first.0 members × KeysDiffer member
 abbrev pub entry_in : Book → Json → Option DraftEntry
 entry_in book json = system_found book (get (codes "kind") json) (get (codes "name") json) (get (codes "after") json) (get (codes "config") json) (get (codes "local") json)
 
+-- a document, of an object's members and of what was found for its entities
+abbrev pub draft_around : Book → Json → Option Json → Option Draft
+draft_around book json entities = draft_found book (get (codes "next") json) entities (get (codes "globals") json) (get (codes "systems") json) (get (codes "frames") json) (get (codes "commands") json) (get (codes "workers") json) (get (codes "store") json)
+
 -- a document, of an object's members
 abbrev pub draft_in : Book → Json → Option Draft
-draft_in book json = draft_found book (get (codes "next") json) (get (codes "entities") json) (get (codes "globals") json) (get (codes "systems") json) (get (codes "frames") json) (get (codes "commands") json) (get (codes "workers") json) (get (codes "store") json)
+draft_in book json = draft_around book json (get (codes "entities") json)
+
+-- entities are what is read of what was found
+pub record AreRead {D : Type 0} (part_of : D → Part) (book : Book) (found : Option Json) (entities : List (EntityDraft D)) : Type 0 where
+  pub read : option_and_then (entities_from book) found ≡ Some (map (plain_entity part_of book.part_names) entities)
+  pub known : All (IsEntity part_of book) entities
+
+-- the code's draft of a document is read, or there is none; want of memory says nothing
+abbrev pub ReadsDraft : {D G S : Type 0} → (D → Part) → (G → Json) → (S → Name) → (S → Json) → (S → Access) → (S → ℕ) → (S → Type 0) → Book → Option Draft → Result (DocumentDraft D G S) ReadError → Type 0
+ReadsDraft part_of global_of kind_of config_of declared said_time made_by book expected result = MatchResult result
+    (λ draft. (plain : Draft) × (expected ≡ Some plain) × IsDraft part_of global_of kind_of config_of book plain draft × AreMade declared said_time made_by draft.entries.items)
+    (λ error. error ≡ Shape → expected ≡ None)

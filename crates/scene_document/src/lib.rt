@@ -11,10 +11,12 @@ mod names;
 mod refusal;
 mod shape;
 mod text;
+mod tokens;
 
 pub use commands::commands_of;
 pub use draft::{CommandDraft, DocumentDraft, EntityDraft, EntryDraft, MadeDraft, SystemDraft};
-pub use load::read_document;
+pub use load::{read_document, read_document_with};
 pub use loaded::{Limits, LoadError};
-pub use shape::read_draft;
+pub use shape::{read_draft, read_draft_with};
 pub use text::{JsonError, has_float, read_json};
+pub use tokens::{ApartDocument, read_apart};

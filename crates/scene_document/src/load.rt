@@ -4,11 +4,13 @@ ghost use Rattle.serde_json.specs.View.{view};
 ghost use Rattle.scene_document.specs.Drafts.{Draft};
 ghost use Rattle.scene_document.specs.DraftViews.{IsDraft, AreMade};
 ghost use Rattle.scene_document.specs.Documents.{document_from};
+ghost use Rattle.scene_document.specs.Apart.{IsApart};
+ghost use Rattle.scene_model.specs.Parts.{Json};
 ghost use Rattle.scene_document.specs.Loading.{IsNotLoaded};
 
 use crate::loaded::{Limits, LoadError};
 use crate::refusal::refusal;
-use crate::{DocumentDraft, has_float, read_draft};
+use crate::{DocumentDraft, EntityDraft, has_float, read_draft, read_draft_with};
 use scene_model::{DocRefusal, DocumentRules, ReadError};
 use serde_json::Value;
 use std::alloc::Global;
@@ -33,6 +35,36 @@ pub fn read_document<'a, R: DocumentRules>(
         return Err(LoadError::Document(DocRefusal::NotWhole));
     }
     let draft = match read_draft(alloc, rules, value) {
+        Ok(draft) => draft,
+        Err(ReadError::Shape) => return Err(LoadError::Document(DocRefusal::WrongShape)),
+        Err(ReadError::Memory) => return Err(LoadError::Memory),
+    };
+    match refusal(alloc, rules, limits, &draft)? {
+        Some(found) => Err(LoadError::Document(found)),
+        None => Ok(draft),
+    }
+}
+
+/// The draft of the document whose entities stand apart and were read, where no refusal stands: what they say, and the
+/// rest of its JSON with null in their place.
+///
+/// Errors: those of `read_document`.
+pub fn read_document_with<'a, R: DocumentRules>(
+    alloc: Global,
+    rules: &R,
+    limits: Limits,
+    rest: &'a Value,
+    entities: Vec<EntityDraft<R::Data>>,
+) -> Result<DocumentDraft<'a, R::Data, R::Global, R::System>, LoadError>
+    ensures { (json : Json) → IsApart R.part_of (R.book rules.now) json (view rest.now) entities.items
+        → MatchResult result
+        (λ draft. (plain : Draft)
+        × (document_from (R.book rules.now) limits.indices json ≡ Ok plain)
+        × IsDraft R.part_of R.global_of R.kind_of R.config_of (R.book rules.now) plain draft
+        × AreMade R.declared R.said_time (R.made_by rules.now) draft.entries.items)
+        (IsNotLoaded (R.book rules.now) limits.indices json) }
+{
+    let draft = match read_draft_with(alloc, rules, rest, entities) {
         Ok(draft) => draft,
         Err(ReadError::Shape) => return Err(LoadError::Document(DocRefusal::WrongShape)),
         Err(ReadError::Memory) => return Err(LoadError::Memory),

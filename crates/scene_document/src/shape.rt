@@ -1,12 +1,14 @@
 //! The shape of a document: its JSON as a draft.
-ghost use Rattle.std.specs.Prelude.{◌≡◌, None, Some, MatchResult};
+ghost use Rattle.std.specs.Prelude.{◌≡◌, Option, None, Some, MatchResult};
 ghost use Rattle.serde_json.specs.View.{view};
 ghost use Rattle.scene_document.specs.Drafts.{Draft, draft_from, document_keys, keys_within};
 ghost use Rattle.scene_document.specs.DraftViews.{IsDraft, AreMade};
-ghost use Rattle.scene_document.specs.ShapeWords.{members_seen};
+ghost use Rattle.scene_document.specs.Apart.{IsApart};
+ghost use Rattle.scene_document.specs.ShapeWords.{members_seen, draft_around, AreRead, ReadsDraft};
+ghost use Rattle.scene_model.specs.Parts.{Json};
 ghost use Rattle.scene_model.specs.declared.reading.ReadError.TheVariants.{Shape};
 
-use crate::draft::DocumentDraft;
+use crate::draft::{DocumentDraft, EntityDraft};
 use scene_model::{DocumentRules, ReadError};
 use serde_json::{Map, Value};
 use std::alloc::Global;
@@ -41,10 +43,51 @@ pub fn read_draft<'a, R: DocumentRules>(
     if !has_document_keys(members) {
         return Err(ReadError::Shape);
     }
+    let entities = read_entities(alloc, rules, value.get("entities"))?;
+    read_around(alloc, rules, value, entities)
+}
+
+/// The draft that a JSON is whose entities stand apart and were read: what they say, and the rest of the JSON.
+///
+/// Errors: `Shape` where it is none; `Memory`.
+pub fn read_draft_with<'a, R: DocumentRules>(
+    alloc: Global,
+    rules: &R,
+    rest: &'a Value,
+    entities: Vec<EntityDraft<R::Data>>,
+) -> Result<DocumentDraft<'a, R::Data, R::Global, R::System>, ReadError>
+    ensures { (json : Json) → IsApart R.part_of (R.book rules.now) json (view rest.now) entities.items
+        → MatchResult result
+        (λ draft. (plain : Draft) × (draft_from (R.book rules.now) json ≡ Some plain)
+        × IsDraft R.part_of R.global_of R.kind_of R.config_of (R.book rules.now) plain draft
+        × AreMade R.declared R.said_time (R.made_by rules.now) draft.entries.items)
+        (λ error. error ≡ Shape → draft_from (R.book rules.now) json ≡ None) }
+{
+    let Some(members) = rest.as_object() else {
+        return Err(ReadError::Shape);
+    };
+    if !has_document_keys(members) {
+        return Err(ReadError::Shape);
+    }
+    read_around(alloc, rules, rest, entities)
+}
+
+/// The draft of a document whose keys are known, of its entities and of what stands under its other keys.
+///
+/// Errors: `Shape` where one of them has not its shape; `Memory`.
+fn read_around<'a, R: DocumentRules>(
+    alloc: Global,
+    rules: &R,
+    value: &'a Value,
+    entities: Vec<EntityDraft<R::Data>>,
+) -> Result<DocumentDraft<'a, R::Data, R::Global, R::System>, ReadError>
+    ensures { (found : Option Json) → AreRead R.part_of (R.book rules.now) found entities.items
+        → ReadsDraft R.part_of R.global_of R.kind_of R.config_of R.declared R.said_time (R.made_by rules.now)
+        (R.book rules.now) (draft_around (R.book rules.now) (view value.now) found) result }
+{
     let Some(next) = read_whole(value.get("next")) else {
         return Err(ReadError::Shape);
     };
-    let entities = read_entities(alloc, rules, value.get("entities"))?;
     let globals = read_globals(alloc, rules, value.get("globals"))?;
     let entries = read_entries(alloc, rules, value.get("systems"))?;
     let Some(frames) = read_frames(value.get("frames")) else {

@@ -3,8 +3,8 @@ ghost use Rattle.std.specs.Prelude.{[], map, All, length, option_and_then};
 ghost use Rattle.serde_json.specs.View.{view};
 ghost use Rattle.scene_document.specs.Drafts.{each, part_under, parts_from, entity_from, entities_from, global_under};
 ghost use Rattle.scene_document.specs.Drafts.{globals_from, read_or};
-ghost use Rattle.scene_document.specs.DraftViews.{seen, named, plain_entity, IsPlaced};
-ghost use Rattle.scene_document.specs.ShapeWords.{items_seen, members_seen, Reads, IsPart, IsEntity};
+ghost use Rattle.scene_document.specs.DraftViews.{seen, named, plain_entity, IsPlaced, IsPart, IsEntity};
+ghost use Rattle.scene_document.specs.ShapeWords.{items_seen, members_seen, Reads};
 
 use crate::draft::EntityDraft;
 use crate::shape::fields::{has_only_keys, known_place, read_whole};

@@ -1,7 +1,7 @@
 use Rattle.std.proofs.Common.{drop}
 use Rattle.scene_document.specs.Drafts.{entity_from}
-use Rattle.scene_document.specs.DraftViews.{plain_entity}
-use Rattle.scene_document.specs.ShapeWords.{items_seen, IsEntity, IsReadUpTo}
+use Rattle.scene_document.specs.DraftViews.{plain_entity, IsEntity}
+use Rattle.scene_document.specs.ShapeWords.{items_seen, IsReadUpTo}
 use Rattle.scene_document.proofs.shape.entities.read_each_entity.Given as goal
 
 abbrev pub invariant-loop-value : goal.invariant-loop-value

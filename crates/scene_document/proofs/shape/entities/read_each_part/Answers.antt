@@ -1,8 +1,8 @@
 use Rattle.std.proofs.Common.{◌≡◌, Some, ap, subst}
 use Rattle.serde_json.specs.View.{view}
 use Rattle.scene_document.specs.Drafts.{part_under}
-use Rattle.scene_document.specs.DraftViews.{named}
-use Rattle.scene_document.specs.ShapeWords.{members_seen, IsPart}
+use Rattle.scene_document.specs.DraftViews.{named, IsPart}
+use Rattle.scene_document.specs.ShapeWords.{members_seen}
 use Rattle.scene_document.proofs.ShapeLemmas.{read_turn}
 use Rattle.scene_document.proofs.shape.entities.read_each_part.Goals as goal
 

@@ -1,6 +1,6 @@
 use Rattle.scene_document.specs.Drafts.{part_under}
-use Rattle.scene_document.specs.DraftViews.{named}
-use Rattle.scene_document.specs.ShapeWords.{members_seen, IsPart, IsReadUpTo}
+use Rattle.scene_document.specs.DraftViews.{named, IsPart}
+use Rattle.scene_document.specs.ShapeWords.{members_seen, IsReadUpTo}
 use Rattle.scene_document.proofs.shape.entities.read_each_part.Given as goal
 
 abbrev pub invariant-loop-kind : goal.invariant-loop-kind
