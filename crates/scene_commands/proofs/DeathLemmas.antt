@@ -1,7 +1,7 @@
 -- The marker of an entity is taken out, its id is forgotten, and the entity dies.
 use Rattle.std.proofs.Common.{◌≡◌, ◌≤◌, ℕ, Bool, true, false, cond, eqb, ◌||◌, [], ◌∷◌, Option, Some, None, refl, ap, sym, ◌∙◌, subst}
 use Rattle.std.specs.Prelude.{IsSome, option_and_then}
-use Rattle.std.specs.Option.{option_flatten, unwrap_or}
+use Rattle.std.specs.Option.{option_flatten, option_map_or, unwrap_or}
 use Rattle.std.specs.FinMap as slots
 use Rattle.std.proofs.lemmas.Bool.{true≢false, eqb-true, eq-eqb}
 use Rattle.shred_world.specs.declared.resource_id.ResourceId.{ResourceId}
@@ -11,11 +11,13 @@ use Rattle.shred_world.specs.Bundles.{readable, slot_of}
 use Rattle.shred_world.proofs.CallerLemmas.{ids_total, get-insert_here}
 use Rattle.specs_entity.specs.Births.{Births, count, living, none_born, is_named, LivesBut, Continues}
 use Rattle.specs_entity.specs.Life.{LifeAt}
+use Rattle.specs_layouts.specs.Channels.{no_log}
 use Rattle.specs_layouts.specs.Parts.{Puts}
+use Rattle.specs_layouts.specs.Shows.{Shows}
 use Rattle.specs_markers.specs.Simple.{Noting, noted_under, none_noted}
-use Rattle.scene_world.specs.Standing.{Kinds, roll_of}
+use Rattle.scene_world.specs.Standing.{Kinds, roll_of, marker_in, marker_events_in, marker_emits_in}
 use Rattle.scene_world.specs.Changes.{but_at}
-use Rattle.scene_world.proofs.CallerLemmas.{noted-forgotten}
+use Rattle.scene_world.proofs.CallerLemmas.{noted-forgotten, shows-seen}
 use Rattle.scene_commands.specs.Acts.{seen_of}
 use Rattle.scene_commands.specs.Deaths.{Forgets, LetsDie}
 use Rattle.scene_commands.specs.Elsewhere.{SetsMark}
@@ -61,13 +63,19 @@ module _ {V : Type 0} (kinds : Kinds V) (w : Slots V) (v : V) where
 module _ {V : Type 0} (kinds : Kinds V) (w later : Slots V) (was back : V) where
   -- markers of which one is another, or is taken out
   pub sets-mark : seen_of w kinds.markers_id ≡ Some was → seen_of later kinds.markers_id ≡ Some back → ((other : ResourceId) → same_id other kinds.markers_id ≡ false → seen_of later other ≡ seen_of w other)
-      → (before after : ℕ → Option ℕ) → ((at : ℕ) → kinds.marker was at ≡ before at) → ((at : ℕ) → kinds.marker back at ≡ after at) → (index : ℕ) (given : Option ℕ) → Puts before index given after
+      → (before after : ℕ → Option ℕ) → ((at : ℕ) → kinds.marker was at ≡ before at) → ((at : ℕ) → kinds.marker back at ≡ after at) → (index : ℕ) (given : Option ℕ) → Shows kinds.marker kinds.marker_events kinds.marker_emits was back → Puts before index given after
       → SetsMark kinds index given (seen_of w) (seen_of later)
-  sets-mark stood stands others before after old new index given puts = record {
+  sets-mark stood stands others before after old new index given shown puts = record {
     marker = λ at.
         ap (λ held. option_and_then (λ v. kinds.marker v at) held) stands ∙ new at ∙ puts-at before after index given puts at
         ∙ ap (λ marker. cond (eqb at index) given marker) (sym (ap (λ held. option_and_then (λ v. kinds.marker v at) held) stood ∙ old at));
     there = subst (λ held. IsSome held) (sym stands) refl;
+    shown = shows-seen kinds.marker kinds.marker_events kinds.marker_emits (marker_in kinds) (marker_events_in kinds) (marker_emits_in kinds) was back
+        (seen_of w kinds.markers_id) (seen_of later kinds.markers_id)
+        (λ at same. ap (λ held. option_and_then (λ v. kinds.marker v at) held) stands ∙ same ∙ sym (ap (λ held. option_and_then (λ v. kinds.marker v at) held) stood))
+        (ap (λ held. option_map_or kinds.marker_events held no_log) stood) (ap (λ held. option_map_or kinds.marker_events held no_log) stands)
+        (ap (λ held. option_map_or kinds.marker_emits held false) stood) (ap (λ held. option_map_or kinds.marker_emits held false) stands)
+        shown;
     others = others;
   }
 

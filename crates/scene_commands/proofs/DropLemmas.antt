@@ -13,6 +13,8 @@ use Rattle.scene_world.specs.Stored.{Stored}
 use Rattle.scene_world.specs.Standing.{Sight, Kinds, column_of, column_in}
 use Rattle.scene_world.specs.Lent.{parts, StandApart}
 use Rattle.scene_world.specs.Changes.{but_at}
+use Rattle.scene_world.specs.Telling.{ShowsKind}
+use Rattle.scene_world.proofs.CallerLemmas.{kind-stays, kind-both}
 use Rattle.scene_commands.specs.Acts.{SetsColumn}
 use Rattle.scene_commands.specs.Deaths.{DropsParts}
 
@@ -23,6 +25,15 @@ twice index at column = by (eqb at index)
     by : (b : Bool) → cond b None (cond b None (column at)) ≡ cond b None (column at)
     by true = refl
     by false = refl
+
+-- nothing is taken out yet
+pub drops-none : {V : Type 0} (kinds : Kinds V) (index : ℕ) (w : Sight V) → DropsParts kinds index [] w w
+drops-none kinds index w = record {
+  gone = λ kind known among at. absurd (true≢false (sym among));
+  stay = λ kind known among at. refl;
+  others = λ id away. refl;
+  shown = λ kind known. kind-stays kinds kind w w refl;
+}
 
 -- one kind more is taken out
 module _ {V : Type 0} (kinds : Kinds V) (apart : StandApart kinds) (index : ℕ) (names : List Name) (w between later : Sight V) (drops : DropsParts kinds index names w between)
@@ -46,8 +57,13 @@ module _ {V : Type 0} (kinds : Kinds V) (apart : StandApart kinds) (index : ℕ)
     gone = λ other is among at. gone other is (bytes_eq other kind) refl (is_among other names) refl (sym (among-more other) ∙ among) at;
     stay = λ other is among at. stay other is (bytes_eq other kind) refl (is_among other names) refl (sym (among-more other) ∙ among) at;
     others = λ id away. takes.others id (away kind known) ∙ drops.others id away;
+    shown = λ other is. kind-both kinds other w between later (drops.shown other is) (shown other is (bytes_eq other kind) refl);
   }
     where
+      shown : (other : Name) → is_among other kinds.part_names ≡ true → (b : Bool) → bytes_eq other kind ≡ b → ShowsKind kinds other between later
+      shown other is true same = subst (λ n. ShowsKind kinds n between later) (sym ((bytes_eq-Decides other kind).0 same)) takes.shown
+      shown other is false differ = kind-stays kinds other between later (takes.others (kinds.part_id other) (apart (parts other) (parts kind) is known ∙ differ))
+
       gone : (other : Name) → is_among other kinds.part_names ≡ true → (b : Bool) → bytes_eq other kind ≡ b → (c : Bool) → is_among other names ≡ c → (is_among other names || (bytes_eq other kind || false)) ≡ true
           → (at : ℕ) → column_of kinds later other at ≡ but_at index None (column_of kinds w other) at
       gone other is true same c was e at = subst (λ n. column_of kinds later n at ≡ but_at index None (column_of kinds w n) at) (sym ((bytes_eq-Decides other kind).0 same)) (here-gone at)

@@ -10,7 +10,8 @@ use Rattle.scene_model.specs.Parts.{Name, Part, is_among, under}
 use Rattle.scene_model.specs.Queues.{plain_entry}
 use Rattle.scene_world.specs.Standing.{Sight, Kinds, roll_of, column_of, column_in}
 use Rattle.scene_world.specs.Lent.{parts, entities, markers, allocator, StandApart}
-use Rattle.scene_world.proofs.CallerLemmas.{same-roll}
+use Rattle.scene_world.specs.Telling.{ShowsKind}
+use Rattle.scene_world.proofs.CallerLemmas.{same-roll, kind-stays, kind-both}
 use Rattle.scene_commands.specs.Acts.{AreUnder}
 use Rattle.scene_commands.specs.Newborns.{IsGiven, GivesPart, GivesParts}
 
@@ -63,6 +64,16 @@ under-new part_of entries place d below apart = under-none (get_or entries place
         ∙ ap (λ x. bytes_eq (get_or (map (plain_entry part_of) entries) at (plain_entry part_of d)).0 x.0) (sym (get_or-map (plain_entry part_of) entries place d))
         ∙ apart at place (plain_entry part_of d) lower (omega (arith, size, below))
 
+-- nothing is given yet
+pub gives-none : {V : Type 0} (kinds : Kinds V) (index : ℕ) (w : Sight V) → GivesParts kinds (roll_of kinds w) index [] w w
+gives-none kinds index w = record {
+  here = λ kind known part is. cc;
+  none = λ kind known is. refl;
+  elsewhere = λ kind known at away. refl;
+  others = λ id away. refl;
+  shown = λ kind known. kind-stays kinds kind w w refl;
+}
+
 -- one part more is given
 module _ {V : Type 0} (kinds : Kinds V) (apart : StandApart kinds) (index : ℕ) (given : List (Name × Part)) (w between later : Sight V)
     (gives : GivesParts kinds (roll_of kinds w) index given w between) (kind : Name) (part : Part) (known : is_among kind kinds.part_names ≡ true) (new : under kind given ≡ None)
@@ -93,8 +104,13 @@ module _ {V : Type 0} (kinds : Kinds V) (apart : StandApart kinds) (index : ℕ)
     none = λ other is e. none other is (bytes_eq other kind) refl (under other given) refl e;
     elsewhere = λ other is at away. elsewhere other is at away (bytes_eq other kind) refl;
     others = λ id away. one.puts.sets.others id (away kind known) ∙ gives.others id away;
+    shown = λ other is. kind-both kinds other w between later (gives.shown other is) (shown other is (bytes_eq other kind) refl);
   }
     where
+      shown : (other : Name) → is_among other kinds.part_names ≡ true → (b : Bool) → bytes_eq other kind ≡ b → ShowsKind kinds other between later
+      shown other is true same = subst (λ n. ShowsKind kinds n between later) (sym ((bytes_eq-Decides other kind).0 same)) one.puts.sets.shown
+      shown other is false differ = kind-stays kinds other between later (one.puts.sets.others (kinds.part_id other) (apart (parts other) (parts kind) is known ∙ differ))
+
       here : (other : Name) → is_among other kinds.part_names ≡ true → (p : Part) → (b : Bool) → bytes_eq other kind ≡ b → (o : Option Part) → under other given ≡ o → under other (given ++ (kind, part) ∷ []) ≡ Some p
           → IsGiven (roll_of kinds w) p (column_of kinds later other index)
       here other is p true same o e f =

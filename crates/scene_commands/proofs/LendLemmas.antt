@@ -1,5 +1,6 @@
 -- A world whose value at one id was lent for writing.
 use Rattle.std.proofs.Common.{◌≡◌, ℕ, false, cond, eqb, List, Option, Some, ap, sym, ◌∙◌, subst}
+use Rattle.std.specs.Option.{option_map_or}
 use Rattle.std.specs.Prelude.{option_and_then}
 use Rattle.std.specs.FinMap as slots
 use Rattle.std.specs.Option.{option_flatten, option_copied_mut, OnSome}
@@ -13,11 +14,18 @@ use Rattle.shred_world.proofs.WorldLemmas.{on_some}
 use Rattle.specs_entity.specs.Life.{LifeAt}
 use Rattle.scene_model.specs.Parts.{Name, Part}
 use Rattle.scene_world.specs.Stored.{Stored}
-use Rattle.scene_world.specs.Standing.{Kinds}
+use Rattle.scene_world.specs.Standing.{Kinds, column_in, events_in, emits_in}
+use Rattle.specs_layouts.specs.Channels.{no_log}
+use Rattle.specs_layouts.specs.Shows.{Shows}
+use Rattle.scene_world.proofs.CallerLemmas.{shows-seen}
 use Rattle.scene_world.specs.Changes.{but_at}
 use Rattle.scene_world.specs.Putting.{PutsIn}
 use Rattle.scene_commands.specs.Acts.{seen_of, SetsColumn, PutsPart}
+use Rattle.scene_commands.specs.Watching.{GainsWatcher, WatchesKind, ReadsAll, ReadsKind}
+use Rattle.scene_commands.specs.declared.watching.Watcher.{Watcher}
 use Rattle.scene_commands.proofs.LookLemmas.{seen-value}
+use Rattle.scene_commands.proofs.WatchLemmas.{watcher-seen}
+use Rattle.scene_commands.proofs.CatchLemmas.{reads-seen}
 
 module _ {V : Type 0} (w later : Slots V) (id : ResourceId) (was left : V) (stood : value_at w id ≡ Some was) (leaves : later ≡ slots.insert w id (Some left)) where
   -- what was there, and what is there now
@@ -47,13 +55,56 @@ module _ {V : Type 0} (kinds : Kinds V) (w later : Slots V) (kind : Name) (id : 
   leaves : later ≡ slots.insert w (kinds.part_id kind) (Some left)
   leaves = on_some lent value _ is puts_back ∙ ap (λ i. slots.insert w i (Some left)) at_kind
 
+  -- what its events show, those of the kind show in the world
+  shown-there : Shows (kinds.stored kind) (kinds.events kind) (kinds.emits kind) was left
+      → Shows (column_in kinds kind) (events_in kinds kind) (emits_in kinds kind) (seen_of w (kinds.part_id kind)) (seen_of later (kinds.part_id kind))
+  shown-there = shows-seen (kinds.stored kind) (kinds.events kind) (kinds.emits kind) (column_in kinds kind) (events_in kinds kind) (emits_in kinds kind) was left
+      (seen_of w (kinds.part_id kind)) (seen_of later (kinds.part_id kind))
+      (λ index same. ap (λ held. option_and_then (λ v. kinds.stored kind v index) held) (sees w later (kinds.part_id kind) was left stood leaves) ∙ same
+      ∙ sym (ap (λ held. option_and_then (λ v. kinds.stored kind v index) held) (saw w later (kinds.part_id kind) was left stood leaves)))
+      (ap (λ held. option_map_or (kinds.events kind) held no_log) (saw w later (kinds.part_id kind) was left stood leaves))
+      (ap (λ held. option_map_or (kinds.events kind) held no_log) (sees w later (kinds.part_id kind) was left stood leaves))
+      (ap (λ held. option_map_or (kinds.emits kind) held false) (saw w later (kinds.part_id kind) was left stood leaves))
+      (ap (λ held. option_map_or (kinds.emits kind) held false) (sees w later (kinds.part_id kind) was left stood leaves))
+
   -- what is stored under a kind is so in the value that stands there
-  pub lent-column : (index : ℕ) (part : Option Stored) → ((at : ℕ) → kinds.stored kind left at ≡ but_at index part (kinds.stored kind was) at) → SetsColumn kinds kind index part (seen_of w) (seen_of later)
-  lent-column index part there = record {
+  pub lent-column : (index : ℕ) (part : Option Stored) → Shows (kinds.stored kind) (kinds.events kind) (kinds.emits kind) was left
+      → ((at : ℕ) → kinds.stored kind left at ≡ but_at index part (kinds.stored kind was) at) → SetsColumn kinds kind index part (seen_of w) (seen_of later)
+  lent-column index part shown there = record {
     here = λ at. ap (λ held. option_and_then (λ v. kinds.stored kind v at) held) (sees w later (kinds.part_id kind) was left stood leaves) ∙ there at
         ∙ ap (λ column. cond (eqb at index) part column) (sym (ap (λ held. option_and_then (λ v. kinds.stored kind v at) held) (saw w later (kinds.part_id kind) was left stood leaves)));
     others = sees-other w later (kinds.part_id kind) was left stood leaves;
+    shown = shown-there shown;
   }
 
-  pub lent-part : (index : ℕ) (part : Part) (named : List LifeAt) → PutsIn (kinds.stored kind) index part named was left → PutsPart kinds kind index part named (seen_of w) (seen_of later)
-  lent-part index part named puts = record { one = puts.one; is = puts.is; sets = lent-column index (Some puts.one) puts.there }
+  pub lent-part : (index : ℕ) (part : Part) (named : List LifeAt) → Shows (kinds.stored kind) (kinds.events kind) (kinds.emits kind) was left → PutsIn (kinds.stored kind) index part named was left → PutsPart kinds kind index part named (seen_of w) (seen_of later)
+  lent-part index part named shown puts = record { one = puts.one; is = puts.is; sets = lent-column index (Some puts.one) shown puts.there }
+
+  -- readers of its events are registered in the value that stands there
+  pub lent-watch : (watcher : Watcher) → GainsWatcher (kinds.stored kind) (kinds.events kind) (kinds.emits kind) watcher was left → WatchesKind kinds kind watcher (seen_of w) (seen_of later)
+  lent-watch watcher gains = record {
+    gains = watcher-seen (kinds.stored kind) (kinds.events kind) (kinds.emits kind) (column_in kinds kind) (events_in kinds kind) (emits_in kinds kind) was left
+        (seen_of w (kinds.part_id kind)) (seen_of later (kinds.part_id kind))
+        (λ index same. ap (λ held. option_and_then (λ v. kinds.stored kind v index) held) (sees w later (kinds.part_id kind) was left stood leaves) ∙ same
+        ∙ sym (ap (λ held. option_and_then (λ v. kinds.stored kind v index) held) (saw w later (kinds.part_id kind) was left stood leaves)))
+        (ap (λ held. option_map_or (kinds.events kind) held no_log) (saw w later (kinds.part_id kind) was left stood leaves))
+        (ap (λ held. option_map_or (kinds.events kind) held no_log) (sees w later (kinds.part_id kind) was left stood leaves))
+        (ap (λ held. option_map_or (kinds.emits kind) held false) (sees w later (kinds.part_id kind) was left stood leaves))
+        watcher gains;
+    others = sees-other w later (kinds.part_id kind) was left stood leaves;
+  }
+
+  -- two readers have read all of its events
+  pub lent-reads : (watcher : Watcher) → ReadsAll (kinds.stored kind) (kinds.events kind) (kinds.emits kind) watcher was left → ReadsKind kinds kind watcher (seen_of w) (seen_of later)
+  lent-reads watcher reads = record {
+    reads = reads-seen (kinds.stored kind) (kinds.events kind) (kinds.emits kind) (column_in kinds kind) (events_in kinds kind) (emits_in kinds kind) was left
+        (seen_of w (kinds.part_id kind)) (seen_of later (kinds.part_id kind))
+        (λ index same. ap (λ held. option_and_then (λ v. kinds.stored kind v index) held) (sees w later (kinds.part_id kind) was left stood leaves) ∙ same
+        ∙ sym (ap (λ held. option_and_then (λ v. kinds.stored kind v index) held) (saw w later (kinds.part_id kind) was left stood leaves)))
+        (ap (λ held. option_map_or (kinds.events kind) held no_log) (saw w later (kinds.part_id kind) was left stood leaves))
+        (ap (λ held. option_map_or (kinds.events kind) held no_log) (sees w later (kinds.part_id kind) was left stood leaves))
+        (ap (λ held. option_map_or (kinds.emits kind) held false) (saw w later (kinds.part_id kind) was left stood leaves))
+        (ap (λ held. option_map_or (kinds.emits kind) held false) (sees w later (kinds.part_id kind) was left stood leaves))
+        watcher reads;
+    others = sees-other w later (kinds.part_id kind) was left stood leaves;
+  }

@@ -1,10 +1,13 @@
 pub mod LookLemmas
+pub mod WatchLemmas
+pub mod CatchLemmas
 pub mod LendLemmas
 pub mod PutLemmas
 pub mod ActLemmas
 pub mod DropLemmas
 pub mod DeathLemmas
 pub mod KillLemmas
+pub mod GoingLemmas
 pub mod BirthLemmas
 pub mod GiveLemmas
 pub mod SpawnLemmas

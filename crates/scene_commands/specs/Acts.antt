@@ -15,6 +15,8 @@ use Rattle.scene_world.specs.Stored.{Stored}
 use Rattle.scene_world.specs.Rolls.{Roll, IsRoll, is_life, is_id, ids_in}
 use Rattle.scene_world.specs.Standing.{Sight, Kinds, seen_in, roll_of, column_of, plain_of, IsWithin}
 use Rattle.scene_world.specs.Changes.{but_at}
+use Rattle.scene_world.specs.Telling.{ShowsKind, ShowsWorld}
+use Rattle.scene_world.specs.Ages.{Ages}
 use Rattle.scene_world.specs.Putting.{StoresAs}
 
 -- an entity was born: its life is one of those that its index has had
@@ -35,10 +37,12 @@ AreUnder roll ids None = list_all (λ id. is_some (entity_under roll id)) ids �
 AreUnder roll ids (Some entities) = map (entity_under roll) ids ≡ map (λ entity. Some entity) entities
 
 module _ {V : Type 0} (kinds : Kinds V) where
-  -- the column of a kind stores something else at one index, or nothing any more, and at each other id of the world is what was there
+  -- the column of a kind stores something else at one index, or nothing any more, which its events show, and at each other id of the world
+  -- is what was there
   pub record SetsColumn (kind : Name) (index : ℕ) (part : Option Stored) (w later : Sight V) : Type 0 where
     pub here : (at : ℕ) → column_of kinds later kind at ≡ but_at index part (column_of kinds w kind) at
     pub others : (id : ResourceId) → same_id id (kinds.part_id kind) ≡ false → later id ≡ w id
+    pub shown : ShowsKind kinds kind w later
 
   -- a part is stored at an index, where its references are to these entities
   pub record PutsPart (kind : Name) (index : ℕ) (part : Part) (named : List LifeAt) (w later : Sight V) : Type 0 where
@@ -69,3 +73,8 @@ module _ {V : Type 0} (kinds : Kinds V) where
   abbrev pub Acts : Command → Bool → (w later : Slots V) → Type 0
   Acts command true w later = apply command (plain_of kinds (seen_of w)) ≡ changed (plain_of kinds (seen_of later))
   Acts command false w later = (apply command (plain_of kinds (seen_of w)) ≡ skipped) × (later ≡ w)
+
+  -- the events of a world show what became of its markers and parts, and time went on
+  pub record GoesOn (w later : Slots V) : Type 0 where
+    pub shown : ShowsWorld kinds (seen_of w) (seen_of later)
+    pub ages : Ages (roll_of kinds (seen_of w)) (roll_of kinds (seen_of later))

@@ -5,14 +5,16 @@ use Rattle.specs_markers.specs.Simple.{noted_under}
 use Rattle.scene_model.specs.Parts.{Name, is_among}
 use Rattle.scene_world.specs.Standing.{Sight, Kinds, roll_of, column_of}
 use Rattle.scene_world.specs.Changes.{but_at}
+use Rattle.scene_world.specs.Telling.{ShowsKind}
 use Rattle.scene_commands.specs.Elsewhere.{StaysBut, StaysButParts, SetsMark}
 
 module _ {V : Type 0} (kinds : Kinds V) where
-  -- the parts at an index under some kinds are taken out, and all else is as it was
+  -- the parts at an index under some kinds are taken out, which the events of each kind show, and all else is as it was
   pub record DropsParts (index : ℕ) (names : List Name) (w later : Sight V) : Type 0 where
     pub gone : (kind : Name) → is_among kind kinds.part_names ≡ true → is_among kind names ≡ true → (at : ℕ) → column_of kinds later kind at ≡ but_at index None (column_of kinds w kind) at
     pub stay : (kind : Name) → is_among kind kinds.part_names ≡ true → is_among kind names ≡ false → (at : ℕ) → column_of kinds later kind at ≡ column_of kinds w kind at
     pub others : StaysButParts kinds w later
+    pub shown : (kind : Name) → is_among kind kinds.part_names ≡ true → ShowsKind kinds kind w later
 
   -- the marker at an index is taken out, and all else is as it was
   abbrev pub Unmarks : ℕ → Sight V → Sight V → Type 0

@@ -7,6 +7,7 @@ use Rattle.specs_markers.specs.Simple.{allocated, given_id}
 use Rattle.scene_model.specs.Parts.{Name, is_among}
 use Rattle.scene_world.specs.Standing.{Sight, Kinds, roll_of}
 use Rattle.scene_world.specs.Changes.{but_at}
+use Rattle.scene_world.specs.Telling.{ShowsMarkers}
 
 -- every value but one is as it was
 abbrev pub StaysBut : {V : Type 0} → ResourceId → Sight V → Sight V → Type 0
@@ -17,10 +18,11 @@ module _ {V : Type 0} (kinds : Kinds V) where
   abbrev pub StaysButParts : Sight V → Sight V → Type 0
   StaysButParts w later = (id : ResourceId) → ((kind : Name) → is_among kind kinds.part_names ≡ true → same_id id (kinds.part_id kind) ≡ false) → later id ≡ w id
 
-  -- an index is marked with an id, or its marker is taken out
+  -- an index is marked with an id, or its marker is taken out, which the markers' events show
   pub record SetsMark (index : ℕ) (given : Option ℕ) (w later : Sight V) : Type 0 where
     pub marker : (at : ℕ) → (roll_of kinds later).marker at ≡ but_at index given (roll_of kinds w).marker at
     pub there : IsSome (later kinds.markers_id)
+    pub shown : ShowsMarkers kinds w later
     pub others : StaysBut kinds.markers_id w later
 
   -- an entity is noted under the id that is asked for, else under the one that comes next

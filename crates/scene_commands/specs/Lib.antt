@@ -4,6 +4,7 @@ pub use Rattle.scene_world.specs.Changes
 pub use Rattle.scene_world.specs.Places
 pub mod Acts
 pub mod Elsewhere
+pub mod Watching
 pub mod Deaths
 pub mod Newborns
 pub mod Lists

@@ -15,6 +15,7 @@ use Rattle.scene_world.specs.Rolls.{Roll}
 use Rattle.scene_world.specs.Standing.{Sight, Kinds, roll_of, column_of, plain_of}
 use Rattle.scene_world.specs.Changes.{but_at}
 use Rattle.scene_world.specs.Putting.{StoresAs}
+use Rattle.scene_world.specs.Telling.{ShowsKind}
 use Rattle.scene_commands.specs.Acts.{seen_of, AreUnder, PutsPart}
 use Rattle.scene_commands.specs.Elsewhere.{StaysBut, StaysButParts, SetsMark, Notes}
 
@@ -83,12 +84,14 @@ module _ {V : Type 0} (kinds : Kinds V) where
     pub found : AreUnder (roll_of kinds w) ids (Some named)
     pub puts : PutsPart kinds kind index part named w later
 
-  -- parts are stored at an index, each under its kind; under other kinds of the rules is what was stored there, and all else is as it was
+  -- parts are stored at an index, each under its kind; under other kinds of the rules is what was stored there, and all else is as it was;
+  -- the events of each kind show it
   pub record GivesParts (roll : Roll) (index : ℕ) (given : List (Name × Part)) (w later : Sight V) : Type 0 where
     pub here : (kind : Name) → is_among kind kinds.part_names ≡ true → (part : Part) → under kind given ≡ Some part → IsGiven roll part (column_of kinds later kind index)
     pub none : (kind : Name) → is_among kind kinds.part_names ≡ true → under kind given ≡ None → column_of kinds later kind index ≡ column_of kinds w kind index
     pub elsewhere : (kind : Name) → is_among kind kinds.part_names ≡ true → (at : ℕ) → (at == index) ≡ false → column_of kinds later kind at ≡ column_of kinds w kind at
     pub others : StaysButParts kinds w later
+    pub shown : (kind : Name) → is_among kind kinds.part_names ≡ true → ShowsKind kinds kind w later
 
   -- an entity that came to life gets its id, is marked with it, and is given its parts
   pub record Settles (entity : LifeAt) (given : List (Name × Part)) (w later : Sight V) : Type 0 where

@@ -10,7 +10,7 @@ ghost use Rattle.scene_model.specs.Queues.{plain_entry};
 ghost use Rattle.scene_world.specs.Standing.{roll_of};
 ghost use Rattle.scene_world.specs.Rolls.{ids_in};
 ghost use Rattle.scene_world.specs.Members.{kinds_by};
-ghost use Rattle.scene_commands.specs.Acts.{seen_of, MayAct, Acts, StaysElsewhere};
+ghost use Rattle.scene_commands.specs.Acts.{seen_of, MayAct, Acts, StaysElsewhere, GoesOn};
 ghost use Rattle.scene_commands.specs.Newborns.{RefusesLife, RefusesSpawn, ComesToLife, GetsId, Marks, GivesPart};
 ghost use Rattle.scene_commands.specs.Newborns.{GivesParts, Settles};
 
@@ -252,6 +252,7 @@ pub fn spawn_entity<R: Rules>(
         (spawn (map (plain_entry R.part_of) parts.now)) done world.old world.new) }
     ensures may { OnOk result (MayAct (kinds_by R.Rules R.Value.SceneValue) world.new) }
     ensures elsewhere { OnOk result (StaysElsewhere (kinds_by R.Rules R.Value.SceneValue) world.old world.new) }
+    ensures goes_on { OnOk result (GoesOn (kinds_by R.Rules R.Value.SceneValue) world.old world.new) }
     ensures refused { IfErr result
         (RefusesSpawn (kinds_by R.Rules R.Value.SceneValue) (map (plain_entry R.part_of) parts.now) world.old) }
 {

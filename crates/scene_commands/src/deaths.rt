@@ -5,7 +5,7 @@ ghost use Rattle.scene_model.specs.Rulebook.{kill};
 ghost use Rattle.scene_model.specs.Declaring.{texts};
 ghost use Rattle.scene_world.specs.Standing.{roll_of};
 ghost use Rattle.scene_world.specs.Members.{kinds_by};
-ghost use Rattle.scene_commands.specs.Acts.{seen_of, MayAct, Acts, StaysElsewhere};
+ghost use Rattle.scene_commands.specs.Acts.{seen_of, MayAct, Acts, StaysElsewhere, GoesOn};
 ghost use Rattle.scene_commands.specs.Deaths.{DropsParts, Unmarks, Forgets, LetsDie};
 
 use crate::looking::entity_under;
@@ -46,7 +46,10 @@ fn unmark<R: Rules>(world: &mut World<R::Value>, index: u32) -> Result<(), Alloc
         Ok(mut markers) => {
             let outcome = markers.drop(index);
             world.put_back(id, <R::Value as SceneValue<R::Data>>::wrap_markers(markers));
-            outcome
+            match outcome {
+                Ok(()) => Ok(()),
+                Err(_) => Err(AllocError),
+            }
         }
         Err(other) => {
             world.put_back(id, other);
@@ -126,6 +129,7 @@ pub fn kill_entity<R: Rules>(
         → noted_under (roll_of (kinds_by R.Rules R.Value.SceneValue) (seen_of world.new)).noting id ≡ None) }
     ensures may { OnOk result (MayAct (kinds_by R.Rules R.Value.SceneValue) world.new) }
     ensures elsewhere { OnOk result (StaysElsewhere (kinds_by R.Rules R.Value.SceneValue) world.old world.new) }
+    ensures goes_on { OnOk result (GoesOn (kinds_by R.Rules R.Value.SceneValue) world.old world.new) }
 {
     let Some(entity) = entity_under::<R>(world, id) else {
         return Ok(false);

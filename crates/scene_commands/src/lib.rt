@@ -3,6 +3,7 @@
 #![tactic(auto)]
 
 mod births;
+mod catching;
 mod deaths;
 mod entering;
 mod globals;
@@ -14,8 +15,10 @@ mod looking;
 pub mod opening;
 mod part_lists;
 mod parts;
+mod watching;
 
 pub use births::{bring_to_life, mark, spawn_entity};
+pub use catching::catch_up_world;
 pub use deaths::kill_entity;
 pub use entering::enter_entity;
 pub use gone::{find_gone, id_marked, living_in};
@@ -24,3 +27,4 @@ pub use load::load_world;
 pub use looking::{entities_under, entity_under};
 pub use opening::open_world;
 pub use parts::{put_part, take_part};
+pub use watching::{Watcher, Watchers, watch_world};

@@ -4,7 +4,7 @@ ghost use Rattle.scene_model.specs.declared.refusals.FrameRefusal.TheVariants as
 ghost use Rattle.scene_model.specs.Lawful.{IsLawful};
 ghost use Rattle.scene_model.specs.Leads.{RunsTo};
 ghost use Rattle.scene_model.specs.Queues.{plain_command, plain_commands};
-ghost use Rattle.scene_commands.specs.Acts.{MayAct, Acts, StaysElsewhere};
+ghost use Rattle.scene_commands.specs.Acts.{MayAct, Acts, StaysElsewhere, GoesOn};
 ghost use Rattle.scene_commands.specs.Lists.{Notes, RefusesAct, RefusesActs};
 ghost use Rattle.scene_commands.specs.Members.{scene_in};
 ghost use Rattle.scene_world.specs.Members.{kinds_by};
@@ -43,6 +43,7 @@ pub fn act<R: Rules>(
         (plain_command R.part_of command.now) done world.old world.new) }
     ensures may { OnOk result (MayAct (kinds_by R.Rules R.Value.SceneValue) world.new) }
     ensures elsewhere { OnOk result (StaysElsewhere (kinds_by R.Rules R.Value.SceneValue) world.old world.new) }
+    ensures goes_on { OnOk result (GoesOn (kinds_by R.Rules R.Value.SceneValue) world.old world.new) }
     ensures refused { IfErr result
         (RefusesAct (kinds_by R.Rules R.Value.SceneValue) (plain_command R.part_of command.now) world.old) }
 {
@@ -90,6 +91,7 @@ pub fn act_all<R: Rules>(
         (scene_in R.Rules R.Value.SceneValue world.new) skips.old.items skips.new.items) }
     ensures may { OnOk result (MayAct (kinds_by R.Rules R.Value.SceneValue) world.new) }
     ensures elsewhere { OnOk result (StaysElsewhere (kinds_by R.Rules R.Value.SceneValue) world.old world.new) }
+    ensures goes_on { OnOk result (GoesOn (kinds_by R.Rules R.Value.SceneValue) world.old world.new) }
     ensures refused { IfErr result (RefusesActs (kinds_by R.Rules R.Value.SceneValue) (earlier + 1)
         (plain_commands R.part_of commands.now) world.old) }
     ensures kept { (more : List Skip) × (skips.new.items ≡ skips.old.items ++ more) }

@@ -2,7 +2,7 @@
 ghost use Rattle.std.specs.Prelude.{◌≡◌, ◌<◌, length, None, IsTrue, IfOk, OnOk};
 ghost use Rattle.scene_model.specs.Parts.{is_among};
 ghost use Rattle.scene_model.specs.Rulebook.{put, take};
-ghost use Rattle.scene_commands.specs.Acts.{seen_of, MayAct, Acts, StaysElsewhere, PutsPart, SetsColumn};
+ghost use Rattle.scene_commands.specs.Acts.{seen_of, MayAct, Acts, StaysElsewhere, GoesOn, PutsPart, SetsColumn};
 ghost use Rattle.scene_world.specs.Members.{kinds_by};
 
 use crate::looking::{entities_under, entity_under};
@@ -68,6 +68,7 @@ pub fn put_part<R: Rules>(
         (put id kind.now (R.part_of datum.now)) done world.old world.new) }
     ensures may { OnOk result (MayAct (kinds_by R.Rules R.Value.SceneValue) world.new) }
     ensures elsewhere { OnOk result (StaysElsewhere (kinds_by R.Rules R.Value.SceneValue) world.old world.new) }
+    ensures goes_on { OnOk result (GoesOn (kinds_by R.Rules R.Value.SceneValue) world.old world.new) }
 {
     let Some(entity) = entity_under::<R>(world, id) else {
         return Ok(false);
@@ -96,6 +97,7 @@ pub fn take_part<R: Rules>(
         (λ done. Acts (kinds_by R.Rules R.Value.SceneValue) (take id kind.now) done world.old world.new) }
     ensures may { OnOk result (MayAct (kinds_by R.Rules R.Value.SceneValue) world.new) }
     ensures elsewhere { OnOk result (StaysElsewhere (kinds_by R.Rules R.Value.SceneValue) world.old world.new) }
+    ensures goes_on { OnOk result (GoesOn (kinds_by R.Rules R.Value.SceneValue) world.old world.new) }
 {
     let Some(entity) = entity_under::<R>(world, id) else {
         return Ok(false);

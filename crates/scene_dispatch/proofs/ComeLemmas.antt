@@ -97,6 +97,9 @@ module _ {V P : Type 0} (kinds : Kinds V) (meaning : Meaning P) (book : Book) (s
       queues = run.queues;
       systems = run.systems;
       queued = run.queued;
+      shown = run.shown;
+      markers = run.markers;
+      rolls = run.rolls;
     }
 
     -- and where one does, at a number whose position is known

@@ -1,5 +1,5 @@
 -- What comes of the systems of a scene on a dispatcher, over the world in which the scene stands.
-use Rattle.std.specs.Prelude.{◌≡◌, ℕ, List, Result, Ok, Err, All, slice_get}
+use Rattle.std.specs.Prelude.{◌≡◌, ℕ, true, List, Result, Ok, Err, All, slice_get}
 use Rattle.std.specs.Option.{unwrap_or}
 use Rattle.std.specs.String.{string_bytes}
 use Rattle.shred_world.specs.Bundles.{Holding}
@@ -10,11 +10,12 @@ use Rattle.shred_stages.specs.declared.error.DispatchError.TheVariants as error
 use Rattle.shred.specs.Dispatching.{Dispatching}
 use Rattle.scene_model.specs.declared.refusals.FrameRefusal.{FrameRefusal}
 use Rattle.scene_model.specs.declared.refusals.FrameRefusal.TheVariants.{System, GoneReference, IdsSpent, IndicesSpent, GenerationsSpent, TooManyCommands, Memory, Threads}
+use Rattle.scene_model.specs.Parts.{Name, is_among}
 use Rattle.scene_model.specs.Rulebook.{Book}
 use Rattle.scene_model.specs.Scenes.{PlainScene, PlainSystem}
 use Rattle.scene_model.specs.Frames.{Queues, SystemsRun, SystemsRefuse, SystemsFill}
-use Rattle.scene_world.specs.Standing.{Kinds, seen_in, plain_of, commands_of, IsSceneWorld}
-use Rattle.scene_world.specs.Turns.{Meaning, IsOfBook}
+use Rattle.scene_world.specs.Standing.{Kinds, seen_in, roll_of, plain_of, commands_of, IsSceneWorld}
+use Rattle.scene_world.specs.Turns.{Meaning, IsOfBook, ShowsChanges}
 use Rattle.scene_world.specs.Chains.{left_at}
 use Rattle.scene_dispatch.specs.Orders.{turn_order}
 
@@ -66,12 +67,15 @@ module _ {V P : Type 0} (kinds : Kinds V) (meaning : Meaning P) (book : Book) wh
     pub locals : All (IsOfBook meaning book) systems.locals
 
   -- the systems have taken their turns over the scene one after another, the commands of each are in the queue of its position, and
-  -- they may do so again
+  -- they may do so again; the events of each kind show what became of its parts, and who lives under which id is as before
   pub record HaveTakenTurns (before : Dispatching P P) (w : Holding V) (after : Dispatching P P) (w_after : Holding V) : Type 0 where
     pub ready : AreReady after w_after
     pub queues : Queues
     pub systems : SystemsRun book (turn_order meaning.plain before) (plain_of kinds (seen_in w)) (plain_of kinds (seen_in w_after)) queues
     pub queued : (position : ℕ) → commands_of kinds (seen_in w_after) position ≡ left_at position queues (commands_of kinds (seen_in w) position)
+    pub shown : (kind : Name) → is_among kind kinds.part_names ≡ true → ShowsChanges kinds kind w w_after
+    pub markers : seen_in w_after kinds.markers_id ≡ seen_in w kinds.markers_id
+    pub rolls : roll_of kinds (seen_in w_after) ≡ roll_of kinds (seen_in w)
 
   -- they have, or are refused
   abbrev pub Come : {A : Type 0} → Dispatching P P → Holding V → Result A FrameRefusal → Dispatching P P → Holding V → Type 0

@@ -13,8 +13,9 @@ use Rattle.shred_stages.specs.Runs.{Step, State, Turn, GroupRuns, StageRuns, Sta
 use Rattle.scene_model.specs.Rulebook.{refuses, Book, Command}
 use Rattle.scene_model.specs.Scenes.{PlainScene, PlainSystem, fragment, Steps, StepFills}
 use Rattle.scene_model.specs.Frames.{Queues, SystemsRun, SystemsRefuse, SystemsFill}
-use Rattle.scene_world.specs.Standing.{Kinds, seen_in, plain_of, commands_of}
+use Rattle.scene_world.specs.Standing.{Kinds, seen_in, plain_of, commands_of, column_in, events_in, emits_in}
 use Rattle.scene_world.specs.Lent.{IsLent}
+use Rattle.specs_layouts.proofs.CallerLemmas.{shows-refl, shows-trans}
 use Rattle.scene_world.specs.Turns.{Meaning, TakesTurn}
 use Rattle.scene_world.specs.Chains.{left_at, group_order, stage_order, plan_order, GroupIsLent, StageIsLent, PlanIsLent, EachAt, IsMeant, IsReady, HaveRun, AreStopped, Comes}
 use Rattle.scene_world.proofs.StandingLemmas.{back-unwritten}
@@ -79,6 +80,9 @@ module _ {V S : Type 0} (kinds : Kinds V) (meaning : Meaning S) (book : Book) (a
     systems = run-append book xs ys _ _ _ one.queues other.queues one.systems other.systems;
     queued = λ position. other.queued position ∙ ap (left_at position other.queues) (one.queued position)
         ∙ sym (left-append position one.queues other.queues (commands_of kinds (seen_in a.held) position));
+    shown = λ kind known. shows-trans (column_in kinds kind) (events_in kinds kind) (emits_in kinds kind) (seen_in a.held (kinds.part_id kind)) (seen_in b.held (kinds.part_id kind)) (seen_in c.held (kinds.part_id kind)) (one.shown kind known) (other.shown kind known);
+    markers = other.markers ∙ one.markers;
+    rolls = other.rolls ∙ one.rolls;
   }
 
   comes-append : (xs ys : List PlainSystem) (a b c : State V S) (first later : Option (ℕ × Stop)) → Comes kinds meaning book at xs a first b
@@ -91,7 +95,15 @@ module _ {V S : Type 0} (kinds : Kinds V) (meaning : Meaning S) (book : Book) (a
   comes-none a c refused ready (none, same) =
       subst (λ r. Comes kinds meaning book at [] a r c) (sym none)
       (subst (λ s. HaveRun kinds meaning book at [] a s) (sym same)
-      (record { ready = ready; queues = []; systems = (refl, refl); queued = λ position. refl }))
+      (record {
+        ready = ready;
+        queues = [];
+        systems = (refl, refl);
+        queued = λ position. refl;
+        shown = λ kind known. shows-refl (column_in kinds kind) (events_in kinds kind) (emits_in kinds kind) (seen_in a.held (kinds.part_id kind));
+        markers = refl;
+        rolls = refl;
+      }))
 
   module _ (meets : S → Holding V → Option Stop → S → Holding V → Type 0)
       (turns : (system left : S) (seen after : Holding V) (refused : Option Stop) → meaning.is_system system → meets system seen refused left after → TakesTurn kinds meaning system seen refused left after) where
@@ -114,6 +126,9 @@ module _ {V S : Type 0} (kinds : Kinds V) (meaning : Meaning S) (book : Book) (a
           queues = ((at one.number).position, stepped.commands) ∷ [];
           systems = (plain_of kinds (seen_in c.held), stepped.commands, [], subst (λ p. Steps book p (plain_of kinds (seen_in a.held)) (plain_of kinds (seen_in c.held)) stepped.commands) is.1 stepped.steps, (refl, refl), refl);
           queued = λ position. queue position (eqb (at one.number).position position) refl;
+          shown = stepped.shown;
+          markers = stepped.markers;
+          rolls = stepped.rolls;
         }
           where
             stepped : Stepped kinds meaning book system left a.held c.held

@@ -12,3 +12,5 @@ pub mod ChainLemmas
 pub mod PlacedLemmas
 pub mod WriteLemmas
 pub mod EachLemmas
+pub mod ShownLemmas
+pub mod AgeLemmas

@@ -1,5 +1,6 @@
 -- A turn of a system over a world in which a scene stands is a turn over the scene.
-use Rattle.std.proofs.Common.{◌≡◌, Bool, true, false, List, [], Option, Some, None, cond, refl, ap, sym, ◌∙◌, subst}
+use Rattle.std.proofs.Common.{◌≡◌, Bool, true, false, ◌||◌, List, [], Option, Some, None, cond, refl, ap, sym, ◌∙◌, subst}
+use Rattle.std.proofs.Math.Bool.{or-true}
 use Rattle.std.specs.Prelude.{IsSome, option_and_then}
 use Rattle.std.specs.Option.{option_map_or}
 use Rattle.std.specs.String.{string_bytes}
@@ -14,11 +15,13 @@ use Rattle.scene_model.specs.Rulebook.{Access, declares, Fragment, Outcome, leav
 use Rattle.scene_model.specs.Scenes.{PlainScene, PartsOwned, IsProper, IsLawfullyLeft, RefsLive, fragment, with_left, lives, Steps, StepRefuses, StepFills}
 use Rattle.scene_model.proofs.CallerLemmas.{admitted-fragment, living-fragment, readable-fragment, admitted-left, living-left, readable-left}
 use Rattle.scene_world.specs.Rolls.{Roll, ids_in, part_in, IsRoll}
-use Rattle.scene_world.specs.Standing.{Sight, seen_in, IsWhole, Kinds, roll_of, column_in, column_of, plain_of, commands_of, IsWithin, IsSceneWorld}
+use Rattle.scene_world.specs.Standing.{Sight, seen_in, IsWhole, Kinds, roll_of, column_in, column_of, plain_of, commands_of, IsWithin, IsSceneWorld, events_in, emits_in}
 use Rattle.scene_world.specs.Lent.{IsLent}
-use Rattle.scene_world.specs.Turns.{sense_of, rules_by, IsFit, IsLentFit, Meaning, IsOfBook, sees, LeavesLawfully, TakesTurn}
+use Rattle.specs_layouts.specs.Shows.{Shows}
+use Rattle.specs_layouts.proofs.CallerLemmas.{shows-refl}
+use Rattle.scene_world.specs.Turns.{ShowsChanges, sense_of, rules_by, IsFit, IsLentFit, Meaning, IsOfBook, sees, LeavesLawfully, TakesTurn}
 use Rattle.scene_world.proofs.RollLemmas.{part-lives}
-use Rattle.scene_world.proofs.StandingLemmas.{within-alike, lent-alike, back-written, back-whole, lent-fragment, left-scene, after-roll, back-roll, same-sight}
+use Rattle.scene_world.proofs.StandingLemmas.{cut-shows, within-alike, lent-alike, back-written, back-whole, lent-fragment, left-scene, after-roll, back-roll, same-sight}
 
 -- in a scene that is seen each part stands at a living id
 pub owned-plain : {V : Type 0} (kinds : Kinds V) (w : Sight V) → PartsOwned (plain_of kinds w).ids (plain_of kinds w).part
@@ -54,6 +57,9 @@ module _ {V S : Type 0} (kinds : Kinds V) (meaning : Meaning S) (book : Book) wh
     pub steps : Steps book (meaning.plain system) (plain_of kinds (seen_in w)) (plain_of kinds (seen_in w2)) commands
     pub queued : commands_of kinds (seen_in w2) (meaning.plain system).position ≡ commands
     pub same : meaning.plain left ≡ meaning.plain system
+    pub shown : (kind : Name) → is_among kind kinds.part_names ≡ true → ShowsChanges kinds kind w w2
+    pub markers : seen_in w2 kinds.markers_id ≡ seen_in w kinds.markers_id
+    pub rolls : roll_of kinds (seen_in w2) ≡ roll_of kinds (seen_in w)
     pub ours : IsOfBook meaning book left
 
   -- and of one that was refused
@@ -118,6 +124,9 @@ module _ {V S : Type 0} (kinds : Kinds V) (meaning : Meaning S) (book : Book) wh
       steps = (seen_after, meets-there (leaves seen_after (commands_of kinds (seen_in step.after) (meaning.plain system).position)) ends.did, lawful, after);
       queued = ap (λ q. option_map_or kinds.queued q []) (back-written reads writes w whole step.after w2 step.leaves step.comes_back _ lent.queue);
       same = step.runs.same;
+      shown = λ kind known. shown-by kind known (is_among kind (meaning.plain system).access.writes) refl;
+      markers = unwritten kinds.markers_id lent.same_markers;
+      rolls = rolls;
       ours = ours-left left step.runs.stays step.runs.same step.runs.same_sense step.runs.no_more;
     }
       where
@@ -151,6 +160,15 @@ module _ {V S : Type 0} (kinds : Kinds V) (meaning : Meaning S) (book : Book) wh
         within-by : (kind : Name) → is_among kind kinds.part_names ≡ true → (b : Bool) → is_among kind (meaning.plain system).access.writes ≡ b → IsWithin kinds (roll_of kinds (seen_in w2)) (column_of kinds (seen_in w2) kind)
         within-by kind known true is = move _ _ kind _ _ (rolls ∙ sym rolls-after) (back-written reads writes w whole step.after w2 step.leaves step.comes_back (kinds.part_id kind) (lent.writes_parts kind known ∙ is)) (ends.within kind known is)
         within-by kind known false is = move _ _ kind _ _ rolls (unwritten (kinds.part_id kind) (lent.writes_parts kind known ∙ is)) (world.within kind known)
+
+        shown-by : (kind : Name) → is_among kind kinds.part_names ≡ true → (b : Bool) → is_among kind (meaning.plain system).access.writes ≡ b → ShowsChanges kinds kind w w2
+        shown-by kind known true is =
+            subst (λ one. Shows (column_in kinds kind) (events_in kinds kind) (emits_in kinds kind) one (seen_in w2 (kinds.part_id kind))) (cut-shows reads writes w whole (kinds.part_id kind) (ap (λ b. is_listed reads (kinds.part_id kind) || b) (lent.writes_parts kind known ∙ is) ∙ or-true (is_listed reads (kinds.part_id kind))))
+            (subst (λ other. Shows (column_in kinds kind) (events_in kinds kind) (emits_in kinds kind) (seen_in (cut reads writes w) (kinds.part_id kind)) other) (sym (back-written reads writes w whole step.after w2 step.leaves step.comes_back (kinds.part_id kind) (lent.writes_parts kind known ∙ is)))
+            (ends.shown kind known is))
+        shown-by kind known false is =
+            subst (λ other. Shows (column_in kinds kind) (events_in kinds kind) (emits_in kinds kind) (seen_in w (kinds.part_id kind)) other) (sym (unwritten (kinds.part_id kind) (lent.writes_parts kind known ∙ is)))
+            (shows-refl (column_in kinds kind) (events_in kinds kind) (emits_in kinds kind) (seen_in w (kinds.part_id kind)))
 
     pub stop-lemma : (why : Stop) (left : S) (w2 : Holding V) → Step (TakesTurn kinds meaning) reads writes system w (Some why) left w2 → Stopped system w why
     stop-lemma (stop.Refused text) left w2 step = meets-there (refuses (string_bytes text)) (step.runs.ends fit-lent)

@@ -1,5 +1,5 @@
 -- A plan of systems that runs over a world in which a scene stands is the chain of their turns over the scene.
-use Rattle.std.specs.Prelude.{◌≡◌, ℕ, ◌==◌, List, [], ◌∷◌, map, Option, Some, MatchOption, if◌then◌else◌, slice_get}
+use Rattle.std.specs.Prelude.{◌≡◌, ℕ, ◌==◌, true, List, [], ◌∷◌, map, Option, Some, MatchOption, if◌then◌else◌, slice_get}
 use Rattle.std.specs.List.{flat_map}
 use Rattle.std.specs.String.{string_bytes}
 use Rattle.shred_world.specs.declared.resource_id.ResourceId.{ResourceId}
@@ -7,12 +7,13 @@ use Rattle.shred_plan.specs.Plan.{Group, Stage}
 use Rattle.shred_stages.specs.declared.stop.Stop.{Stop}
 use Rattle.shred_stages.specs.declared.stop.Stop.TheVariants as stop
 use Rattle.shred_stages.specs.Runs.{State}
+use Rattle.scene_model.specs.Parts.{Name, is_among}
 use Rattle.scene_model.specs.Rulebook.{Book, Command}
 use Rattle.scene_model.specs.Scenes.{PlainScene, PlainSystem}
 use Rattle.scene_model.specs.Frames.{Queues, SystemsRun, SystemsRefuse, SystemsFill}
-use Rattle.scene_world.specs.Standing.{Kinds, seen_in, IsWhole, plain_of, commands_of, IsSceneWorld}
+use Rattle.scene_world.specs.Standing.{Kinds, seen_in, IsWhole, roll_of, plain_of, commands_of, IsSceneWorld}
 use Rattle.scene_world.specs.Lent.{IsLent}
-use Rattle.scene_world.specs.Turns.{Meaning, IsOfBook}
+use Rattle.scene_world.specs.Turns.{Meaning, IsOfBook, ShowsChanges}
 
 -- the commands in the queue of a place after systems have run that left these queues: those of the last that stands there, else what was in it
 abbrev pub left_at : ℕ → Queues → List Command → List Command
@@ -58,12 +59,16 @@ module _ {V S : Type 0} (kinds : Kinds V) (meaning : Meaning S) (book : Book) (a
     pub world : IsSceneWorld kinds book (seen_in state.held)
     pub systems : EachAt IsMeant state.systems
 
-  -- systems have run one after another over the scene, and the commands of each are in the queue of its place
+  -- systems have run one after another over the scene, and the commands of each are in the queue of its place; the events of each kind
+  -- show what became of its parts, and who lives under which id is as before
   pub record HaveRun (order : List PlainSystem) (before after : State V S) : Type 0 where
     pub ready : IsReady after
     pub queues : Queues
     pub systems : SystemsRun book order (plain_of kinds (seen_in before.held)) (plain_of kinds (seen_in after.held)) queues
     pub queued : (position : ℕ) → commands_of kinds (seen_in after.held) position ≡ left_at position queues (commands_of kinds (seen_in before.held) position)
+    pub shown : (kind : Name) → is_among kind kinds.part_names ≡ true → ShowsChanges kinds kind before.held after.held
+    pub markers : seen_in after.held kinds.markers_id ≡ seen_in before.held kinds.markers_id
+    pub rolls : roll_of kinds (seen_in after.held) ≡ roll_of kinds (seen_in before.held)
 
   -- one of the systems stops them
   abbrev pub AreStopped : List PlainSystem → PlainScene → ℕ × Stop → Type 0

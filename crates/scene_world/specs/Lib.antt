@@ -6,6 +6,8 @@ pub use Rattle.scene_model.specs.Commands
 pub mod Stored
 pub mod Rolls
 pub mod Standing
+pub mod Ages
+pub mod Telling
 pub mod Lent
 pub mod Changes
 pub mod Stores

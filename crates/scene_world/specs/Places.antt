@@ -21,6 +21,8 @@ pub record Places (V D : Type 0) : Type 0 where
   pub queue_id : ℕ → ResourceId
   pub births : V → Option Births
   pub marker : V → ℕ → Option ℕ
+  pub marker_events : V → Log ComponentEvent
+  pub marker_emits : V → Bool
   pub noting : V → Option Noting
   pub queue : V → Option (Queue D)
   pub queue_value : Queue D → V
@@ -49,6 +51,8 @@ kinds_of places part_of columns = record {
   queue_id = places.queue_id;
   births = places.births;
   marker = places.marker;
+  marker_events = places.marker_events;
+  marker_emits = places.marker_emits;
   noting = places.noting;
   stored = columns.stored;
   events = columns.events;

@@ -26,8 +26,8 @@ abbrev pub IsWhole : {V : Type 0} → Holding V → Type 0
 IsWhole w = (id : ResourceId) → takable (w id) ≡ readable (w id)
 
 -- where the values of a scene stand, and what is read of each: the births of its entities, the id that is marked at an index, what
--- the allocator of ids notes, what a kind's column stores at an index, the events that tell of it and whether it tells any, a global's
--- value, and the commands of a queue
+-- the allocator of ids notes, what a kind's column stores at an index, a global's value, and the commands of a queue; of the markers and
+-- of a column also the events that tell of them, and whether a change is told
 pub record Kinds (V : Type 0) : Type 0 where
   pub part_names : List Name
   pub global_names : List Name
@@ -39,6 +39,8 @@ pub record Kinds (V : Type 0) : Type 0 where
   pub queue_id : ℕ → ResourceId
   pub births : V → Option Births
   pub marker : V → ℕ → Option ℕ
+  pub marker_events : V → Log ComponentEvent
+  pub marker_emits : V → Bool
   pub noting : V → Option Noting
   pub stored : Name → V → ℕ → Option Stored
   pub events : Name → V → Log ComponentEvent
@@ -71,6 +73,16 @@ module _ {V : Type 0} (kinds : Kinds V) where
 
   abbrev pub emits_in : Name → Option V → Bool
   emits_in kind held = option_map_or (kinds.emits kind) held false
+
+  -- the marker at each index, the events that tell of them, and whether a change is told
+  abbrev pub marker_in : Option V → ℕ → Option ℕ
+  marker_in held index = option_and_then (λ v. kinds.marker v index) held
+
+  abbrev pub marker_events_in : Option V → Log ComponentEvent
+  marker_events_in held = option_map_or kinds.marker_events held no_log
+
+  abbrev pub marker_emits_in : Option V → Bool
+  marker_emits_in held = option_map_or kinds.marker_emits held false
 
   -- the value of a global
   abbrev pub value_of : Sight V → Name → Option Json

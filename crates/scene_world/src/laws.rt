@@ -1,5 +1,5 @@
 //! Laws of a scene that stands in a world. The functions have no code; each contract is the law.
-ghost use Rattle.std.specs.Prelude.{◌≡◌, ℕ, true, List, map, Option, Some, None, option_map};
+ghost use Rattle.std.specs.Prelude.{◌≡◌, ◌≤◌, ℕ, true, List, map, Option, Some, None, option_map};
 ghost use Rattle.shred_world.specs.declared.resource_id.ResourceId.{ResourceId};
 ghost use Rattle.shred_world.specs.Bundles.{Holding};
 ghost use Rattle.shred_stages.specs.Views.{cut, Leaves, merged};
@@ -12,8 +12,11 @@ ghost use Rattle.scene_model.specs.Commands.{apply, changed, with_part};
 ghost use Rattle.scene_world.specs.Stored.{Stored, part_under};
 ghost use Rattle.scene_world.specs.Rolls.{Roll, id_at, ref_to, IsRoll};
 ghost use Rattle.scene_world.specs.Standing.{Kinds, Sight, IsWhole, seen_in, roll_of, plain_of, fragment_of};
+ghost use Rattle.specs_entity.specs.Births.{count, living as life_at};
+ghost use Rattle.scene_world.specs.Ages.{Ages, WasBornIn};
+ghost use Rattle.scene_world.specs.Telling.{ShowsWorld, TellsAll};
 ghost use Rattle.scene_world.specs.Lent.{StandApart, AreKnown, IsLent, id_of_place, read_places, written_places};
-ghost use Rattle.scene_world.specs.Changes.{SetsPart, Buries, Bears, AreBelow, AreGiven, HaveLiving, HasNextId};
+ghost use Rattle.scene_world.specs.Changes.{but_at, SetsPart, Buries, Bears, AreBelow, AreGiven, HaveLiving, HasNextId};
 ghost use Rattle.shred_plan.specs.Plan.{Stage};
 ghost use Rattle.shred_stages.specs.declared.stop.Stop.{Stop};
 ghost use Rattle.shred_stages.specs.Runs.{State, StagesRun};
@@ -80,6 +83,31 @@ pub fn a_birth_is_a_spawn<V>()
         (given : List (Name × Part)) → IsRoll (roll_of kinds w) → AreBelow (roll_of kinds w)
         → Bears kinds entity parts w now → HaveLiving (plain_of kinds w) given → HasNextId (roll_of kinds w)
         → AreGiven kinds w parts given → apply (spawn given) (plain_of kinds w) ≡ changed (plain_of kinds now) }
+{}
+
+/// The events of a world show nothing where nothing changed, and of one change after another both. Changes are told
+/// after as before.
+pub fn what_is_shown_of_a_world_adds_up<V>()
+    ensures none { (kinds : Kinds V) (w : Sight V) → ShowsWorld kinds w w }
+    ensures both { (kinds : Kinds V) (first second third : Sight V) → ShowsWorld kinds first second
+        → ShowsWorld kinds second third → ShowsWorld kinds first third }
+    ensures telling { (kinds : Kinds V) (w later : Sight V) → ShowsWorld kinds w later → TellsAll kinds w
+        → TellsAll kinds later }
+{}
+
+/// Time goes on where nothing happens, by one thing after another, by a death, and by a birth of somebody who was not
+/// born before.
+pub fn time_goes_on()
+    ensures none { (roll : Roll) → Ages roll roll }
+    ensures both { (first second third : Roll) → Ages first second → Ages second third → Ages first third }
+    ensures death { (before after : Roll) (index : ℕ)
+        → ((at : ℕ) → count before.births at ≤ count after.births at)
+        → ((at : ℕ) → life_at after.births at ≡ but_at index None (life_at before.births) at)
+        → ((at : ℕ) → after.marker at ≡ but_at index None before.marker at) → Ages before after }
+    ensures birth { (before after : Roll) (entity : LifeAt) (given : ℕ) → ¬ (WasBornIn before.births entity)
+        → ((at : ℕ) → count before.births at ≤ count after.births at)
+        → ((at : ℕ) → life_at after.births at ≡ but_at entity.id (Some entity.generation) (life_at before.births) at)
+        → ((at : ℕ) → after.marker at ≡ but_at entity.id (Some given) before.marker at) → Ages before after }
 {}
 
 /// A plan of systems that runs over a world in which a scene stands is the chain of their turns over the scene, in the

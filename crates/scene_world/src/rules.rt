@@ -5,10 +5,12 @@ ghost use Rattle.shred_stages.specs.Views.{Leaves, error_of};
 ghost use Rattle.scene_model.specs.Parts.{living, is_among};
 
 use crate::{SceneValue, Store};
+use hibitset_sets::BitSet;
 use scene_model::{DocumentRules, Queue};
 use shred_stages::Stop;
 use shred_world::{Holder, ResourceId, World};
 use specs_entity::Entity;
+use specs_layouts::ReaderId;
 use std::alloc::{AllocError, Global};
 
 /// Rules over a world: where the parts and globals of documents stand there, how they are put in and read, and systems
@@ -22,6 +24,8 @@ pub trait Rules: DocumentRules {
     ghost use Rattle.scene_model.specs.Parts.{Name};
     ghost use Rattle.scene_model.specs.Rulebook.{Fragment, Outcome};
     ghost use Rattle.scene_model.specs.Queues.{waiting, plain_commands};
+    ghost use Rattle.specs_layouts.specs.Shows.{Shows};
+    ghost use Rattle.scene_world.specs.Telling.{GainsReader, CatchesUp, TakesTold, TakesSome};
     ghost use Rattle.scene_world.specs.Lent.{StandApart};
     ghost use Rattle.scene_world.specs.Places.{Columns, kinds_of};
     ghost use Rattle.scene_world.specs.Putting.{named_in, HasValue, PutsIn, TakesOut, SameColumn, part_read};
@@ -61,7 +65,8 @@ pub trait Rules: DocumentRules {
 
     /// Puts a part in at an index, in place of the one that is there, with these entities as those that it refers to.
     ///
-    /// Errors: want of memory, and where the value or the datum isn't of that kind; the parts are as they were.
+    /// Errors: want of memory, and where the value or the datum isn't of that kind; the parts are as they were. Either
+    /// way the kind's events show what became of its parts.
     fn put(
         value: &mut Self::Value,
         kind: &str,
@@ -73,14 +78,46 @@ pub trait Rules: DocumentRules {
         requires as_many { length named.now ≡ length (Self.part_of datum.now).refs }
         ensures ok { OnOk result (PutsIn (columns.stored kind.now) index (Self.part_of datum.now) named.now
             value.old value.new) }
-        ensures err { OnErr result (SameColumn (columns.stored kind.now) value.old value.new) };
+        ensures err { OnErr result (SameColumn (columns.stored kind.now) value.old value.new) }
+        ensures shown { Shows (columns.stored kind.now) (columns.events kind.now) (columns.emits kind.now)
+            value.old value.new };
 
     /// Takes the part at an index out, if there is one.
     ///
-    /// Errors: want of memory; the parts are as they were.
+    /// Errors: want of memory; the parts are as they were. Either way the kind's events show what became of its parts.
     fn take(value: &mut Self::Value, kind: &str, index: u32) -> Result<(), AllocError>
         ensures ok { OnOk result (TakesOut (columns.stored kind.now) index value.old value.new) }
-        ensures err { OnErr result (SameColumn (columns.stored kind.now) value.old value.new) };
+        ensures err { OnErr result (SameColumn (columns.stored kind.now) value.old value.new) }
+        ensures shown { Shows (columns.stored kind.now) (columns.events kind.now) (columns.emits kind.now)
+            value.old value.new };
+
+    /// Registers a reader of the events of a kind, who is told of what becomes of its parts from now on, and turns
+    /// emission on. No part is another.
+    ///
+    /// Errors: want of memory, and where the value isn't of that kind; parts, events and emission are as they were.
+    fn reader(value: &mut Self::Value, kind: &str) -> Result<ReaderId, AllocError>
+        ensures ok { IfOk result (λ reader. GainsReader (columns.stored kind.now) (columns.events kind.now)
+            (columns.emits kind.now) reader value.old value.new) }
+        ensures err { OnErr result (value.new ≡ value.old) };
+
+    /// Puts the indices below 16,777,216 of which a reader of a kind's events has yet to read events into a set; none
+    /// where the value isn't of that kind. The reader's place stays: `catch_up` moves it.
+    ///
+    /// Errors: want of memory; some of the indices are in.
+    fn events(
+        value: &Self::Value,
+        kind: &str,
+        reader: &ReaderId,
+        into: &mut BitSet,
+    ) -> Result<(), AllocError>
+        ensures ok { OnOk result (TakesTold (columns.events kind.now value.now) reader.now into.old into.new) }
+        ensures err { OnErr result (TakesSome (columns.events kind.now value.now) reader.now into.old into.new) };
+
+    /// A reader of a kind's events has read all of them. Takes no memory. No part is another, and each other reader has
+    /// what it had to read.
+    fn catch_up(value: &mut Self::Value, kind: &str, reader: &ReaderId)
+        ensures { CatchesUp (columns.stored kind.now) (columns.events kind.now) (columns.emits kind.now) reader.now
+            value.old value.new };
 
     /// Puts the entities that the part at an index refers to behind others, in their order; none if there is no part.
     ///
@@ -116,10 +153,12 @@ pub trait Rules: DocumentRules {
         false
     }
 
-    /// The parts at the indices of these entities, each of which stands behind the id of its entity, where no part of the kind
-    /// can refer to an entity: so a whole column is read by one call. None by default, and of a kind whose parts may refer.
+    /// The parts at the indices of these entities, each of which stands behind a number that its caller gave it, where no part
+    /// of the kind can refer to an entity: so a whole column is read by one call. None by default, and of a kind whose parts
+    /// may refer.
     ///
-    /// A part stands behind its entity's id too, in the order of the entities. An id with nothing behind it may be left out.
+    /// A part stands behind the number of its index, in the order of the entities. A number with nothing behind it may be left
+    /// out.
     ///
     /// Errors: want of memory.
     fn get_each(

@@ -1,8 +1,9 @@
 //! What a world of a scene holds beside the parts and globals of its rules.
-ghost use Rattle.std.specs.Prelude.{◌≡◌, ℕ, Some, None, IfOk, IfErr, IfSome, IfNone, option_copied};
-ghost use Rattle.std.specs.Option.{option_and_then};
+ghost use Rattle.std.specs.Prelude.{◌≡◌, ℕ, false, Some, None, IfOk, IfErr, OnErr, IfSome, IfNone, option_copied};
+ghost use Rattle.std.specs.Option.{option_and_then, option_map_or};
 ghost use Rattle.shred_world.specs.ResourceIds.{id_of};
-ghost use Rattle.scene_world.specs.Markers.{marker_at};
+ghost use Rattle.specs_layouts.specs.Channels.{no_log};
+ghost use Rattle.scene_world.specs.Markers.{marker_at, marker_log, marker_tells};
 
 use crate::{SceneMarker, SceneMarkerAllocator};
 use scene_model::Queue;
@@ -97,16 +98,23 @@ pub trait SceneValue<D: Drop>: Sized {
     fn markers(value: &Self) -> Option<&MaskedStorage<SceneMarker>>
         ensures some { IfSome result (λ markers. (index : ℕ)
             → places.marker value.now index ≡ marker_at markers.now index) }
-        ensures none { IfNone result ((index : ℕ) → places.marker value.now index ≡ None) };
+        ensures none { IfNone result ((index : ℕ) → places.marker value.now index ≡ None) }
+        ensures events { IfSome result (λ markers. places.marker_events value.now ≡ marker_log markers.now) }
+        ensures emits { IfSome result (λ markers. places.marker_emits value.now ≡ marker_tells markers.now) };
 
     /// The value that holds markers.
     fn wrap_markers(markers: MaskedStorage<SceneMarker>) -> Self
-        ensures { (index : ℕ) → places.marker result index ≡ marker_at markers index };
+        ensures markers { (index : ℕ) → places.marker result index ≡ marker_at markers index }
+        ensures events { places.marker_events result ≡ marker_log markers }
+        ensures emits { places.marker_emits result ≡ marker_tells markers };
 
     /// Takes the markers out of a value, or hands back a value that holds none.
     fn unwrap_markers(value: Self) -> Result<MaskedStorage<SceneMarker>, Self>
         ensures markers { IfOk result (λ markers. (index : ℕ)
             → places.marker value index ≡ marker_at markers index) }
+        ensures events { IfOk result (λ markers. places.marker_events value ≡ marker_log markers) }
+        ensures emits { IfOk result (λ markers. places.marker_emits value ≡ marker_tells markers) }
+        ensures silent { OnErr result (places.marker_events value ≡ no_log) }
         ensures handed_back { IfErr result (λ other. other ≡ value) };
 
     /// The allocator of ids that a value holds, if it holds it.
@@ -137,6 +145,8 @@ where
       births = ⟦<EntitiesRes as Resource<V>>⟧.part;
       marker = λ v index. option_and_then (λ markers. marker_at markers index)
           (⟦<MaskedStorage<SceneMarker> as Resource<V>>⟧.part v);
+      marker_events = λ v. option_map_or marker_log (⟦<MaskedStorage<SceneMarker> as Resource<V>>⟧.part v) no_log;
+      marker_emits = λ v. option_map_or marker_tells (⟦<MaskedStorage<SceneMarker> as Resource<V>>⟧.part v) false;
       noting = ⟦<SceneMarkerAllocator as Resource<V>>⟧.part;
       queue = ⟦<V as QueueValue<D>>⟧.part;
       queue_value = ⟦<V as QueueValue<D>>⟧.wrapped;

@@ -11,9 +11,11 @@ use Rattle.shred_world.specs.Worlds.{Slots, value_at}
 use Rattle.shred_world.proofs.CallerLemmas.{get-insert_here, ids_total}
 use Rattle.specs_layouts.specs.Parts.{Puts, HasNone}
 use Rattle.scene_world.specs.Changes.{but_at}
+use Rattle.scene_world.proofs.CallerLemmas.{HasColumn}
+use Rattle.scene_world.specs.Stored.{Stored}
 use Rattle.scene_world.specs.Putting.{PutsIn, Registers}
 use Rattle.scene_world_tests.specs.Drifts.{Positions, Velocities, position_at, velocity_at, position_id, velocity_id}
-use Rattle.scene_world_tests.specs.Drifting.{pos_name, vel_name, storing, counting, position_column, velocity_column, drifting_columns}
+use Rattle.scene_world_tests.specs.Drifting.{pos_name, vel_name, storing, counting, position_column, velocity_column, drifting_columns, position_events, position_emits, velocity_events, velocity_emits}
 use Rattle.scene_world_tests.specs.declared.turns.values.Position.{Position}
 use Rattle.scene_world_tests.specs.declared.turns.values.Velocity.{Velocity}
 use Rattle.scene_world_tests.specs.declared.turns.values.Value.{Value}
@@ -84,3 +86,18 @@ module _ (w : Slots Value) (positions : Positions) (velocities : Velocities) whe
       empty false v e index =
           let same : VelocityValue velocities ≡ v = let h : Some (VelocityValue velocities) ≡ Some v = sym (ap option_flatten at-velocities) ∙ e in cc in
           subst (λ x. velocity_column x index ≡ None) same (ap (option_map (λ (s : Velocity). storing s.0)) (no_velocity index))
+
+-- what a position and a velocity are stored as
+abbrev pub position_stored : Position → Stored
+position_stored position = storing position.0
+
+abbrev pub velocity_stored : Velocity → Stored
+velocity_stored velocity = storing velocity.0
+
+-- the column and the events of positions are those of their storage
+pub has-positions : (v : Value) (positions : Positions) → v ≡ PositionValue positions → HasColumn position_stored position_column position_events position_emits v positions
+has-positions v positions is = subst (λ one. HasColumn position_stored position_column position_events position_emits one positions) (sym is) (record { parts = λ index. refl; log_is = refl; tells_is = refl })
+
+-- the column and the events of velocities are those of their storage
+pub has-velocities : (v : Value) (velocities : Velocities) → v ≡ VelocityValue velocities → HasColumn velocity_stored velocity_column velocity_events velocity_emits v velocities
+has-velocities v velocities is = subst (λ one. HasColumn velocity_stored velocity_column velocity_events velocity_emits one velocities) (sym is) (record { parts = λ index. refl; log_is = refl; tells_is = refl })

@@ -12,9 +12,10 @@ use Rattle.shred_world.proofs.CallerLemmas.{get-insert_here, ids_total}
 use Rattle.specs_entity.specs.Life.{LifeAt}
 use Rattle.specs_layouts.specs.Parts.{Puts, HasNone}
 use Rattle.scene_world.specs.Changes.{but_at}
+use Rattle.scene_world.proofs.CallerLemmas.{HasColumn}
 use Rattle.scene_world.specs.Putting.{PutsIn, Registers}
 use Rattle.scene_world_tests.specs.Holdings.{Owners, Ranks, owner_at, rank_at, owner_id, rank_id}
-use Rattle.scene_world_tests.specs.Owning.{owner_name, rank_name, owner_stored, rank_stored, owned_by, ranked, owner_column, rank_column, owning_columns}
+use Rattle.scene_world_tests.specs.Owning.{owner_name, rank_name, owner_stored, rank_stored, owned_by, ranked, owner_column, rank_column, owning_columns, owner_events, owner_emits, rank_events, rank_emits}
 use Rattle.scene_world_tests.specs.declared.commands.values.Value.{Value}
 use Rattle.scene_world_tests.specs.declared.commands.values.Value.TheVariants.{OwnerValue, RankValue}
 
@@ -92,3 +93,11 @@ module _ (w : Slots Value) (owners : Owners) (ranks : Ranks) where
       empty false v e index =
           let same : RankValue ranks ≡ v = let h : Some (RankValue ranks) ≡ Some v = sym (ap option_flatten at-ranks) ∙ e in cc in
           subst (λ x. rank_column x index ≡ None) same (ap (option_map rank_stored) (no_rank index))
+
+-- the column and the events of owners are those of their storage
+pub has-owners : (v : Value) (owners : Owners) → v ≡ OwnerValue owners → HasColumn owner_stored owner_column owner_events owner_emits v owners
+has-owners v owners is = subst (λ one. HasColumn owner_stored owner_column owner_events owner_emits one owners) (sym is) (record { parts = λ index. refl; log_is = refl; tells_is = refl })
+
+-- the column and the events of ranks are those of their storage
+pub has-ranks : (v : Value) (ranks : Ranks) → v ≡ RankValue ranks → HasColumn rank_stored rank_column rank_events rank_emits v ranks
+has-ranks v ranks is = subst (λ one. HasColumn rank_stored rank_column rank_events rank_emits one ranks) (sym is) (record { parts = λ index. refl; log_is = refl; tells_is = refl })

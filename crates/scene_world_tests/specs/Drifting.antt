@@ -11,13 +11,14 @@ use Rattle.serde_json.specs.Find.{as_null}
 use Rattle.shred_world.specs.declared.resource_id.ResourceId.{ResourceId}
 use Rattle.shred_world.specs.ResourceIds.{id_of, same_id}
 use Rattle.specs_entity.specs.Births.{Births}
-use Rattle.specs_layouts.specs.Channels.{log_of, no_log}
+use Rattle.specs_layouts.specs.Channels.{Log, log_of, no_log}
+use Rattle.specs_layouts.specs.declared.track.ComponentEvent.{ComponentEvent}
 use Rattle.specs_layouts.specs.Flagged.{Flagged, tells}
 use Rattle.specs_layouts.specs.Masked.{Masked}
 use Rattle.specs_layouts.specs.declared.storages.vec.VecStorage.{VecStorage}
 use Rattle.specs_markers.specs.Simple.{Noting}
 use Rattle.scene_model.specs.declared.command.Queue.{Queue}
-use Rattle.scene_world.specs.Markers.{marker_at}
+use Rattle.scene_world.specs.Markers.{marker_at, marker_log, marker_tells}
 use Rattle.scene_model.specs.Parts.{Json, Name, Ref, Part, is_among}
 use Rattle.scene_model.specs.Rulebook.{Access, Book, Fragment, Outcome, leaves, refuses, fills, Facts, Described, known, unknown, misshapen}
 use Rattle.scene_world.specs.Stored.{Stored}
@@ -122,6 +123,19 @@ position_column v index = option_map (λ (p : Position). storing p.0) (option_an
 abbrev pub velocity_column : Value → ℕ → Option Stored
 velocity_column v index = option_map (λ (s : Velocity). storing s.0) (option_and_then (λ s. velocity_at s index) (velocities_in v))
 
+-- the events that tell of each kind, and whether a change is told
+abbrev pub position_events : Value → Log ComponentEvent
+position_events v = option_map_or (λ s. log_of s.inner.channel) (positions_in v) no_log
+
+abbrev pub position_emits : Value → Bool
+position_emits v = option_map_or (λ s. tells s.inner) (positions_in v) false
+
+abbrev pub velocity_events : Value → Log ComponentEvent
+velocity_events v = option_map_or (λ s. log_of s.inner.channel) (velocities_in v) no_log
+
+abbrev pub velocity_emits : Value → Bool
+velocity_emits v = option_map_or (λ s. tells s.inner) (velocities_in v) false
+
 -- where the two kinds stand, and what is read there
 abbrev pub drifting_columns : Columns Value
 drifting_columns = record {
@@ -130,8 +144,8 @@ drifting_columns = record {
   part_id = λ kind. if bytes_eq kind pos_name then position_id else velocity_id;
   global_id = λ name. id_of 6 0;
   stored = λ kind v index. if bytes_eq kind pos_name then position_column v index else velocity_column v index;
-  events = λ kind v. if bytes_eq kind pos_name then option_map_or (λ s. log_of s.inner.channel) (positions_in v) no_log else option_map_or (λ s. log_of s.inner.channel) (velocities_in v) no_log;
-  emits = λ kind v. if bytes_eq kind pos_name then option_map_or (λ s. tells s.inner) (positions_in v) false else option_map_or (λ s. tells s.inner) (velocities_in v) false;
+  events = λ kind v. if bytes_eq kind pos_name then position_events v else velocity_events v;
+  emits = λ kind v. if bytes_eq kind pos_name then position_emits v else velocity_emits v;
   value = λ name v. None;
 }
 
@@ -177,6 +191,8 @@ drifting_places = record {
   queue_id = λ position. id_of 3 position;
   births = births_in;
   marker = λ v index. option_and_then (λ markers. marker_at markers index) (markers_in v);
+  marker_events = λ v. option_map_or marker_log (markers_in v) no_log;
+  marker_emits = λ v. option_map_or marker_tells (markers_in v) false;
   noting = noting_in;
   queue = queue_in;
   queue_value = QueueValue;

@@ -5,9 +5,10 @@ use Rattle.std.specs.Option.{option_map_or}
 use Rattle.std.specs.Str.{bytes_eq}
 use Rattle.serde_json.specs.Data.{null, number, unsigned, negative, float, boolean, string, array, object}
 use Rattle.shred_world.specs.ResourceIds.{id_of}
-use Rattle.specs_layouts.specs.Channels.{log_of, no_log}
+use Rattle.specs_layouts.specs.Channels.{Log, log_of, no_log}
+use Rattle.specs_layouts.specs.declared.track.ComponentEvent.{ComponentEvent}
 use Rattle.specs_layouts.specs.Flagged.{tells}
-use Rattle.scene_world.specs.Markers.{marker_at}
+use Rattle.scene_world.specs.Markers.{marker_at, marker_log, marker_tells}
 use Rattle.scene_model.specs.Parts.{Json, Name, Ref, living, gone, Part}
 use Rattle.scene_model.specs.Rulebook.{Access, Book, Fragment, Outcome, leaves, refuses, fills, unknown}
 use Rattle.scene_world.specs.Stored.{Stored}
@@ -110,6 +111,19 @@ owner_column v index = option_map owner_stored (option_and_then (λ s. owner_at 
 abbrev pub rank_column : Value → ℕ → Option Stored
 rank_column v index = option_map rank_stored (option_and_then (λ s. rank_at s index) (ranks_in v))
 
+-- the events that tell of each kind, and whether a change is told
+abbrev pub owner_events : Value → Log ComponentEvent
+owner_events v = option_map_or (λ s. log_of s.inner.channel) (owners_in v) no_log
+
+abbrev pub owner_emits : Value → Bool
+owner_emits v = option_map_or (λ s. tells s.inner) (owners_in v) false
+
+abbrev pub rank_events : Value → Log ComponentEvent
+rank_events v = option_map_or (λ s. log_of s.inner.channel) (ranks_in v) no_log
+
+abbrev pub rank_emits : Value → Bool
+rank_emits v = option_map_or (λ s. tells s.inner) (ranks_in v) false
+
 -- where the two kinds and the global stand, and what is read there
 abbrev pub owning_columns : Columns Value
 owning_columns = record {
@@ -118,8 +132,8 @@ owning_columns = record {
   part_id = λ kind. if bytes_eq kind owner_name then owner_id else rank_id;
   global_id = λ name. era_id;
   stored = λ kind v index. if bytes_eq kind owner_name then owner_column v index else rank_column v index;
-  events = λ kind v. if bytes_eq kind owner_name then option_map_or (λ s. log_of s.inner.channel) (owners_in v) no_log else option_map_or (λ s. log_of s.inner.channel) (ranks_in v) no_log;
-  emits = λ kind v. if bytes_eq kind owner_name then option_map_or (λ s. tells s.inner) (owners_in v) false else option_map_or (λ s. tells s.inner) (ranks_in v) false;
+  events = λ kind v. if bytes_eq kind owner_name then owner_events v else rank_events v;
+  emits = λ kind v. if bytes_eq kind owner_name then owner_emits v else rank_emits v;
   value = λ name v. option_map counted (era_in v);
 }
 
@@ -132,6 +146,8 @@ owning_places = record {
   queue_id = λ position. id_of 3 position;
   births = births_in;
   marker = λ v index. option_and_then (λ markers. marker_at markers index) (markers_in v);
+  marker_events = λ v. option_map_or marker_log (markers_in v) no_log;
+  marker_emits = λ v. option_map_or marker_tells (markers_in v) false;
   noting = noting_in;
   queue = queue_in;
   queue_value = QueueValue;

@@ -1,14 +1,18 @@
 //! The parts of the two kinds in the values of a world.
-ghost use Rattle.std.specs.Prelude.{◌≡◌, ◌<◌, ◌++◌, [], ◌∷◌, length, OnOk, OnErr, option_map};
+ghost use Rattle.std.specs.Prelude.{◌≡◌, ◌<◌, ◌++◌, [], ◌∷◌, length, IfOk, OnOk, OnErr, option_map};
+ghost use Rattle.specs_layouts.specs.Shows.{Shows};
+ghost use Rattle.scene_world.specs.Telling.{GainsReader, CatchesUp, TakesTold, TakesSome};
 ghost use Rattle.scene_world.specs.Putting.{named_in, part_read, PutsIn, TakesOut, SameColumn, Registers};
 ghost use Rattle.scene_world_tests.specs.Owning.{owned_by, ranked, part_of, owning_columns, owner_column, rank_column};
+ghost use Rattle.scene_world_tests.specs.Owning.{owner_events, owner_emits, rank_events, rank_emits};
 
 use crate::commands::datum::Datum;
 use crate::commands::values::{Owner, Rank, Value};
-use scene_world::{Store, scene_storage};
+use hibitset_sets::BitSet;
+use scene_world::{Store, catch_up_reader, gain_reader, scene_storage, told_indices};
 use shred_world::World;
 use specs_entity::Entity;
-use specs_layouts::MaskedStorage;
+use specs_layouts::{MaskedStorage, ReaderId};
 use std::alloc::{AllocError, Global};
 
 /// Puts an empty storage of each kind into a world. Errors: want of memory.
@@ -42,6 +46,7 @@ pub(crate) fn put_owner(
     requires as_many { length named.now ≡ 1 }
     ensures ok { OnOk result (PutsIn owner_column index (owned_by id) named.now value.old value.new) }
     ensures err { OnErr result (SameColumn owner_column value.old value.new) }
+    ensures shown { Shows owner_column owner_events owner_emits value.old value.new }
 {
     let Value::OwnerValue(owners) = value else {
         return Err(AllocError);
@@ -60,6 +65,7 @@ pub(crate) fn put_rank(value: &mut Value, index: u32, number: u64) -> Result<(),
     requires { index < 16777216 }
     ensures ok { OnOk result (PutsIn rank_column index (ranked number) [] value.old value.new) }
     ensures err { OnErr result (SameColumn rank_column value.old value.new) }
+    ensures shown { Shows rank_column rank_events rank_emits value.old value.new }
 {
     let Value::RankValue(ranks) = value else {
         return Err(AllocError);
@@ -74,22 +80,30 @@ pub(crate) fn put_rank(value: &mut Value, index: u32, number: u64) -> Result<(),
 pub(crate) fn take_owner(value: &mut Value, index: u32) -> Result<(), AllocError>
     ensures ok { OnOk result (TakesOut owner_column index value.old value.new) }
     ensures err { OnErr result (SameColumn owner_column value.old value.new) }
+    ensures shown { Shows owner_column owner_events owner_emits value.old value.new }
 {
     let Value::OwnerValue(owners) = value else {
         return Ok(());
     };
-    owners.drop(index)
+    match owners.drop(index) {
+        Ok(()) => Ok(()),
+        Err(_) => Err(AllocError),
+    }
 }
 
 /// Takes a rank out. Errors: want of memory.
 pub(crate) fn take_rank(value: &mut Value, index: u32) -> Result<(), AllocError>
     ensures ok { OnOk result (TakesOut rank_column index value.old value.new) }
     ensures err { OnErr result (SameColumn rank_column value.old value.new) }
+    ensures shown { Shows rank_column rank_events rank_emits value.old value.new }
 {
     let Value::RankValue(ranks) = value else {
         return Ok(());
     };
-    ranks.drop(index)
+    match ranks.drop(index) {
+        Ok(()) => Ok(()),
+        Err(_) => Err(AllocError),
+    }
 }
 
 /// Puts the owner at an index, if there is one, behind others. Errors: want of memory.
@@ -137,4 +151,98 @@ pub(crate) fn rank_datum(value: &Value, index: u32, ids: &[u64]) -> Option<Datum
     } else {
         None
     }
+}
+
+/// Registers a reader of the events of owners and turns emission on.
+///
+/// Errors: want of memory, and where the value has no owners; all is as it was.
+pub(crate) fn owner_reader(value: &mut Value) -> Result<ReaderId, AllocError>
+    ensures ok { IfOk result
+        (λ reader. GainsReader owner_column owner_events owner_emits reader value.old value.new) }
+    ensures err { OnErr result (value.new ≡ value.old) }
+{
+    let Value::OwnerValue(owners) = value else {
+        return Err(AllocError);
+    };
+    match gain_reader(owners) {
+        Ok(reader) => Ok(reader),
+        Err(_) => Err(AllocError),
+    }
+}
+
+/// Puts the indices of which a reader of the events of owners has yet to read events into a set.
+///
+/// Errors: want of memory; some of the indices are in.
+pub(crate) fn told_owners(
+    value: &Value,
+    reader: &ReaderId,
+    into: &mut BitSet,
+) -> Result<(), AllocError>
+    ensures ok { OnOk result (TakesTold (owner_events value.now) reader.now into.old into.new) }
+    ensures err { OnErr result (TakesSome (owner_events value.now) reader.now into.old into.new) }
+{
+    let Value::OwnerValue(owners) = value else {
+        return Ok(());
+    };
+    match told_indices(owners, reader, into) {
+        Ok(()) => Ok(()),
+        Err(_) => Err(AllocError),
+    }
+}
+
+/// A reader of the events of owners has read all of them.
+pub(crate) fn catch_up_owners(value: &mut Value, reader: &ReaderId)
+    ensures { CatchesUp owner_column owner_events owner_emits reader.now value.old value.new }
+{
+    let Value::OwnerValue(owners) = value else {
+        return;
+    };
+    catch_up_reader(owners, reader);
+}
+
+/// Registers a reader of the events of ranks and turns emission on.
+///
+/// Errors: want of memory, and where the value has no ranks; all is as it was.
+pub(crate) fn rank_reader(value: &mut Value) -> Result<ReaderId, AllocError>
+    ensures ok { IfOk result
+        (λ reader. GainsReader rank_column rank_events rank_emits reader value.old value.new) }
+    ensures err { OnErr result (value.new ≡ value.old) }
+{
+    let Value::RankValue(ranks) = value else {
+        return Err(AllocError);
+    };
+    match gain_reader(ranks) {
+        Ok(reader) => Ok(reader),
+        Err(_) => Err(AllocError),
+    }
+}
+
+/// Puts the indices of which a reader of the events of ranks has yet to read events into a set.
+///
+/// Errors: want of memory; some of the indices are in.
+pub(crate) fn told_ranks(
+    value: &Value,
+    reader: &ReaderId,
+    into: &mut BitSet,
+) -> Result<(), AllocError>
+    ensures ok { OnOk result (TakesTold (rank_events value.now) reader.now into.old into.new) }
+    ensures err { OnErr result (TakesSome (rank_events value.now) reader.now into.old into.new) }
+{
+    let Value::RankValue(ranks) = value else {
+        return Ok(());
+    };
+    match told_indices(ranks, reader, into) {
+        Ok(()) => Ok(()),
+        Err(_) => Err(AllocError),
+    }
+}
+
+/// A reader of the events of ranks has read all of them.
+pub(crate) fn catch_up_ranks(value: &mut Value, reader: &ReaderId)
+    ensures { CatchesUp rank_column rank_events rank_emits reader.now value.old value.new }
+{
+    let Value::RankValue(ranks) = value else {
+        return;
+    };
+    catch_up_reader(ranks, reader);
 }

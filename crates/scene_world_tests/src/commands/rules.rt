@@ -5,15 +5,18 @@ ghost use Rattle.scene_world_tests.specs.Owning.{owning_book, owning_columns, Re
 ghost use Rattle.scene_world_tests.specs.Apart.{owning-apart};
 
 use crate::commands::columns::{
-    owner_datum, push_owner, put_owner, put_rank, rank_datum, register_both, take_owner, take_rank,
+    catch_up_owners, catch_up_ranks, owner_datum, owner_reader, push_owner, put_owner, put_rank,
+    rank_datum, rank_reader, register_both, take_owner, take_rank, told_owners, told_ranks,
 };
 use crate::commands::datum::Datum;
 use crate::commands::values::Value;
+use hibitset_sets::BitSet;
 use scene_model::Queue;
 use scene_world::{Rules, Store};
 use shred_stages::Stop;
 use shred_world::{Holder, ResourceId, World};
 use specs_entity::Entity;
+use specs_layouts::ReaderId;
 use std::alloc::{AllocError, Global};
 
 /// Rules under which an entity belongs to another and has a rank, and a world has an era.
@@ -74,6 +77,35 @@ impl Rules for Owning {
             take_owner(value, index)
         } else {
             take_rank(value, index)
+        }
+    }
+
+    fn reader(value: &mut Value, kind: &str) -> Result<ReaderId, AllocError> {
+        if kind == "owner" {
+            owner_reader(value)
+        } else {
+            rank_reader(value)
+        }
+    }
+
+    fn events(
+        value: &Value,
+        kind: &str,
+        reader: &ReaderId,
+        into: &mut BitSet,
+    ) -> Result<(), AllocError> {
+        if kind == "owner" {
+            told_owners(value, reader, into)
+        } else {
+            told_ranks(value, reader, into)
+        }
+    }
+
+    fn catch_up(value: &mut Value, kind: &str, reader: &ReaderId) {
+        if kind == "owner" {
+            catch_up_owners(value, reader);
+        } else {
+            catch_up_ranks(value, reader);
         }
     }
 

@@ -4,16 +4,19 @@ ghost use Rattle.scene_world.specs.Turns.{sense_of};
 ghost use Rattle.scene_world_tests.specs.Drifting.{drifting_book, drifting_columns, Drifts, drifting-apart};
 
 use crate::turns::columns::{
-    position_datum, put_position, put_velocity, register_both, take_position, take_velocity,
-    velocity_datum,
+    catch_up_positions, catch_up_velocities, position_datum, position_reader, put_position,
+    put_velocity, register_both, take_position, take_velocity, told_positions, told_velocities,
+    velocity_datum, velocity_reader,
 };
 use crate::turns::drift::drift_all;
 use crate::turns::values::Value;
+use hibitset_sets::BitSet;
 use scene_model::Queue;
 use scene_world::{Rules, Store};
 use shred_stages::Stop;
 use shred_world::{Holder, ResourceId, World};
 use specs_entity::Entity;
+use specs_layouts::ReaderId;
 use std::alloc::{AllocError, Global};
 
 /// Rules under which entities have a position and a velocity.
@@ -74,6 +77,35 @@ impl Rules for Drifting {
             take_position(value, index)
         } else {
             take_velocity(value, index)
+        }
+    }
+
+    fn reader(value: &mut Value, kind: &str) -> Result<ReaderId, AllocError> {
+        if kind == "pos" {
+            position_reader(value)
+        } else {
+            velocity_reader(value)
+        }
+    }
+
+    fn events(
+        value: &Value,
+        kind: &str,
+        reader: &ReaderId,
+        into: &mut BitSet,
+    ) -> Result<(), AllocError> {
+        if kind == "pos" {
+            told_positions(value, reader, into)
+        } else {
+            told_velocities(value, reader, into)
+        }
+    }
+
+    fn catch_up(value: &mut Value, kind: &str, reader: &ReaderId) {
+        if kind == "pos" {
+            catch_up_positions(value, reader);
+        } else {
+            catch_up_velocities(value, reader);
         }
     }
 

@@ -7,11 +7,14 @@ use Rattle.scene_world.specs.Places.{kinds_of}
 use Rattle.scene_world.specs.Standing.{roll_of}
 use Rattle.scene_commands.specs.Acts.{seen_of}
 use Rattle.scene_commands.specs.Newborns.{GivesParts}
-use Rattle.scene_commands.proofs.GiveLemmas.{under-new, gives-more}
+use Rattle.scene_commands.proofs.GiveLemmas.{under-new, gives-none, gives-more}
 use Rattle.scene_commands.proofs.births.give_parts.Goals as goal
 
 pub give_part-requires-clause-known : goal.give_part-requires-clause-known
 give_part-requires-clause-known g c = holds_at (plain_entry g.R.DocumentRules.part_of) c.args.parts.now c.loop-part.part-index c.part-item.result c.loop-part-test.true c.part-item.is (λ entry. is_among entry.0 g.R.Rules.columns.part_names ≡ true) c.requires.known
+
+pub loop-part-init : goal.loop-part-init
+loop-part-init g c = gives-none (kinds_of g.R.Value.SceneValue.places g.R.DocumentRules.part_of g.R.Rules.columns) c.args.index (seen_of c.args.world.now)
 
 pub loop-part-preserved : goal.loop-part-preserved
 loop-part-preserved g c =

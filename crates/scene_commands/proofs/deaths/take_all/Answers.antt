@@ -3,11 +3,14 @@ use Rattle.scene_model.specs.Parts.{is_among}
 use Rattle.scene_world.specs.Places.{kinds_of}
 use Rattle.scene_commands.specs.Acts.{seen_of}
 use Rattle.scene_commands.specs.Deaths.{DropsParts}
-use Rattle.scene_commands.proofs.DropLemmas.{no_name, drops-more, named-there, texts-more}
+use Rattle.scene_commands.proofs.DropLemmas.{no_name, drops-none, drops-more, named-there, texts-more}
 use Rattle.scene_commands.proofs.deaths.take_all.Goals as goal
 
 pub take_at-requires : goal.take_at-requires
 take_at-requires g c = record { known = subst (λ names. is_among (get_or c.args.names.now c.loop-kind.kind-index no_name).now names ≡ true) c.requires (named-there c.args.names.now c.loop-kind.kind-index no_name c.loop-kind-test.true) }
+
+pub loop-kind-init : goal.loop-kind-init
+loop-kind-init g c = drops-none (kinds_of g.R.Value.SceneValue.places g.R.DocumentRules.part_of g.R.Rules.columns) c.args.index (seen_of c.args.world.now)
 
 pub loop-kind-preserved : goal.loop-kind-preserved
 loop-kind-preserved g c =

@@ -1,15 +1,26 @@
-use Rattle.std.proofs.Common.{◌≡◌, ◌+◌, length, take, drop, map, Err, arith, sym, ◌∙◌, subst}
-use Rattle.std.proofs.lemmas.List.{length-map, length-take-le, take_all}
+use Rattle.std.proofs.Common.{◌≡◌, ◌+◌, [], length, take, drop, map, Err, arith, refl, sym, ◌∙◌, subst}
+use Rattle.std.proofs.lemmas.List.{append-nil, length-map, length-take-le, take_all}
 use Rattle.scene_model.specs.Lawful.{IsLawful}
 use Rattle.scene_model.specs.Leads.{RunsTo}
 use Rattle.scene_model.specs.Queues.{plain_command, plain_commands}
-use Rattle.scene_model.proofs.CallerLemmas.{holds_at, front_at, split_at}
+use Rattle.scene_model.proofs.CallerLemmas.{holds_at, front_at, split_at, none-to}
 use Rattle.scene_world.specs.Places.{kinds_of}
 use Rattle.scene_world.specs.Standing.{plain_of}
 use Rattle.scene_commands.specs.Acts.{seen_of}
 use Rattle.scene_commands.specs.Lists.{RefusesActs}
+use Rattle.scene_commands.proofs.GoingLemmas.{goes-nowhere, goes-both}
 use Rattle.scene_commands.proofs.ListLemmas.{ran-more, kept-more, acts-refused, acts-wanting}
 use Rattle.scene_commands.proofs.lists.act_all.Goals as goal
+
+pub loop-command-init : goal.loop-command-init
+loop-command-init g c = record {
+  place = omega arith;
+  ran = none-to c.args.frame (c.args.earlier + 1) (plain_of (kinds_of g.R.Value.SceneValue.places g.R.DocumentRules.part_of g.R.Rules.columns) (seen_of c.args.world.now)) c.args.skips.now.items;
+  may = c.requires.may;
+  elsewhere = λ id e m a p. refl;
+  goes_on = goes-nowhere (kinds_of g.R.Value.SceneValue.places g.R.DocumentRules.part_of g.R.Rules.columns) c.args.world.now;
+  kept = ([], sym (append-nil c.args.skips.now.items));
+}
 
 pub act-requires-clause-lawful : goal.act-requires-clause-lawful
 act-requires-clause-lawful g c = holds_at (plain_command g.R.DocumentRules.part_of) c.args.commands.now c.loop-command.command-index c.command-item.result c.loop-command-test.true c.command-item.is (IsLawful (g.R.DocumentRules.book c.args.rules.now)) c.requires.lawful
@@ -31,6 +42,7 @@ loop-command-preserved g c =
           (ran-more (kinds_of g.R.Value.SceneValue.places g.R.DocumentRules.part_of g.R.Rules.columns) c.args.frame (c.args.earlier + 1) (plain_commands g.R.DocumentRules.part_of (take c.loop-command.command-index c.args.commands.now)) c.args.world.now c.loop-command.world c.args.skips.now.items c.loop-command.skips.items c.loop-command.invariant.ran (plain_command g.R.DocumentRules.part_of c.command-item.result) c.in_ok-done.done c.act.new.world c.note.new.skips.items (c.loop-command.place + 1) (omega (arith, c.loop-command.invariant.place, count)) c.in_ok-done.ensures.acts c.in_ok-note.ensures.ok);
       may = c.in_ok-done.ensures.may;
       elsewhere = λ id e m a p. c.in_ok-done.ensures.elsewhere id e m a p ∙ c.loop-command.invariant.elsewhere id e m a p;
+      goes_on = goes-both (kinds_of g.R.Value.SceneValue.places g.R.DocumentRules.part_of g.R.Rules.columns) c.args.world.now c.loop-command.world c.act.new.world c.loop-command.invariant.goes_on c.in_ok-done.ensures.goes_on;
       kept = kept-more c.args.frame (c.loop-command.place + 1) c.in_ok-done.done c.args.skips.now.items c.loop-command.skips.items c.note.new.skips.items c.loop-command.invariant.kept c.in_ok-note.ensures.ok;
     }
 

@@ -4,7 +4,7 @@ use Rattle.scene_model.specs.Leads.{RunsTo}
 use Rattle.scene_model.specs.Queues.{plain_commands}
 use Rattle.scene_world.specs.Places.{kinds_of}
 use Rattle.scene_world.specs.Standing.{plain_of}
-use Rattle.scene_commands.specs.Acts.{seen_of, MayAct, StaysElsewhere}
+use Rattle.scene_commands.specs.Acts.{seen_of, MayAct, StaysElsewhere, GoesOn}
 use Rattle.scene_commands.proofs.lists.act_all.Given as goal
 
 abbrev pub invariant-loop-command : goal.invariant-loop-command
@@ -14,5 +14,6 @@ invariant-loop-command g l = record {
       (plain_of (kinds_of g.R.Value.SceneValue.places g.R.DocumentRules.part_of g.R.Rules.columns) (seen_of l.world)) l.initial.skips.items l.skips.items;
   may : MayAct (kinds_of g.R.Value.SceneValue.places g.R.DocumentRules.part_of g.R.Rules.columns) l.world;
   elsewhere : StaysElsewhere (kinds_of g.R.Value.SceneValue.places g.R.DocumentRules.part_of g.R.Rules.columns) l.initial.world l.world;
+  goes_on : GoesOn (kinds_of g.R.Value.SceneValue.places g.R.DocumentRules.part_of g.R.Rules.columns) l.initial.world l.world;
   kept : (more : List Skip) × (l.skips.items ≡ l.initial.skips.items ++ more);
 }

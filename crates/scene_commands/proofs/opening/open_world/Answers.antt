@@ -18,7 +18,7 @@ returns-clause-may g c =
     c.in_ok-register.ensures)
     (min c.args.limits.0 16777216) (min c.args.limits.1 2147483647) c.args.next
     (c.wrap_entities.ensures ∙ ap (λ b. Some b) c.with_limits-entities.ensures)
-    (λ index. c.wrap_markers.ensures index ∙ c.no_markers.ensures.none index)
+    (λ index. c.wrap_markers.ensures.markers index ∙ c.no_markers.ensures.none index)
     (c.wrap_allocator.ensures ∙ ap (λ n. Some n) c.new.ensures)
 
 pub returns-clause-births : goal.returns-clause-births
@@ -52,5 +52,5 @@ returns-clause-scene g c =
     (λ id. ap (λ w. value_at w id) c.empty-world.ensures ∙ ap option_flatten (slots.get-empty id_cmp id))
     (min c.args.limits.0 16777216) (min c.args.limits.1 2147483647) c.args.next
     (c.wrap_entities.ensures ∙ ap (λ b. Some b) c.with_limits-entities.ensures)
-    (λ index. c.wrap_markers.ensures index ∙ c.no_markers.ensures.none index)
+    (λ index. c.wrap_markers.ensures.markers index ∙ c.no_markers.ensures.none index)
     (c.wrap_allocator.ensures ∙ ap (λ n. Some n) c.new.ensures)

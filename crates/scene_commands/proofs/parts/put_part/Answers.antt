@@ -6,6 +6,7 @@ use Rattle.scene_world.specs.Standing.{roll_of}
 use Rattle.scene_commands.specs.Acts.{seen_of, AreUnder, PutsPart}
 use Rattle.scene_commands.proofs.ActLemmas.{put-acts, put-may, put-lacks, put-skips, as-many}
 use Rattle.scene_commands.proofs.ElsewhereLemmas.{column-elsewhere}
+use Rattle.scene_commands.proofs.GoingLemmas.{goes-nowhere, goes-by-part}
 use Rattle.scene_commands.proofs.parts.put_part.Given.{Over}
 use Rattle.scene_commands.proofs.parts.put_part.Goals.{After-drop-refs-2}
 use Rattle.scene_commands.proofs.parts.put_part.Goals as goal
@@ -61,3 +62,14 @@ pub returns-clause-elsewhere : goal.returns-clause-elsewhere
 returns-clause-elsewhere g c =
     let puts = put g c in
     column-elsewhere (kinds_of g.R.Value.SceneValue.places g.R.DocumentRules.part_of g.R.Rules.columns) c.args.kind.now c.in-Some.entity.id (Some puts.one) c.args.world.now c.put_at.new.world puts.sets c.requires.known
+
+pub returns-in_default-clause-goes_on : goal.returns-in_default-clause-goes_on
+returns-in_default-clause-goes_on g c = goes-nowhere (kinds_of g.R.Value.SceneValue.places g.R.DocumentRules.part_of g.R.Rules.columns) c.args.world.now
+
+pub returns-in_default-2-clause-goes_on : goal.returns-in_default-2-clause-goes_on
+returns-in_default-2-clause-goes_on g c = goes-nowhere (kinds_of g.R.Value.SceneValue.places g.R.DocumentRules.part_of g.R.Rules.columns) c.args.world.now
+
+pub returns-clause-goes_on : goal.returns-clause-goes_on
+returns-clause-goes_on g c =
+    let puts = put g c in
+    goes-by-part (kinds_of g.R.Value.SceneValue.places g.R.DocumentRules.part_of g.R.Rules.columns) g.met.R.Rules.apart c.args.kind.now c.requires.known c.in-Some.entity.id (Some puts.one) c.args.world.now c.put_at.new.world puts.sets

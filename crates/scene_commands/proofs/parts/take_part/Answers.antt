@@ -3,6 +3,7 @@ use Rattle.scene_world.specs.Places.{kinds_of}
 use Rattle.scene_commands.specs.Acts.{seen_of, SetsColumn}
 use Rattle.scene_commands.proofs.ActLemmas.{take-acts, take-may, take-skips}
 use Rattle.scene_commands.proofs.ElsewhereLemmas.{column-elsewhere}
+use Rattle.scene_commands.proofs.GoingLemmas.{goes-nowhere, goes-by-part}
 use Rattle.scene_commands.proofs.parts.take_part.Given.{Over}
 use Rattle.scene_commands.proofs.parts.take_part.Goals.{In_ok-take_at}
 use Rattle.scene_commands.proofs.parts.take_part.Goals as goal
@@ -33,3 +34,9 @@ returns-in_default-clause-elsewhere g c = λ id e m a p. refl
 
 pub returns-clause-elsewhere : goal.returns-clause-elsewhere
 returns-clause-elsewhere g c = column-elsewhere (kinds_of g.R.Value.SceneValue.places g.R.DocumentRules.part_of g.R.Rules.columns) c.args.kind.now c.in-Some.entity.id None c.args.world.now c.take_at.new.world (taken g c) c.requires.known
+
+pub returns-in_default-clause-goes_on : goal.returns-in_default-clause-goes_on
+returns-in_default-clause-goes_on g c = goes-nowhere (kinds_of g.R.Value.SceneValue.places g.R.DocumentRules.part_of g.R.Rules.columns) c.args.world.now
+
+pub returns-clause-goes_on : goal.returns-clause-goes_on
+returns-clause-goes_on g c = goes-by-part (kinds_of g.R.Value.SceneValue.places g.R.DocumentRules.part_of g.R.Rules.columns) g.met.R.Rules.apart c.args.kind.now c.requires.known c.in-Some.entity.id None c.args.world.now c.take_at.new.world (taken g c)
