@@ -1,5 +1,6 @@
 -- Lemmas on the frames of a scene that stands in a world: how far it has come, and how it ends.
 use Rattle.std.proofs.Common.{◌≡◌, ◌<◌, ◌∙◌, ℕ, Result, Ok, Err, inl, refl, sym, ap, subst}
+use Rattle.std.specs.Result.{OnOk}
 use Rattle.shred_world.specs.Worlds.{Slots}
 use Rattle.shred_world.specs.Bundles.{holding_of}
 use Rattle.shred.specs.Dispatching.{Dispatching}
@@ -9,13 +10,15 @@ use Rattle.scene_model.specs.Frames.{SystemsRun}
 use Rattle.scene_model.specs.Scenes.{PlainScene, PlainFrame}
 use Rattle.scene_model.specs.Parts.{Json, Part}
 use Rattle.scene_model.specs.Rulebook.{Book}
-use Rattle.scene_world.specs.Standing.{Kinds, plain_of}
+use Rattle.scene_world.specs.Ages.{Ages}
+use Rattle.scene_world.specs.Standing.{Kinds, roll_of, plain_of}
+use Rattle.scene_world.proofs.CallerLemmas.{ages-none, markers-stay}
 use Rattle.scene_world.specs.Turns.{Meaning}
 use Rattle.scene_world.specs.Chains.{left_at}
 use Rattle.scene_world.specs.declared.placed.Placed.{Placed}
 use Rattle.scene_dispatch.specs.Orders.{turn_order}
 use Rattle.scene_dispatch.specs.Frames.{AreRefused, Come}
-use Rattle.scene_commands.specs.Acts.{seen_of}
+use Rattle.scene_commands.specs.Acts.{seen_of, GoesOn}
 use Rattle.scene.specs.Waiting.{NoneWaits}
 use Rattle.scene.specs.Refusals.{RefusedIn}
 use Rattle.scene.specs.Coming.{HaveCome, HaveTurned}
@@ -39,6 +42,14 @@ module _ {V P : Type 0} (kinds : Kinds V) (meaning : Meaning P) (book : Book) wh
   have-come before after w later scene (Err cause) none same order refused =
       subst (λ list. AreRefused book list scene cause) (sym order) (subst (λ start. AreRefused book (turn_order meaning.plain before) start cause) same refused)
 
+  -- what they made of the world is shown, and time went on, where they came to a good end
+  pub come-goes : (before after : Dispatching P P) (w later : Slots V) (outcome : Result (Unit {0}) FrameRefusal) → Come kinds meaning book before (holding_of w) outcome after (holding_of later) → OnOk outcome (GoesOn kinds w later)
+  come-goes before after w later (Ok a) turns = record {
+    shown = record { parts = turns.shown; markers = markers-stay kinds (seen_of w) (seen_of later) turns.markers };
+    ages = subst (λ roll. Ages (roll_of kinds (seen_of w)) roll) (sym turns.rolls) (ages-none (roll_of kinds (seen_of w)));
+  }
+  come-goes before after w later (Err cause) refused = tt
+
   -- systems that have come to a good end have taken their turns
   pub turned : {A : Type 0} (systems : Dispatching P P) (w : Slots V) (scene : PlainScene) (outcome : Result A FrameRefusal) {a : A} → outcome ≡ Ok a → HaveCome kinds meaning book systems w scene outcome → HaveTurned kinds meaning book systems w scene
   turned systems w scene outcome is come = subst (HaveCome kinds meaning book systems w scene) is come
@@ -56,7 +67,7 @@ module _ {V P : Type 0} (kinds : Kinds V) (meaning : Meaning P) (book : Book) wh
 
 -- a scene with other systems and another world
 abbrev with_world : {R V D G S : Type 0} → Scene R V D G S → Dispatching (Placed R V D G S) (Placed R V D G S) → Slots V → Scene R V D G S
-with_world scene systems w = record { rules = scene.rules; limit = scene.limit; world = w; dispatcher = systems; places = scene.places; commands = scene.commands; asked = scene.asked; kept = scene.kept; report = scene.report }
+with_world scene systems w = record { rules = scene.rules; limit = scene.limit; world = w; dispatcher = systems; places = scene.places; commands = scene.commands; asked = scene.asked; watchers = scene.watchers; kept = scene.kept; report = scene.report }
 
 module _ {R V D G S : Type 0} (kinds : Kinds V) (part_of : D → Part) (global_of : G → Json) (meaning : Meaning (Placed R V D G S)) (book_of : R → Book) where
   -- a scene before any of its frames

@@ -1,9 +1,8 @@
 -- Lemmas on what is kept of a world: of who lives, of the rows of kinds, and of the scene.
-use Rattle.std.proofs.Common.{◌≡◌, ◌≢◌, ◌⊎◌, inl, inr, ◌<◌, ◌+◌, ℕ, zero, suc, take, get_or, Bool, true, false, cond, eqb, ◌||◌, List, [], ◌∷◌, ◌++◌, append_assoc, append-nil, map, length, All, Option, Some, None, IsSome, IfSome, is_some, option_map, Result, Ok, Err, IfOk, refl, ap, sym, subst, ◌∙◌, arith}
+use Rattle.std.proofs.Common.{◌≡◌, ◌≢◌, ◌⊎◌, inl, inr, ◌<◌, ◌+◌, ℕ, zero, suc, take, get_or, Bool, true, false, cond, eqb, ◌||◌, List, [], ◌∷◌, ◌++◌, append_assoc, append-nil, map, length, All, Option, Some, None, IsSome, is_some, option_map, refl, ap, sym, subst, ◌∙◌, arith}
 use Rattle.std.specs.Prelude.{option_and_then, slice_get}
 use Rattle.std.specs.List.{list_any, cons_option}
 use Rattle.std.specs.Global.{Vec}
-use Rattle.std.specs.Ordering.{nat_cmp}
 use Rattle.std.specs.FinMap as finite
 use Rattle.std.proofs.lemmas.Bool.{false≢true, eqb-true, eq-eqb}
 use Rattle.std.proofs.lemmas.List.Elements.{All-nil, All-cons, All-head, All-tail, All-push, All-weaker, All-map, filter_map-append}
@@ -32,12 +31,12 @@ use Rattle.scene_world.specs.Rolls.{Roll, IsRoll, id_at, index_of, ids_in, ref_t
 use Rattle.scene_world.specs.Standing.{Sight, Kinds, roll_of, column_of, value_of, plain_of, IsSceneWorld}
 use Rattle.scene_world.proofs.CallerLemmas.{id-at-index, lives-index, ids-ascend, index-of-id}
 use Rattle.scene_world.specs.Putting.{named_in, part_read, each_there, AreReadAt}
-use Rattle.scene_world.proofs.CallerLemmas.{each-same, each-mapped}
+use Rattle.scene_world.proofs.CallerLemmas.{each-same, each-none, each-mapped}
 use Rattle.scene_snapshot.specs.Rows.{seats_kept, seat_at, datum_at, HasRoom, SameCourse}
 use Rattle.scene_snapshot.specs.KeptScenes.{bearers, part_kept, kept_scene}
 use Rattle.scene_snapshot.specs.declared.kept.KeptScene.{KeptScene}
 use Rattle.scene_snapshot.proofs.CallerLemmas.{kept-scene-is, bearer-none, bearer-one}
-use Rattle.scene.specs.Taken.{AreMarkedBy, AreMarkersOf, IsAmong, ArePairs, with_last, part_at, AreOfPairs, IsRowOf, AreRowsOf}
+use Rattle.scene.specs.Taken.{AreMarkedBy, AreMarkersOf, IsAmong, ArePairs, turned, with_last, part_at, AreOfPairs, IsRowOf, AreRowsOf}
 use Rattle.scene.proofs.KeptPlaceLemmas.{by-name, keys-ascend, keys-there}
 
 -- ---- references
@@ -47,7 +46,7 @@ reached true true marker id ids is living_it = ap reference is
 reached true false marker id ids is living_it = absurd living_it
 reached false there marker id ids is living_it = absurd living_it
 
-some-of : {A : Type 0} (o : Option A) → IsSome o → (a : A) × (o ≡ Some a)
+pub some-of : {A : Type 0} (o : Option A) → IsSome o → (a : A) × (o ≡ Some a)
 some-of None e = absurd (false≢true e)
 some-of (Some a) e = (a, refl)
 
@@ -110,6 +109,7 @@ module _ (roll : Roll) (is : IsRoll roll) (markers : Masked (Flagged (VecStorage
   pub all-pairs : (pairs : List (ℕ × ℕ)) → AreMarkersOf markers pairs → ArePairs roll pairs
   all-pairs pairs are = record {
     each = All-weaker (λ pair. marker_at markers pair.1 ≡ Some pair.0) (λ pair. id_at roll pair.1 ≡ Some pair.0) (λ pair. marked-lives pair.1 pair.0) pairs are.each;
+    below = are.below;
     all = λ index some. are.all index (lives-marked index some);
   }
 
@@ -132,6 +132,7 @@ module _ (markers : Masked (Flagged (VecStorage ℕ))) where
     pub pairing-last : left ≡ [] → Agrees markers.mask (marker_at markers) → ((index : ℕ) → has_member markers.mask index ≡ true → index < 16777216) → AreMarkersOf markers pairs
     pairing-last none agree range = record {
       each = pairing.each;
+      below = All-weaker (λ pair. marker_at markers pair.1 ≡ Some pair.0) (λ pair. pair.1 < 16777216) (λ pair there. range pair.1 (agree pair.1 ∙ ap is_some there)) pairs pairing.each;
       all = λ index some.
           let member : has_member markers.mask index ≡ true = agree index ∙ some in
           ap (list_any (eqb index)) (sym (append-nil (map (λ pair. pair.1) pairs)) ∙ sym (ap (λ rest. map (λ pair. pair.1) pairs ++ rest) none) ∙ pairing.all)
@@ -162,7 +163,7 @@ module _ {X : Type 0} where
 
   module _ (read : ℕ → Option X) (number : ℕ) where
     -- where each is what is read of its number, nothing is found of a number of which nothing is read,
-    last-none : (list : List (ℕ × X)) (before : ℕ → Option X) → All (λ one. read one.0 ≡ Some one.1) list → read number ≡ None → before number ≡ None → with_last list before number ≡ None
+    pub last-none : (list : List (ℕ × X)) (before : ℕ → Option X) → All (λ one. read one.0 ≡ Some one.1) list → read number ≡ None → before number ≡ None → with_last list before number ≡ None
     last-none [] before each none was = was
     last-none (one ∷ others) before each none was =
         last-none others (λ other. cond (eqb other one.0) (Some one.1) (before other)) (All-tail (λ one. read one.0 ≡ Some one.1) one others each) none (by (eqb number one.0) refl)
@@ -172,7 +173,7 @@ module _ {X : Type 0} where
         by false apart = was
 
     -- and of one among them what is read
-    last-some : (x : X) → read number ≡ Some x → (list : List (ℕ × X)) (before : ℕ → Option X) → All (λ one. read one.0 ≡ Some one.1) list
+    pub last-some : (x : X) → read number ≡ Some x → (list : List (ℕ × X)) (before : ℕ → Option X) → All (λ one. read one.0 ≡ Some one.1) list
         → (before number ≡ Some x) ⊎ IsAmong (map (λ one. one.0) list) number → with_last list before number ≡ Some x
     last-some x some [] before each (inl was) = was
     last-some x some [] before each (inr among_them) = absurd (false≢true among_them)
@@ -235,10 +236,10 @@ module _ {X : Type 0} (read : ℕ → Option X) where
 
   -- so they are found where nothing stood before
   pub row-read : {D : Type 0} (f : D → X) (found : List (ℕ × Option D)) (places : List (ℕ × ℕ)) (before : ℕ → Option D) → each_there (option_map f) found ≡ each_there read places → All (λ pair. pair.0 ≡ pair.1) places
-      → ((index : ℕ) → before index ≡ None) → (number : ℕ) → IsAmong (map (λ pair. pair.1) places) number → option_map f (with_last (each_there (λ one. one) found) before number) ≡ read number
-  row-read f found places before same behind bare number among_them =
+      → (number : ℕ) → before number ≡ None → (IsSome (read number) → IsAmong (map (λ pair. pair.1) places) number) → option_map f (with_last (each_there (λ one. one) found) before number) ≡ read number
+  row-read f found places before same behind number bare known =
       last-mapped f (each_there (λ one. one) found) before number ∙ ap (λ list. with_last list (λ other. option_map f (before other)) number) (sym (each-mapped f (λ one. one) found) ∙ same)
-      ∙ last-read read number (each_there read places) (λ other. option_map f (before other)) (read-each places behind) (ap (option_map f) (bare number)) (λ some. read-among number places behind some among_them)
+      ∙ last-read read number (each_there read places) (λ other. option_map f (before other)) (read-each places behind) (ap (option_map f) bare) (λ some. read-among number places behind some (known some))
 
 pub no-items : {A : Type 0} (items : List A) → length items ≡ 0 → items ≡ []
 no-items [] none = refl
@@ -255,18 +256,18 @@ pub record Writing {D G : Type 0} (found left : List (ℕ × Option D)) (place c
   pub split : done ++ left ≡ found
   pub row : (index : ℕ) → datum_at now place index ≡ with_last (each_there (λ one. one) done) (datum_at old place) index
   pub others : (other index : ℕ) → other ≢ place → datum_at now other index ≡ datum_at old other index
-  pub seats : (index : ℕ) → seat_at now index ≡ None
+  pub seats : (index : ℕ) → seat_at now index ≡ seat_at old index
   pub room : HasRoom count now
   pub course : SameCourse old now
 
 module _ {D G : Type 0} (found left : List (ℕ × Option D)) (place count : ℕ) (old now : KeptScene D G) where
-  pub writing-begins : left ≡ found → now ≡ old → ((index : ℕ) → seat_at old index ≡ None) → HasRoom count old → Writing found left place count old now
-  writing-begins all same free room = subst (Writing found left place count old) (sym same) (record {
+  pub writing-begins : left ≡ found → now ≡ old → HasRoom count old → Writing found left place count old now
+  writing-begins all same room = subst (Writing found left place count old) (sym same) (record {
     done = [];
     split = all;
     row = λ index. refl;
     others = λ other index differ. refl;
-    seats = free;
+    seats = λ index. refl;
     room = room;
     course = record { kinds = refl; next = refl; globals = refl };
   })
@@ -318,20 +319,54 @@ module _ {D G : Type 0} (found left : List (ℕ × Option D)) (place count : ℕ
           unlike other differ true same = absurd (differ (eqb-true other place same))
           unlike other differ false apart = apart
 
--- ids that are entered at the indices of those who live are theirs
-pub seats-kept : (roll : Roll) (pairs : List (ℕ × ℕ)) (before : ℕ → Option ℕ) → ArePairs roll pairs → ((index : ℕ) → before index ≡ None) → (index : ℕ) → with_last (map (λ (pair : ℕ × ℕ). (pair.1, pair.0)) pairs) before index ≡ id_at roll index
-seats-kept roll pairs before are bare index =
-    last-read (id_at roll) index (map (λ (pair : ℕ × ℕ). (pair.1, pair.0)) pairs) before (turned pairs are.each) (bare index) (λ some. ap (list_any (eqb index)) (firsts pairs) ∙ are.all index some)
+-- what holds of each datum that was found holds of one of them
+pub found-there : {D : Type 0} (holds : ℕ × D → Type 0) (done : List (ℕ × Option D)) (number : ℕ) (datum : D) (rest : List (ℕ × Option D)) → All holds (each_there (λ (one : Option D). one) (done ++ (number, Some datum) ∷ rest)) → holds (number, datum)
+found-there holds [] number datum rest all = All-head holds (number, datum) (each_there (λ one. one) rest) all
+found-there {D} holds (one ∷ done) number datum rest all = by (found-there holds done number datum rest) one.1 all
   where
-    turned : (pairs : List (ℕ × ℕ)) → All (λ pair. id_at roll pair.1 ≡ Some pair.0) pairs → All (λ (one : ℕ × ℕ). id_at roll one.0 ≡ Some one.1) (map (λ (pair : ℕ × ℕ). (pair.1, pair.0)) pairs)
-    turned [] each = All-nil (λ (one : ℕ × ℕ). id_at roll one.0 ≡ Some one.1)
-    turned (pair ∷ pairs) each =
+    by : (All holds (each_there (λ (one : Option D). one) (done ++ (number, Some datum) ∷ rest)) → holds (number, datum)) → (o : Option D)
+        → All holds (cons_option (option_map (λ x. (one.0, x)) o) (each_there (λ (one : Option D). one) (done ++ (number, Some datum) ∷ rest))) → holds (number, datum)
+    by later None all = later all
+    by later (Some x) all = later (All-tail holds (one.0, x) (each_there (λ one. one) (done ++ (number, Some datum) ∷ rest)) all)
+
+-- ids that are entered at the indices of those who live are theirs
+pub seats-kept : (roll : Roll) (pairs : List (ℕ × ℕ)) (before : ℕ → Option ℕ) → ArePairs roll pairs → ((index : ℕ) → before index ≡ None) → (index : ℕ) → with_last (turned pairs) before index ≡ id_at roll index
+seats-kept roll pairs before are bare index =
+    last-read (id_at roll) index (turned pairs) before (each-turned pairs are.each) (bare index) (λ some. ap (list_any (eqb index)) (firsts pairs) ∙ are.all index some)
+  where
+    each-turned : (pairs : List (ℕ × ℕ)) → All (λ pair. id_at roll pair.1 ≡ Some pair.0) pairs → All (λ (one : ℕ × ℕ). id_at roll one.0 ≡ Some one.1) (map (λ (pair : ℕ × ℕ). (pair.1, pair.0)) pairs)
+    each-turned [] each = All-nil (λ (one : ℕ × ℕ). id_at roll one.0 ≡ Some one.1)
+    each-turned (pair ∷ pairs) each =
         All-cons (λ (one : ℕ × ℕ). id_at roll one.0 ≡ Some one.1) (pair.1, pair.0) (map (λ (pair : ℕ × ℕ). (pair.1, pair.0)) pairs) (All-head (λ pair. id_at roll pair.1 ≡ Some pair.0) pair pairs each)
-        (turned pairs (All-tail (λ pair. id_at roll pair.1 ≡ Some pair.0) pair pairs each))
+        (each-turned pairs (All-tail (λ pair. id_at roll pair.1 ≡ Some pair.0) pair pairs each))
 
     firsts : (pairs : List (ℕ × ℕ)) → map (λ (one : ℕ × ℕ). one.0) (map (λ (pair : ℕ × ℕ). (pair.1, pair.0)) pairs) ≡ map (λ pair. pair.1) pairs
     firsts [] = refl
     firsts (pair ∷ pairs) = ap (λ rest. pair.1 ∷ rest) (firsts pairs)
+
+-- nobody lives past the indices of pairs that are all who live
+pub below-pairs : (roll : Roll) (pairs : List (ℕ × ℕ)) → ArePairs roll pairs → (index : ℕ) → IsSome (id_at roll index) → index < 16777216
+below-pairs roll pairs are index some = by pairs are.below (are.all index some)
+  where
+    by : (list : List (ℕ × ℕ)) → All (λ (pair : ℕ × ℕ). pair.1 < 16777216) list → IsAmong (map (λ (pair : ℕ × ℕ). pair.1) list) index → index < 16777216
+    by [] all among = absurd (false≢true among)
+    by (pair ∷ list) all among = at (eqb index pair.1) refl among (by list (All-tail (λ (pair : ℕ × ℕ). pair.1 < 16777216) pair list all))
+      where
+        at : (b : Bool) → eqb index pair.1 ≡ b → (b || list_any (eqb index) (map (λ (pair : ℕ × ℕ). pair.1) list)) ≡ true → (IsAmong (map (λ (pair : ℕ × ℕ). pair.1) list) index → index < 16777216) → index < 16777216
+        at true same _ rest = subst (λ i. i < 16777216) (sym (eqb-true index pair.1 same)) (All-head (λ (pair : ℕ × ℕ). pair.1 < 16777216) pair list all)
+        at false apart among rest = rest among
+
+-- a part stands where somebody lives, and so at the index of one of these pairs
+pub part-among : {V : Type 0} (kinds : Kinds V) (book : Book) (w : Sight V) → IsSceneWorld kinds book w → (pairs : List (ℕ × ℕ)) → ArePairs (roll_of kinds w) pairs → (kind : Name) → is_among kind kinds.part_names ≡ true
+    → (index : ℕ) → IsSome (part_at kinds w index kind) → IsAmong (map (λ (pair : ℕ × ℕ). pair.1) pairs) index
+part-among kinds book w stands pairs are kind known index some = by (column_of kinds w kind index) refl some
+  where
+    by : (o : Option Stored) → column_of kinds w kind index ≡ o → IsSome (option_map (part_under (ref_to (roll_of kinds w))) o) → IsAmong (map (λ (pair : ℕ × ℕ). pair.1) pairs) index
+    by None none is = absurd (false≢true is)
+    by (Some one) there is =
+        let life = some-of (living (roll_of kinds w).births index) (stands.within kind known index (ap is_some there)) in
+        let marked = stands.roll.marked index life.0 life.1 in
+        are.all index (ap is_some (ap (λ o. cond (is_some o) ((roll_of kinds w).marker index) None) life.1 ∙ marked.1.marker))
 
 -- the indices of pairs, each behind itself
 pub behind-itself : (pairs : List (ℕ × ℕ)) → All (λ (pair : ℕ × ℕ). pair.0 ≡ pair.1) (map (λ (pair : ℕ × ℕ). (pair.1, pair.1)) pairs)
@@ -372,27 +407,28 @@ module _ {V D : Type 0} (kinds : Kinds V) (part_of : D → Part) (w : Sight V) w
           (λ some is. subst (λ named. All (RefLives (ids_in (roll_of kinds w))) (map (ref_to (roll_of kinds w)) named)) (sym (are.nobody index) ∙ ap named_in is) (All-nil (RefLives (ids_in (roll_of kinds w)))))
           ∙ ap (λ held. option_map (part_under (ref_to (roll_of kinds w))) (option_and_then (λ v. kinds.stored kind v index) held)) there
 
-  -- where nothing stands for a kind, no part of it is anywhere
-  pub bare-row : {G : Type 0} (kind : Name) (place : ℕ) (kept : KeptScene D G) (index : ℕ) → w (kinds.part_id kind) ≡ None → datum_at kept place index ≡ None → IsRowOf kinds part_of w kind place kept index
-  bare-row kind place kept index none bare =
-      ap (option_map part_of) bare ∙ sym (ap (λ held. option_map (part_under (ref_to (roll_of kinds w))) (option_and_then (λ v. kinds.stored kind v index) held)) none)
+  -- where nothing stands for a kind, no part of it is at any index
+  pub none-of-pairs : (kind : Name) (pairs : List (ℕ × ℕ)) (found : List (ℕ × Option D)) → w (kinds.part_id kind) ≡ None → found ≡ [] → AreOfPairs kinds part_of w kind pairs found
+  none-of-pairs kind pairs found none empty =
+      ap (each_there (option_map part_of)) empty
+      ∙ sym (each-none (λ index. part_at kinds w index kind) (λ index. ap (λ held. option_map (part_under (ref_to (roll_of kinds w))) (option_and_then (λ v. kinds.stored kind v index) held)) none) pairs)
 
   -- a row more
   pub more-rows : {G : Type 0} (names : List Name) (place : ℕ) (before after : KeptScene D G) → AreRowsOf kinds part_of w names place before
-      → ((index : ℕ) → IsSome (id_at (roll_of kinds w) index) → IsRowOf kinds part_of w (name_at names place) place after index)
+      → ((index : ℕ) → IsRowOf kinds part_of w (name_at names place) place after index)
       → ((other index : ℕ) → other ≢ place → datum_at after other index ≡ datum_at before other index) → AreRowsOf kinds part_of w names (place + 1) after
-  more-rows names place before after are row others at below index some = by (eqb at place) refl
+  more-rows names place before after are row others at below index = by (eqb at place) refl
     where
       by : (b : Bool) → eqb at place ≡ b → IsRowOf kinds part_of w (name_at names at) at after index
-      by true same = subst (λ one. IsRowOf kinds part_of w (name_at names one) one after index) (sym (eqb-true at place same)) (row index some)
+      by true same = subst (λ one. IsRowOf kinds part_of w (name_at names one) one after index) (sym (eqb-true at place same)) (row index)
       by false apart =
           let differ : at ≢ place = λ is. false≢true (sym apart ∙ eq-eqb at place is) in
-          ap (option_map part_of) (others at index differ) ∙ are at (omega (arith, differ)) index some
+          ap (option_map part_of) (others at index differ) ∙ are at (omega (arith, differ)) index
 
   -- rows that show the same are so too
   pub same-rows : {G : Type 0} (names : List Name) (count : ℕ) (before after : KeptScene D G) → ((place index : ℕ) → datum_at after place index ≡ datum_at before place index) → AreRowsOf kinds part_of w names count before
       → AreRowsOf kinds part_of w names count after
-  same-rows names count before after same are place below index some = ap (option_map part_of) (same place index) ∙ are place below index some
+  same-rows names count before after same are place below index = ap (option_map part_of) (same place index) ∙ are place below index
 
   -- so the parts are those of the scene
   kept-parts : {G : Type 0} (book : Book) (kept : KeptScene D G) → AreRowsOf kinds part_of w book.part_names (length book.part_names) kept
@@ -408,7 +444,7 @@ module _ {V D : Type 0} (kinds : Kinds V) (part_of : D → Part) (w : Sight V) w
           → option_map part_of (option_and_then (λ place. datum_at kept place index) place) ≡ cond (is_among kind book.part_names) (part_at kinds w index kind) None
       at index known None is = ap (λ b. cond b (part_at kinds w index kind) None) (sym (ap is_some is) ∙ is_some-place_of kind book.part_names)
       at index known (Some place) is =
-          are place (place_of-bound kind place book.part_names is) index (ap is_some (id-at-index (roll_of kinds w) id index known))
+          are place (place_of-bound kind place book.part_names is) index
           ∙ ap (part_at kinds w index) (place_of-name kind place book.part_names is)
           ∙ ap (λ b. cond b (part_at kinds w index kind) None) (sym (ap is_some is) ∙ is_some-place_of kind book.part_names)
 

@@ -5,6 +5,11 @@ pub mod CommandLemmas
 pub mod SpareLemmas
 pub mod KeptPlaceLemmas
 pub mod KeepLemmas
+pub mod EntryLemmas
+pub mod StepLemmas
+pub mod ChangeLemmas
+pub mod LoopLemmas
+pub mod TellingLemmas
 pub mod TurnLemmas
 pub mod OutcomeLemmas
 pub mod PlaceLemmas

@@ -18,8 +18,9 @@ use Rattle.scene_model.proofs.CallerLemmas.{same_scene, all_front, all_back}
 use Rattle.scene_world.specs.Rolls.{Roll, IsRoll, ids_in, part_in}
 use Rattle.scene_world.specs.Standing.{Kinds, roll_of, column_in, column_of, plain_of, commands_of, IsWithin}
 use Rattle.scene_world.specs.Lent.{Place, entities, markers, allocator, parts, value, queue, id_of_place, is_known, same_place, StandApart}
-use Rattle.scene_world.proofs.CallerLemmas.{same-roll}
-use Rattle.scene_commands.specs.Acts.{seen_of, WasBorn, MayAct, StaysElsewhere}
+use Rattle.scene_world.specs.Ages.{Ages}
+use Rattle.scene_world.proofs.CallerLemmas.{same-roll, ages-none, kind-stays, markers-stay as shown-markers}
+use Rattle.scene_commands.specs.Acts.{seen_of, WasBorn, MayAct, StaysElsewhere, GoesOn}
 use Rattle.scene_commands.proofs.CallerLemmas.{sees-now}
 use Rattle.scene.specs.Waiting.{PlacesAscend, IsNoQueue, StaysBeside, StaysApart, NoneWaitsAt}
 use Rattle.scene.proofs.QueueLemmas.{ArePlacesAbove, PlacesRise, places-rise}
@@ -78,6 +79,16 @@ module _ {V : Type 0} (kinds : Kinds V) (apart : StandApart kinds) where
             → cond b (option_and_then (kinds.value name) (seen_of later (kinds.global_id name))) None ≡ cond b (option_and_then (kinds.value name) (seen_of w (kinds.global_id name))) None
         global name true known = ap (option_and_then (kinds.value name)) (value-stays name known)
         global name false known = refl
+
+    -- nothing is told, and no time passed
+    pub goes-beside : GoesOn kinds w later
+    goes-beside = record {
+      shown = record {
+        parts = λ kind known. kind-stays kinds kind (seen_of w) (seen_of later) (part-stays kind known);
+        markers = shown-markers kinds (seen_of w) (seen_of later) markers-stay;
+      };
+      ages = subst (λ roll. Ages (roll_of kinds (seen_of w)) roll) (sym roll-stays) (ages-none (roll_of kinds (seen_of w)));
+    }
 
     -- and commands may be carried out there as before
     pub may-stays : MayAct kinds w → MayAct kinds later

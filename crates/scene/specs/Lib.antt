@@ -9,6 +9,9 @@ pub mod Sparing
 pub use Rattle.scene_snapshot.specs.KeptScenes
 pub use Rattle.scene_world.specs.Standing
 pub mod Taken
+pub use Rattle.scene_commands.specs.Watching
+pub mod Keeping
+pub mod Changes
 pub use Rattle.scene_model.specs.Parts
 pub use Rattle.scene_model.specs.Rulebook
 pub use Rattle.scene_model.specs.Scenes

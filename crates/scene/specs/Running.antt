@@ -1,6 +1,7 @@
 -- What a scene is that runs in a world of entities: what is shown of it, and when it is ready for its next frame.
 use Rattle.std.specs.Prelude.{◌≡◌, ℕ, List, [], codes, min, Result, Ok, Some, None, Option, All, slice_get}
 use Rattle.std.specs.Global.{Vec}
+use Rattle.serde_json.specs.View.{view}
 use Rattle.shred_world.specs.Worlds.{Slots}
 use Rattle.shred_world.specs.Bundles.{holding_of}
 use Rattle.shred_stages.specs.Worth.{most_worth}
@@ -18,6 +19,7 @@ use Rattle.scene_document.specs.Drafts.{Draft}
 use Rattle.scene_document.specs.DraftViews.{IsDraft, AreMade}
 use Rattle.scene_document.specs.Texts.{json_of}
 use Rattle.scene_document.specs.declared.loaded.Limits.{Limits}
+use Rattle.scene_document.specs.Apart.{IsApart}
 use Rattle.scene_document.specs.Documents.{document_from, refusal_of}
 use Rattle.scene_document.specs.Openings.{first_scene, frames_of}
 use Rattle.scene_document.specs.Loading.{commands_at}
@@ -31,11 +33,14 @@ use Rattle.scene_dispatch.specs.Frames.{AreReady}
 use Rattle.scene_commands.specs.Acts.{seen_of}
 use Rattle.scene.specs.Waiting.{AreTheirPlaces, NoneWaits}
 use Rattle.scene.specs.Coming.{HaveCome}
+use Rattle.scene.specs.Keeping.{IsKept, IsKeptSince}
 use Rattle.scene.specs.Runs.{CanBegin}
 use Rattle.scene.specs.Turns.{Shown, opening, nothing_yet, Going, RunsOut}
 use Rattle.scene.specs.declared.frame.Scene.{Scene}
 use Rattle.scene.specs.declared.load.Opened.{Opened}
 use Rattle.scene.specs.declared.load.Prepared.{Prepared}
+use Rattle.scene.specs.declared.load.ReadDocument.{ReadDocument}
+use Rattle.scene.specs.declared.load.ReadDocument.TheVariants.{Apart, Whole}
 
 -- the frames of a scene: its systems in the order in which they take their turns, and the commands for each frame by its number from 1
 abbrev pub course_of : {D : Type 0} → (D → Part) → List PlainSystem → List (Vec (Command D)) → ℕ → PlainFrame
@@ -56,6 +61,11 @@ pub record IsOpenable {D G S : Type 0} (part_of : D → Part) (global_of : G →
   pub indices : ℕ
   pub says : IsDraft part_of global_of kind_of config_of book plain draft
   pub passed : refusal_of indices plain ≡ None
+
+-- a JSON was read: its entities apart from the rest of it, or as a whole
+abbrev pub IsReadAs : {D : Type 0} → (D → Part) → Book → Json → ReadDocument D → Type 0
+IsReadAs part_of book json (Apart apart) = IsApart part_of book json (view apart.rest) apart.entities.items
+IsReadAs part_of book json (Whole value) = json ≡ view value
 
 -- the scene of a document alone, without systems and commands
 abbrev pub alone : Draft → Draft
@@ -135,17 +145,20 @@ module _ {R V D G S : Type 0} (kinds : Kinds V) (part_of : D → Part) (global_o
     report = scene.report;
   }
 
-  -- a scene is ready: unless a frame was refused, it stands in its world; it is proper, and the commands of its frames are ones that the
+  -- a scene is ready: unless a frame was refused, it stands in its world, of which what is kept is the full save; it is proper, and the commands of its frames are ones that the
   -- rules know; every scene that was loaded is, and stays so
   pub record IsReady (scene : Scene R V D G S) : Type 0 where
     pub stands : scene.report.refused ≡ None → Stands kinds meaning (book_of scene.rules) scene.dispatcher scene.world scene.places.items (listed_scene part_of global_of (book_of scene.rules) scene.kept)
+    pub kept : scene.report.refused ≡ None → IsKept kinds part_of (book_of scene.rules) scene.watchers scene.kept (seen_of scene.world)
     pub lawful : (number : ℕ) → All (IsLawful (book_of scene.rules)) (commands_at part_of scene.commands.items number)
     pub proper : IsProper (book_of scene.rules) (listed_scene part_of global_of (book_of scene.rules) scene.kept)
 
-  -- the systems of a scene's next frame have come to an outcome, and nothing else of the frame was done
+  -- the systems of a scene's next frame have come to an outcome, and nothing else of the frame was done since what is kept was the full save of
+  -- its world
   pub record IsUnderWay (scene : Scene R V D G S) (outcome : Result (Unit {0}) FrameRefusal) : Type 0 where
     pub going : scene.report.refused ≡ None
     pub come : HaveCome kinds meaning (book_of scene.rules) scene.dispatcher scene.world (listed_scene part_of global_of (book_of scene.rules) scene.kept) outcome
+    pub since : IsKeptSince kinds part_of (book_of scene.rules) scene.watchers scene.kept scene.world outcome
     pub places : AreTheirPlaces scene.places.items (turn_order meaning.plain scene.dispatcher)
     pub lawful : (number : ℕ) → All (IsLawful (book_of scene.rules)) (commands_at part_of scene.commands.items number)
     pub proper : IsProper (book_of scene.rules) (listed_scene part_of global_of (book_of scene.rules) scene.kept)

@@ -1,6 +1,6 @@
 -- What is taken off a world to be kept; no public clause cites this.
-use Rattle.std.specs.Prelude.{◌≡◌, ◌<◌, ℕ, true, List, [], ◌∷◌, map, Option, None, Some, IsSome, option_map, ◌==◌, if◌then◌else◌}
-use Rattle.std.specs.List.{All, list_any}
+use Rattle.std.specs.Prelude.{◌≡◌, ◌<◌, ℕ, Bool, true, List, [], ◌∷◌, map, Option, None, Some, IsSome, option_map, ◌==◌, if◌then◌else◌}
+use Rattle.std.specs.List.{All, list_any, filter_map}
 use Rattle.specs_entity.specs.Life.{LifeAt}
 use Rattle.specs_layouts.specs.Flagged.{Flagged}
 use Rattle.specs_layouts.specs.Masked.{Masked}
@@ -18,18 +18,36 @@ use Rattle.scene_snapshot.specs.Rows.{seat_at, datum_at}
 abbrev pub AreMarkedBy : Roll → List LifeAt → List ℕ → Type 0
 AreMarkedBy roll named ids = map (λ entity. roll.marker entity.id) named ≡ map (λ id. Some id) ids
 
+-- whether a number is one of these
+abbrev pub is_one_of : List ℕ → ℕ → Bool
+is_one_of numbers number = list_any (λ other. number == other) numbers
+
 -- one of these numbers
 abbrev pub IsAmong : List ℕ → ℕ → Type 0
-IsAmong numbers number = list_any (λ other. number == other) numbers ≡ true
+IsAmong numbers number = is_one_of numbers number ≡ true
+
+-- numbers, each behind itself
+abbrev pub behind_themselves : List ℕ → List (ℕ × ℕ)
+behind_themselves numbers = map (λ number. (number, number)) numbers
+
+-- an id and its index the other way round
+abbrev pub turned : List (ℕ × ℕ) → List (ℕ × ℕ)
+turned pairs = map (λ pair. (pair.1, pair.0)) pairs
+
+-- the id with which each of these indices is marked, before the index, where it is marked
+abbrev pub marks_at : (ℕ → Option ℕ) → List (ℕ × ℕ) → List (ℕ × ℕ)
+marks_at marker pairs = filter_map (λ pair. option_map (λ id. (id, pair.1)) (marker pair.1)) pairs
 
 -- these are a storage's markers, each before its index
 pub record AreMarkersOf (markers : Masked (Flagged (VecStorage ℕ))) (pairs : List (ℕ × ℕ)) : Type 0 where
   pub each : All (λ pair. marker_at markers pair.1 ≡ Some pair.0) pairs
+  pub below : All (λ pair. pair.1 < 16777216) pairs
   pub all : (index : ℕ) → IsSome (marker_at markers index) → IsAmong (map (λ pair. pair.1) pairs) index
 
 -- these are the ids of those who live, each before the index of its entity
 pub record ArePairs (roll : Roll) (pairs : List (ℕ × ℕ)) : Type 0 where
   pub each : All (λ pair. id_at roll pair.1 ≡ Some pair.0) pairs
+  pub below : All (λ pair. pair.1 < 16777216) pairs
   pub all : (index : ℕ) → IsSome (id_at roll index) → IsAmong (map (λ pair. pair.1) pairs) index
 
 -- what stands behind a number in a list, the last of several, or what stood there before
@@ -55,6 +73,6 @@ module _ {V D : Type 0} (kinds : Kinds V) (part_of : D → Part) (w : Sight V) w
   abbrev pub IsRowOf : {G : Type 0} → Name → ℕ → KeptScene D G → ℕ → Type 0
   IsRowOf kind place kept index = option_map part_of (datum_at kept place index) ≡ part_at kinds w index kind
 
-  -- so it is of the first of these kinds, each at its place, where somebody lives
+  -- so it is of the first of these kinds, each at its place
   abbrev pub AreRowsOf : {G : Type 0} → List Name → ℕ → KeptScene D G → Type 0
-  AreRowsOf names count kept = (place : ℕ) → place < count → (index : ℕ) → IsSome (id_at (roll_of kinds w) index) → IsRowOf (name_at names place) place kept index
+  AreRowsOf names count kept = (place : ℕ) → place < count → (index : ℕ) → IsRowOf (name_at names place) place kept index

@@ -5,14 +5,19 @@ ghost use Rattle.scene_model.specs.Commands.{skips_of};
 ghost use Rattle.scene_model.specs.Frames.{Accepts, Refuses};
 ghost use Rattle.scene_model.specs.Queues.{plain_commands};
 ghost use Rattle.scene_dispatch.specs.Orders.{turn_order};
+ghost use Rattle.scene_commands.specs.Acts.{seen_of};
+ghost use Rattle.scene.specs.Keeping.{IsKept, IsKeptSince};
 ghost use Rattle.scene.specs.Running.{Stands};
 ghost use Rattle.scene.specs.Waiting.{AreTheirPlaces};
 ghost use Rattle.scene.specs.Members.{frame_by, listed_by, HaveComeBy};
 ghost use Rattle.scene_world.specs.Members.{kinds_by, placed_by};
 
+use crate::FrameInput;
+use crate::changes::keep_changes;
 use crate::laws::a_refusal_in_a_world_is_one_of_the_scene;
 use crate::running::finish_frame;
-use crate::{FrameInput, keep_scene};
+use scene_commands::laws::events_are_no_part_of_a_scene;
+use scene_commands::{Watchers, catch_up_world};
 use scene_dispatch::SceneDispatcher;
 use scene_model::{FrameRefusal, Skip};
 use scene_snapshot::KeptScene;
@@ -20,8 +25,9 @@ use scene_world::Rules;
 use shred_world::World;
 use std::alloc::Global;
 
-/// The rest of a frame in a world, once its systems have come to this outcome, and the scene after it is kept. Errors:
-/// those of the frame; the scene before is kept.
+/// The rest of a frame in a world, once its systems have come to this outcome; what is kept becomes the full save of the
+/// scene after it, changed where the events of the frame tell of changes. Errors: those of the frame; the scene before is
+/// kept.
 pub(crate) fn advance<R: Rules>(
     rules: &R,
     dispatcher: &SceneDispatcher<R>,
@@ -29,6 +35,7 @@ pub(crate) fn advance<R: Rules>(
     world: &mut World<R::Value>,
     input: &FrameInput<'_, R::Data>,
     skips: &mut Vec<Skip>,
+    watchers: &Watchers,
     kept: &mut KeptScene<R::Data, Vec<Option<R::Global>>>,
     alloc: Global,
 ) -> Result<(), FrameRefusal>
@@ -36,6 +43,8 @@ where
     R::Value: Drop,
     requires come { HaveComeBy R.Rules R.Value.SceneValue rules.now dispatcher.now world.old
         (listed_by R.Rules rules.now kept.old) outcome }
+    requires since { IsKeptSince (kinds_by R.Rules R.Value.SceneValue) R.part_of (R.book rules.now) watchers.now
+        kept.old world.old outcome }
     requires places { AreTheirPlaces input.now.places.now (turn_order (placed_by R.Rules).plain dispatcher.now) }
     requires given { All (IsLawful (R.book rules.now)) (plain_commands R.part_of input.now.given.now) }
     ensures accepted { OnOk result ((skipped : List ℕ) × Accepts (R.book rules.now) input.now.limit
@@ -47,14 +56,17 @@ where
     ensures refused { IfErr result (Refuses (R.book rules.now) input.now.limit
         (frame_by R.Rules dispatcher.now input.now.given.now) (listed_by R.Rules rules.now kept.old)) }
     ensures skips { OnErr result (skips.new.items ≡ skips.old.items) }
-    ensures kept { OnErr result (kept.new ≡ kept.old) }
+    ensures full { OnOk result (IsKept (kinds_by R.Rules R.Value.SceneValue) R.part_of (R.book rules.now)
+        watchers.now kept.new (seen_of world.new)) }
+    ensures kept { OnErr result (listed_by R.Rules rules.now kept.new ≡ listed_by R.Rules rules.now kept.old) }
 {
     a_refusal_in_a_world_is_one_of_the_scene(rules);
+    events_are_no_part_of_a_scene(rules);
     let noted = skips.len();
     finish_frame(rules, dispatcher, outcome, world, input, skips, alloc)?;
-    match keep_scene(rules, world, alloc) {
-        Ok(now) => {
-            *kept = now;
+    match keep_changes(rules, world, watchers, kept, alloc) {
+        Ok(()) => {
+            catch_up_world(rules, world, watchers);
             Ok(())
         }
         Err(_) => {

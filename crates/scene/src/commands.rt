@@ -9,7 +9,7 @@ ghost use Rattle.scene_model.specs.Commands.{CommandsAccepted, first_gone, skips
 ghost use Rattle.scene_model.specs.Queues.{plain_commands, waiting};
 ghost use Rattle.scene_world.specs.Standing.{commands_of};
 ghost use Rattle.scene_world.specs.Members.{kinds_by};
-ghost use Rattle.scene_commands.specs.Acts.{seen_of, MayAct, StaysElsewhere};
+ghost use Rattle.scene_commands.specs.Acts.{seen_of, MayAct, StaysElsewhere, GoesOn};
 ghost use Rattle.scene_commands.specs.Lists.{RefusesActs};
 ghost use Rattle.scene_commands.specs.Members.{scene_in};
 ghost use Rattle.scene.specs.Waiting.{given_and_waiting, waiting_in, PlacesAscend, NoneWaitsAt, StaysApart};
@@ -89,6 +89,7 @@ fn act_queues<R: Rules>(
         (scene_in R.Rules R.Value.SceneValue world.new) skips.old.items skips.new.items) }
     ensures may { OnOk result (MayAct (kinds_by R.Rules R.Value.SceneValue) world.new) }
     ensures elsewhere { OnOk result (StaysElsewhere (kinds_by R.Rules R.Value.SceneValue) world.old world.new) }
+    ensures goes_on { OnOk result (GoesOn (kinds_by R.Rules R.Value.SceneValue) world.old world.new) }
     ensures refused { IfErr result (RefusesActs (kinds_by R.Rules R.Value.SceneValue) (earlier + 1)
         (waiting_in R.part_of queues.now) world.old) }
     ensures kept { (more : List Skip) × (skips.new.items ≡ skips.old.items ++ more) }
@@ -121,6 +122,7 @@ fn act_both<R: Rules>(
         (scene_in R.Rules R.Value.SceneValue world.new) skips.old.items skips.new.items) }
     ensures may { OnOk result (MayAct (kinds_by R.Rules R.Value.SceneValue) world.new) }
     ensures elsewhere { OnOk result (StaysElsewhere (kinds_by R.Rules R.Value.SceneValue) world.old world.new) }
+    ensures goes_on { OnOk result (GoesOn (kinds_by R.Rules R.Value.SceneValue) world.old world.new) }
     ensures refused { IfErr result (RefusesActs (kinds_by R.Rules R.Value.SceneValue) 1
         (plain_commands R.part_of given.now ++ waiting_in R.part_of queues.now) world.old) }
     ensures kept { (more : List Skip) × (skips.new.items ≡ skips.old.items ++ more) }
@@ -221,6 +223,7 @@ where
         (NoneWaitsAt (kinds_by R.Rules R.Value.SceneValue) input.now.places.now (seen_of world.new)) }
     ensures apart { OnOk result
         (StaysApart (kinds_by R.Rules R.Value.SceneValue) input.now.places.now world.old world.new) }
+    ensures goes_on { OnOk result (GoesOn (kinds_by R.Rules R.Value.SceneValue) world.old world.new) }
     ensures refused { IfErr result (RefusesAll (kinds_by R.Rules R.Value.SceneValue) (R.book rules.now)
         (plain_commands R.part_of input.now.given.now ++ waiting_in R.part_of queues.items) world.old) }
     ensures kept { (more : List Skip) × (skips.new.items ≡ skips.old.items ++ more) }
@@ -276,6 +279,7 @@ where
         (NoneWaitsAt (kinds_by R.Rules R.Value.SceneValue) input.now.places.now (seen_of world.new)) }
     ensures apart { OnOk result
         (StaysApart (kinds_by R.Rules R.Value.SceneValue) input.now.places.now world.old world.new) }
+    ensures goes_on { OnOk result (GoesOn (kinds_by R.Rules R.Value.SceneValue) world.old world.new) }
     ensures refused { IfErr result (CommandsRefusedIn (kinds_by R.Rules R.Value.SceneValue) (R.book rules.now)
         input.now.limit (given_and_waiting (kinds_by R.Rules R.Value.SceneValue) R.part_of input.now
         (seen_of world.old)) (scene_in R.Rules R.Value.SceneValue world.old)) }

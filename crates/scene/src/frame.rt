@@ -6,11 +6,16 @@ ghost use Rattle.scene_document.specs.Loading.{commands_at};
 ghost use Rattle.scene.specs.Members.{shown_by, IsReadyBy, IsUnderWayBy, IsOpenedBy, IsReadAndOpened, IsPlacedBy};
 
 use crate::advance::advance;
-use crate::load::{Course, Opened, place_document, prepare_document};
+use crate::load::{
+    Course, Opened, ReadDocument, place_document, prepare_document, prepare_read,
+    read_apart_or_whole,
+};
 use crate::{FrameInput, keep_scene};
+use scene_commands::laws::events_are_no_part_of_a_scene;
+use scene_commands::{Watchers, watch_world};
 use scene_dispatch::{SceneDispatcher, Works};
-use scene_document::{JsonError, Limits, LoadError, read_json};
-use scene_model::{Command, DocRefusal, FrameRefusal, Report, Skips};
+use scene_document::{Limits, LoadError};
+use scene_model::{Command, FrameRefusal, Report, Skips};
 use scene_snapshot::{KeptScene, kept_text};
 use scene_world::Rules;
 use serde_json::Value;
@@ -36,6 +41,7 @@ where
     places: Vec<u32>,
     commands: Vec<Vec<Command<R::Data>>>,
     asked: u32,
+    watchers: Watchers,
     kept: KeptScene<R::Data, Vec<Option<R::Global>>>,
     report: Report,
 }
@@ -67,7 +73,7 @@ where
     ghost use Rattle.scene.specs.Outcomes.{IsNoDocument, bounds_of};
     ghost use Rattle.scene_document.specs.Loading.{IsNotLoaded};
     ghost use Rattle.scene_document.specs.Texts.{scene_json, text_of, ReadsBack};
-    ghost use Rattle.scene.specs.Running.{rules_of, crew_of};
+    ghost use Rattle.scene.specs.Running.{rules_of, crew_of, IsReadAs};
     ghost use Rattle.scene_model.specs.Parts.{Json};
     ghost use Rattle.scene_document.specs.declared.loaded.LoadError.TheVariants.{Memory};
 
@@ -85,12 +91,47 @@ where
         ensures { MatchResult result (IsReadAndOpened R.Rules R.Value.SceneValue rules limits bytes.now)
             (IsNoDocument (R.book rules) (bounds_of limits) bytes.now) }
     {
-        let value = match read_json(alloc, bytes) {
-            Ok(value) => value,
-            Err(JsonError::Unreadable) => return Err(LoadError::Document(DocRefusal::Unreadable)),
-            Err(JsonError::Memory) => return Err(LoadError::Memory),
-        };
-        Scene::load_owned(alloc, rules, limits, value)
+        let read = read_apart_or_whole(alloc, &rules, bytes)?;
+        Scene::load_read(alloc, rules, limits, read)
+    }
+
+    /// The scene of the document in these bytes, as `open` makes it. The bytes are let go once they are read, before a world
+    /// is filled with what they say.
+    ///
+    /// Errors: those of `open`.
+    pub(crate) fn open_owned(
+        alloc: Global,
+        rules: R,
+        limits: Limits,
+        bytes: Vec<u8>,
+    ) -> Result<Scene<R>, LoadError>
+        requires { AreLimits limits }
+        ensures { MatchResult result (IsReadAndOpened R.Rules R.Value.SceneValue rules limits bytes.items)
+            (IsNoDocument (R.book rules) (bounds_of limits) bytes.items) }
+    {
+        let read = read_apart_or_whole(alloc, &rules, bytes.as_slice())?;
+        drop(bytes);
+        Scene::load_read(alloc, rules, limits, read)
+    }
+
+    /// The scene of a document that was read, before any frame. Its JSON is let go before a world is filled.
+    ///
+    /// Errors: those of `load`.
+    fn load_read(
+        alloc: Global,
+        rules: R,
+        limits: Limits,
+        read: ReadDocument<R::Data>,
+    ) -> Result<Scene<R>, LoadError>
+        requires limits { AreLimits limits }
+        requires read { (json : Json) × IsReadAs R.part_of (R.book rules) json read }
+        ensures { (json : Json) → IsReadAs R.part_of (R.book rules) json read
+            → MatchResult result (IsOpenedBy R.Rules R.Value.SceneValue rules limits json)
+            (IsNotLoaded (R.book rules) limits.indices json) }
+    {
+        let prepared = prepare_read(alloc, &rules, limits, read)?;
+        let opened = place_document(alloc, &rules, limits, prepared)?;
+        Scene::keeping(alloc, rules, limits, opened)
     }
 
     /// The scene of a document that was read as JSON, before any frame.
@@ -146,10 +187,14 @@ where
             → IsOpenedBy R.Rules R.Value.SceneValue rules limits json scene) (λ error. error ≡ Memory) }
     {
         let Opened {
-            world,
+            mut world,
             places,
             course,
         } = opened;
+        events_are_no_part_of_a_scene(&rules);
+        let Ok(watchers) = watch_world(&rules, &mut world, alloc) else {
+            return Err(LoadError::Memory);
+        };
         let Ok(kept) = keep_scene(&rules, &world, alloc) else {
             return Err(LoadError::Memory);
         };
@@ -171,6 +216,7 @@ where
             places,
             commands,
             asked,
+            watchers,
             kept,
             report,
         })
@@ -274,6 +320,7 @@ where
             &mut self.world,
             &input,
             &mut skips,
+            &self.watchers,
             &mut self.kept,
             alloc,
         ) {

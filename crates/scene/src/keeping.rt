@@ -1,5 +1,5 @@
 //! The scene that stands in a world, kept.
-ghost use Rattle.std.specs.Prelude.{◌≡◌, ◌≢◌, ◌<◌, ℕ, true, length, map, None, All, IfOk, OnOk};
+ghost use Rattle.std.specs.Prelude.{◌≡◌, ◌≢◌, ◌<◌, ℕ, true, length, map, None, All, IfOk, OnOk, IsSome};
 ghost use Rattle.scene_model.specs.Parts.{is_among};
 ghost use Rattle.scene_model.specs.Declaring.{texts};
 ghost use Rattle.scene_world.specs.Standing.{roll_of, IsSceneWorld};
@@ -9,7 +9,8 @@ ghost use Rattle.scene_commands.specs.Members.{scene_in};
 ghost use Rattle.scene_snapshot.specs.Rows.{seat_at, datum_at, kinds_kept, HasRoom, SameCourse};
 ghost use Rattle.scene_snapshot.specs.KeptScenes.{kept_scene};
 ghost use Rattle.scene_world.specs.Putting.{each_there};
-ghost use Rattle.scene.specs.Taken.{ArePairs, IsAmong, IsRowOf, AreRowsOf, IsBare, with_last};
+ghost use Rattle.scene.specs.Keeping.{IsBelow, IsFullByIndex};
+ghost use Rattle.scene.specs.Taken.{ArePairs, IsAmong, IsRowOf, AreRowsOf, AreOfPairs, IsBare, part_at, turned, with_last};
 
 use crate::taking::{data_at, globals_in, next_in, pairs_in};
 use scene_snapshot::{ByPlace, KeptScene};
@@ -29,7 +30,12 @@ pub fn keep_scene<R: Rules>(
 ) -> Result<KeptScene<R::Data, Vec<Option<R::Global>>>, AllocError>
     requires stands { IsSceneWorld (kinds_by R.Rules R.Value.SceneValue) (R.book rules.now)
         (seen_of world.now) }
-    ensures { IfOk result (λ kept. kept_scene R.part_of R.global_of ⟦<Vec<Option<R::Global>> as ByPlace<R::Global>>⟧.at_place (R.book rules.now) kept ≡ scene_in R.Rules R.Value.SceneValue world.now) }
+    ensures scene { IfOk result (λ kept. kept_scene R.part_of R.global_of
+        ⟦<Vec<Option<R::Global>> as ByPlace<R::Global>>⟧.at_place (R.book rules.now) kept
+        ≡ scene_in R.Rules R.Value.SceneValue world.now) }
+    ensures full { IfOk result (λ kept. IsFullByIndex (kinds_by R.Rules R.Value.SceneValue) R.part_of
+        R.columns.part_names kept (seen_of world.now)) }
+    ensures below { OnOk result (IsBelow (kinds_by R.Rules R.Value.SceneValue) (seen_of world.now)) }
 {
     let globals = globals_in::<R>(world, rules.global_names(), alloc)?;
     let next = next_in::<R>(world)?;
@@ -44,7 +50,7 @@ pub fn keep_scene<R: Rules>(
 }
 
 /// A number above each index of these pairs.
-fn room_for(pairs: &[(u64, u32)]) -> usize
+pub(crate) fn room_for(pairs: &[(u64, u32)]) -> usize
     ensures { All (λ pair. pair.1 < result) pairs.now }
 {
     let mut count = 0;
@@ -66,11 +72,11 @@ fn indices_of(pairs: &[(u64, u32)], alloc: Global) -> Result<Vec<(u64, u32)>, Al
 }
 
 /// Enters the id of each of these pairs at its index.
-fn enter_all<D: Drop, G>(pairs: &[(u64, u32)], count: usize, kept: &mut KeptScene<D, G>)
+pub(crate) fn enter_all<D: Drop, G>(pairs: &[(u64, u32)], count: usize, kept: &mut KeptScene<D, G>)
     requires within { All (λ pair. pair.1 < count) pairs.now }
     requires room { HasRoom count kept.old }
     ensures seats { (index : ℕ) → seat_at kept.new index
-        ≡ with_last (map (λ pair. (pair.1, pair.0)) pairs.now) (seat_at kept.old) index }
+        ≡ with_last (turned pairs.now) (seat_at kept.old) index }
     ensures rows { (place index : ℕ) → datum_at kept.new place index ≡ datum_at kept.old place index }
     ensures course { SameCourse kept.old kept.new }
 {
@@ -98,6 +104,7 @@ fn write_rows<R: Rules, G>(
     requires kinds { kinds_kept kept.old ≡ length names.now }
     requires room { HasRoom count kept.old }
     requires bare { IsBare kept.old }
+    requires within { All (λ pair. pair.1 < count) pairs.now }
     ensures rows { OnOk result (AreRowsOf (kinds_by R.Rules R.Value.SceneValue) R.part_of
         (seen_of world.now) (texts names.now) (length names.now) kept.new) }
     ensures seats { OnOk result ((index : ℕ) → seat_at kept.new index ≡ None) }
@@ -111,9 +118,10 @@ fn write_rows<R: Rules, G>(
     Ok(())
 }
 
-/// Writes the data of a kind at these indices, each of which stands behind itself, into the row of the kind.
+/// Writes the data of a kind at these indices, each of which stands behind itself, into the row of the kind. No part of it
+/// stands elsewhere.
 ///
-/// Errors: want of memory, and where a datum is read at another index.
+/// Errors: want of memory.
 fn write_row<R: Rules, G>(
     rules: &R,
     world: &World<R::Value>,
@@ -128,11 +136,14 @@ fn write_row<R: Rules, G>(
         (seen_of world.now) }
     requires known { is_among kind.now R.columns.part_names ≡ true }
     requires indices { All (λ pair. pair.0 ≡ pair.1) indices.now }
+    requires within { All (λ pair. pair.1 < count) indices.now }
+    requires all { (index : ℕ) → IsSome (part_at (kinds_by R.Rules R.Value.SceneValue) (seen_of world.now) index kind.now)
+        → IsAmong (map (λ pair. pair.1) indices.now) index }
     requires kinds { place < kinds_kept kept.old }
     requires room { HasRoom count kept.old }
     requires free { (index : ℕ) → seat_at kept.old index ≡ None }
     requires bare { (index : ℕ) → datum_at kept.old place index ≡ None }
-    ensures row { OnOk result ((index : ℕ) → IsAmong (map (λ pair. pair.1) indices.now) index
+    ensures row { OnOk result ((index : ℕ)
         → IsRowOf (kinds_by R.Rules R.Value.SceneValue) R.part_of (seen_of world.now) kind.now place kept.new index) }
     ensures others { OnOk result ((other index : ℕ) → other ≢ place
         → datum_at kept.new other index ≡ datum_at kept.old other index) }
@@ -140,43 +151,59 @@ fn write_row<R: Rules, G>(
     ensures room { OnOk result (HasRoom count kept.new) }
     ensures course { OnOk result (SameCourse kept.old kept.new) }
 {
-    let Some(value) = world.get_raw(R::part_id(kind)) else {
-        return Ok(());
-    };
-    let found = match R::get_each(value, kind, indices, alloc)? {
-        Some(found) => found,
-        None => data_at(rules, world, kind, value, indices, alloc)?,
-    };
-    write_found(found, place, count, kept)
+    let found = read_row(rules, world, kind, indices, alloc)?;
+    write_found(found, place, count, kept);
+    Ok(())
 }
 
-/// Writes data into the row of a kind, each at the index behind which it stands; where several stand behind one, the last.
+/// The data of a kind at these indices, each of which stands behind itself; of an index without a part there may be none.
 ///
-/// Errors: where one stands behind an index for which there is no room.
-fn write_found<D: Drop, G>(
+/// Errors: want of memory.
+pub(crate) fn read_row<R: Rules>(
+    rules: &R,
+    world: &World<R::Value>,
+    kind: &str,
+    indices: &[(u64, u32)],
+    alloc: Global,
+) -> Result<Vec<(u64, Option<R::Data>)>, AllocError>
+    requires stands { IsSceneWorld (kinds_by R.Rules R.Value.SceneValue) (R.book rules.now)
+        (seen_of world.now) }
+    requires known { is_among kind.now R.columns.part_names ≡ true }
+    ensures { IfOk result (λ found. AreOfPairs (kinds_by R.Rules R.Value.SceneValue) R.part_of (seen_of world.now)
+        kind.now indices.now found.items) }
+{
+    let Some(value) = world.get_raw(R::part_id(kind)) else {
+        return Ok(Vec::new(alloc));
+    };
+    match R::get_each(value, kind, indices, alloc)? {
+        Some(found) => Ok(found),
+        None => data_at(rules, world, kind, value, indices, alloc),
+    }
+}
+
+/// Writes data into the row of a kind, each at the index behind which it stands and which bears nothing; where several stand
+/// behind one, the last.
+pub(crate) fn write_found<D: Drop, G>(
     found: Vec<(u64, Option<D>)>,
     place: usize,
     count: usize,
     kept: &mut KeptScene<D, G>,
-) -> Result<(), AllocError>
+)
     requires kinds { place < kinds_kept kept.old }
     requires room { HasRoom count kept.old }
-    requires free { (index : ℕ) → seat_at kept.old index ≡ None }
-    ensures row { OnOk result ((index : ℕ) → datum_at kept.new place index
-        ≡ with_last (each_there (λ one. one) found.items) (datum_at kept.old place) index) }
-    ensures others { OnOk result ((other index : ℕ) → other ≢ place
-        → datum_at kept.new other index ≡ datum_at kept.old other index) }
-    ensures seats { OnOk result ((index : ℕ) → seat_at kept.new index ≡ None) }
-    ensures room { OnOk result (HasRoom count kept.new) }
-    ensures course { OnOk result (SameCourse kept.old kept.new) }
+    requires within { All (λ one. one.0 < count) (each_there (λ one. one) found.items) }
+    requires free { All (λ one. seat_at kept.old one.0 ≡ None) (each_there (λ one. one) found.items) }
+    ensures row { (index : ℕ) → datum_at kept.new place index
+        ≡ with_last (each_there (λ one. one) found.items) (datum_at kept.old place) index }
+    ensures others { (other index : ℕ) → other ≢ place
+        → datum_at kept.new other index ≡ datum_at kept.old other index }
+    ensures seats { (index : ℕ) → seat_at kept.new index ≡ seat_at kept.old index }
+    ensures room { HasRoom count kept.new }
+    ensures course { SameCourse kept.old kept.new }
 {
     for (index, datum) in found {
         if let Some(datum) = datum {
-            if index >= count as u64 {
-                return Err(AllocError);
-            }
             kept.write(place, index as usize, Some(datum));
         }
     }
-    Ok(())
 }

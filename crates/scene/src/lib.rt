@@ -8,6 +8,7 @@
 #![tactic(auto)]
 
 mod advance;
+mod changes;
 mod commands;
 mod frame;
 mod keeping;

@@ -1,14 +1,16 @@
 //! A document is put into a world, with its systems on a dispatcher.
-ghost use Rattle.std.specs.Prelude.{◌≡◌, ◌≤◌, ℕ, List, All, length, map, IfOk, OnOk, MatchResult};
+ghost use Rattle.std.specs.Prelude.{◌≡◌, ◌≤◌, ℕ, List, All, length, map, Some, Ok, IfOk, OnOk, MatchResult};
 ghost use Rattle.serde_json.specs.View.{view};
 ghost use Rattle.scene_model.specs.Parts.{Json};
 ghost use Rattle.scene_model.specs.Lawful.{IsLawful};
 ghost use Rattle.scene_document.specs.Drafts.{Draft};
 ghost use Rattle.scene_document.specs.DraftViews.{IsDraft};
-ghost use Rattle.scene_document.specs.Documents.{refusal_of};
+ghost use Rattle.scene_document.specs.Apart.{IsApart};
+ghost use Rattle.scene_document.specs.Documents.{refusal_of, document_from};
 ghost use Rattle.scene_document.specs.declared.loaded.LoadError.TheVariants.{Memory};
 ghost use Rattle.scene_document.specs.Openings.{first_scene, frames_of, all_systems};
 ghost use Rattle.scene_document.specs.Loading.{commands_at, IsNotLoaded};
+ghost use Rattle.scene_document.specs.Texts.{json_of};
 ghost use Rattle.scene_world.specs.Standing.{IsSceneWorld};
 ghost use Rattle.scene_commands.specs.Acts.{seen_of};
 ghost use Rattle.scene_commands.specs.Members.{scene_in};
@@ -17,12 +19,16 @@ ghost use Rattle.scene_world.specs.Members.{kinds_by, placed_by};
 ghost use Rattle.scene_dispatch.specs.Orders.{turn_order};
 ghost use Rattle.scene.specs.Waiting.{NoneWaits};
 ghost use Rattle.scene.specs.Limits.{AreLimits};
-ghost use Rattle.scene.specs.Running.{IsUnrefused, IsOpenable, IsAlone, course_of};
+ghost use Rattle.scene.specs.Outcomes.{Bounds, IsNoDocument};
+ghost use Rattle.scene.specs.Running.{IsUnrefused, IsOpenable, IsAlone, IsReadAs, course_of};
 ghost use Rattle.scene.specs.Members.{IsPlacedBy, IsPreparedBy};
 
 use scene_commands::load_world;
 use scene_dispatch::{SceneDispatcher, open_queues, places_of_systems, stage_systems};
-use scene_document::{DocumentDraft, Limits, LoadError, commands_of, read_document};
+use scene_document::{
+    ApartDocument, DocumentDraft, JsonError, Limits, LoadError, commands_of, read_apart,
+    read_document, read_document_with, read_json,
+};
 use scene_model::{Command, DocRefusal};
 use scene_world::{Rules, Store};
 use serde_json::Value;
@@ -35,6 +41,13 @@ pub(crate) struct Course<R: Rules> {
     pub(crate) dispatcher: SceneDispatcher<R>,
     pub(crate) commands: Vec<Vec<Command<R::Data>>>,
     pub(crate) asked: u32,
+}
+
+/// The JSON of a document: its entities apart from the rest of it, or as a whole.
+#[derive(Drop)]
+pub(crate) enum ReadDocument<D> {
+    Apart(ApartDocument<D>),
+    Whole(Value),
 }
 
 /// A document that was read, with its systems on a dispatcher, and the draft of its scene alone. It stands in no world yet,
@@ -90,6 +103,63 @@ where
     Ok(world)
 }
 
+/// The JSON that bytes are, its entities apart from the rest of it where the document is plain.
+///
+/// Errors: `Document` with `Unreadable` where they are no JSON; `Memory`.
+pub(crate) fn read_apart_or_whole<R: Rules>(
+    alloc: Global,
+    rules: &R,
+    bytes: &[u8],
+) -> Result<ReadDocument<R::Data>, LoadError>
+    ensures { MatchResult result (λ read. (json : Json) × (json_of bytes.now ≡ Some json)
+        × IsReadAs R.part_of (R.book rules.now) json read)
+        (λ error. (bounds : Bounds) → IsNoDocument (R.book rules.now) bounds bytes.now error) }
+{
+    match read_apart(alloc, rules, bytes) {
+        Ok(Some(apart)) => return Ok(ReadDocument::Apart(apart)),
+        Ok(None) => {}
+        Err(_) => return Err(LoadError::Memory),
+    }
+    match read_json(alloc, bytes) {
+        Ok(value) => Ok(ReadDocument::Whole(value)),
+        Err(JsonError::Unreadable) => Err(LoadError::Document(DocRefusal::Unreadable)),
+        Err(JsonError::Memory) => Err(LoadError::Memory),
+    }
+}
+
+/// A document whose draft was read, ready to be put into a world. Nothing that is answered holds on to the JSON that the
+/// draft was read of, so that it can be let go before the world is filled. Errors: `Memory`.
+fn prepare_draft<R: Rules>(
+    alloc: Global,
+    rules: &R,
+    draft: DocumentDraft<'_, R::Data, R::Global, R::System>,
+) -> Result<Prepared<R>, LoadError>
+where
+    R::Value: Drop,
+    requires document { IsUnrefused R.part_of R.global_of R.kind_of R.config_of
+        R.declared R.said_time (R.made_by rules.now) (R.book rules.now) draft }
+    ensures { MatchResult result (λ prepared. (limits : Limits) → (json : Json) → (plain : Draft)
+        → document_from (R.book rules.now) limits.indices json ≡ Ok plain
+        → IsDraft R.part_of R.global_of R.kind_of R.config_of (R.book rules.now) plain draft.entry
+        → IsPreparedBy R.Rules rules.now limits json prepared) (λ error. error ≡ Memory) }
+{
+    let Ok(places) = places_of_systems(draft.entries.as_slice(), alloc) else {
+        return Err(LoadError::Memory);
+    };
+    let Some(store) = draft.store else {
+        return Err(LoadError::Document(DocRefusal::UnknownStore));
+    };
+    let Ok((course, draft)) = course_of(rules, draft, alloc) else {
+        return Err(LoadError::Memory);
+    };
+    Ok(Prepared {
+        draft,
+        store,
+        places,
+        course,
+    })
+}
+
 /// A document that was read as JSON, ready to be put into a world. Nothing that is answered holds on to the JSON, so that it
 /// can be let go before the world is filled.
 ///
@@ -106,21 +176,50 @@ where
         (IsNotLoaded (R.book rules.now) limits.indices (view value.now)) }
 {
     let draft = read_document(alloc, rules, limits, value)?;
-    let Ok(places) = places_of_systems(draft.entries.as_slice(), alloc) else {
-        return Err(LoadError::Memory);
-    };
-    let Some(store) = draft.store else {
-        return Err(LoadError::Document(DocRefusal::UnknownStore));
-    };
-    let Ok((course, draft)) = course_of(rules, draft, alloc) else {
-        return Err(LoadError::Memory);
-    };
-    Ok(Prepared {
-        draft,
-        store,
-        places,
-        course,
-    })
+    prepare_draft(alloc, rules, draft)
+}
+
+/// A document whose entities stand apart, ready to be put into a world. The rest of its JSON is let go.
+///
+/// Errors: those of `prepare_document`.
+fn prepare_apart<R: Rules>(
+    alloc: Global,
+    rules: &R,
+    limits: Limits,
+    apart: ApartDocument<R::Data>,
+) -> Result<Prepared<R>, LoadError>
+where
+    R::Value: Drop,
+    requires { (json : Json) × IsApart R.part_of (R.book rules.now) json (view apart.rest) apart.entities.items }
+    ensures { (json : Json) → IsApart R.part_of (R.book rules.now) json (view apart.rest) apart.entities.items
+        → MatchResult result (IsPreparedBy R.Rules rules.now limits json)
+        (IsNotLoaded (R.book rules.now) limits.indices json) }
+{
+    let ApartDocument { rest, entities } = apart;
+    let draft = read_document_with(alloc, rules, limits, &rest, entities)?;
+    prepare_draft(alloc, rules, draft)
+}
+
+/// A document that was read, ready to be put into a world. Its JSON is let go.
+///
+/// Errors: those of `prepare_document`.
+pub(crate) fn prepare_read<R: Rules>(
+    alloc: Global,
+    rules: &R,
+    limits: Limits,
+    read: ReadDocument<R::Data>,
+) -> Result<Prepared<R>, LoadError>
+where
+    R::Value: Drop,
+    requires { (json : Json) × IsReadAs R.part_of (R.book rules.now) json read }
+    ensures { (json : Json) → IsReadAs R.part_of (R.book rules.now) json read
+        → MatchResult result (IsPreparedBy R.Rules rules.now limits json)
+        (IsNotLoaded (R.book rules.now) limits.indices json) }
+{
+    match read {
+        ReadDocument::Apart(apart) => prepare_apart(alloc, rules, limits, apart),
+        ReadDocument::Whole(value) => prepare_document(alloc, rules, limits, &value),
+    }
 }
 
 /// A document that was prepared, put into a world. Errors: `Memory`.

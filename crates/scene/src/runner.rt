@@ -8,7 +8,7 @@ ghost use Rattle.scene.specs.Members.{shown_by, IsReadyBy, MayBeginBy, HasRunOut
 
 use crate::frame::Scene;
 use scene_devices::{CountedRead, CountedWrite, ReadFailure, read_bytes, write_text};
-use scene_document::{JsonError, Limits, LoadError, read_json};
+use scene_document::{Limits, LoadError};
 use scene_model::{DocRefusal, Report};
 use scene_world::Rules;
 use shred_crew::{Unmanned, with_crew};
@@ -48,13 +48,7 @@ where
         (λ played. IsRunOf (R.book rules) (bounds_of limits) bytes.items played.0 played.1.items)
         (IsNoDocument (R.book rules) (bounds_of limits) bytes.items) }
 {
-    let value = match read_json(rt.alloc(), bytes.as_slice()) {
-        Ok(value) => value,
-        Err(JsonError::Unreadable) => return Err(LoadError::Document(DocRefusal::Unreadable)),
-        Err(JsonError::Memory) => return Err(LoadError::Memory),
-    };
-    drop(bytes);
-    let scene = Scene::load_owned(rt.alloc(), rules, limits, value)?;
+    let scene = Scene::open_owned(rt.alloc(), rules, limits, bytes)?;
     let scene = run_to_end(rt, scene);
     let Ok(text) = scene.snapshot(rt.alloc()) else {
         return Err(LoadError::Memory);

@@ -11,7 +11,8 @@ ghost use Rattle.scene_world.specs.Putting.{AreNamedIn};
 ghost use Rattle.scene_world.specs.Members.{kinds_by, placed_by};
 ghost use Rattle.scene_dispatch.specs.Orders.{turn_order};
 ghost use Rattle.scene_dispatch.specs.Frames.{AreReady, WantsThread};
-ghost use Rattle.scene_commands.specs.Acts.{seen_of};
+ghost use Rattle.shred_world.specs.Worlds.{Slots};
+ghost use Rattle.scene_commands.specs.Acts.{seen_of, GoesOn};
 ghost use Rattle.scene_commands.specs.Members.{scene_in};
 ghost use Rattle.scene.specs.Waiting.{AreTheirPlaces, NoneWaits};
 ghost use Rattle.scene.specs.Refusals.{RefusedIn};
@@ -61,6 +62,9 @@ where
     ensures ready { OnOk result (AreReady (kinds_by R.Rules R.Value.SceneValue) (placed_by R.Rules)
         (R.book rules.now) dispatcher.now (holding_of world.new)) }
     ensures none { OnOk result (NoneWaits (kinds_by R.Rules R.Value.SceneValue) (seen_of world.new)) }
+    ensures goes_on { OnOk result ((w : Slots R.Value)
+        → OnOk outcome (GoesOn (kinds_by R.Rules R.Value.SceneValue) w world.old)
+        → GoesOn (kinds_by R.Rules R.Value.SceneValue) w world.new) }
     ensures refused { IfErr result (λ cause. (scene : PlainScene)
         → HaveComeBy R.Rules R.Value.SceneValue rules.now dispatcher.now world.old scene outcome
         → RefusedIn (kinds_by R.Rules R.Value.SceneValue) (R.book rules.now) input.now.limit
@@ -79,7 +83,8 @@ where
 /// of the systems by their places. Then it looks for references that are gone.
 ///
 /// Where the frame is accepted, the scene that stands in the world is the one after it, whatever the number of
-/// workers, the skipped commands are noted behind the skips, no command waits, and the systems may run again.
+/// workers, the skipped commands are noted behind the skips, no command waits, and the systems may run again. The
+/// events of the world show what became of its markers and parts.
 ///
 /// Asked for is that the systems are the rules' own, that the places are ascending and have the position of each
 /// system, that no command waits, and that the given commands are ones that the rules know.
@@ -114,6 +119,7 @@ where
     ensures ready { OnOk result (AreReady (kinds_by R.Rules R.Value.SceneValue) (placed_by R.Rules)
         (R.book rules.now) dispatcher.new (holding_of world.new)) }
     ensures none { OnOk result (NoneWaits (kinds_by R.Rules R.Value.SceneValue) (seen_of world.new)) }
+    ensures goes_on { OnOk result (GoesOn (kinds_by R.Rules R.Value.SceneValue) world.old world.new) }
     ensures refused { IfErr result (RefusedIn (kinds_by R.Rules R.Value.SceneValue) (R.book rules.now) input.now.limit
         (frame_by R.Rules dispatcher.old input.now.given.now) (scene_in R.Rules R.Value.SceneValue world.old)) }
     ensures skips { OnErr result (skips.new.items ≡ skips.old.items) }

@@ -1,9 +1,9 @@
 //! What is taken off a world to be kept: who lives, the datum at an index, the globals and the next id.
 ghost use Rattle.std.specs.Prelude.{◌≡◌, ℕ, true, map, Some, option_map, IfOk};
-ghost use Rattle.scene_world.specs.Markers.{marker_at};
+ghost use Rattle.scene_world.specs.Markers.{marker_at, marker_log};
 ghost use Rattle.scene_model.specs.Parts.{is_among};
 ghost use Rattle.scene_model.specs.Declaring.{texts};
-ghost use Rattle.scene_world.specs.Standing.{roll_of, value_of, IsSceneWorld};
+ghost use Rattle.scene_world.specs.Standing.{roll_of, value_of, marker_events_in, IsSceneWorld};
 ghost use Rattle.scene_world.specs.Members.{kinds_by};
 ghost use Rattle.scene_commands.specs.Acts.{seen_of};
 ghost use Rattle.scene.specs.Taken.{AreMarkersOf, ArePairs, AreMarkedBy, AreOfPairs, part_at};
@@ -18,9 +18,13 @@ use specs_markers::Marker;
 use std::alloc::{AllocError, Global};
 
 /// The markers of a world. Errors: where it has none.
-fn markers_in<R: Rules>(world: &World<R::Value>) -> Result<&MaskedStorage<SceneMarker>, AllocError>
-    ensures { IfOk result (λ markers. (index : ℕ) → (roll_of (kinds_by R.Rules R.Value.SceneValue)
+pub(crate) fn markers_in<R: Rules>(
+    world: &World<R::Value>,
+) -> Result<&MaskedStorage<SceneMarker>, AllocError>
+    ensures each { IfOk result (λ markers. (index : ℕ) → (roll_of (kinds_by R.Rules R.Value.SceneValue)
         (seen_of world.now)).marker index ≡ marker_at markers.now index) }
+    ensures events { IfOk result (λ markers. marker_events_in (kinds_by R.Rules R.Value.SceneValue)
+        (seen_of world.now (kinds_by R.Rules R.Value.SceneValue).markers_id) ≡ marker_log markers.now) }
 {
     let Some(value) = world.get_raw(<R::Value as SceneValue<R::Data>>::markers_id()) else {
         return Err(AllocError);

@@ -17,11 +17,11 @@ use Rattle.specs_layouts.specs.Parts.{Puts, HasNone}
 use Rattle.scene_model.specs.Parts.{Name}
 use Rattle.scene_world.specs.Changes.{but_at}
 use Rattle.scene_world.specs.Putting.{named_in, part_read, each_there, AreReadAt, PutsIn, Registers}
-use Rattle.scene_world.proofs.CallerLemmas.{each-same, each-none, each-mapped}
+use Rattle.scene_world.proofs.CallerLemmas.{HasColumn, each-same, each-none, each-mapped}
 use Rattle.scene_basics.specs.Names.{hp_kind, owner_kind, pos_kind, vel_kind}
 use Rattle.scene_basics.specs.Numbers.{counting, referring, part_of}
 use Rattle.scene_basics.specs.Values.{Numbers, Owners, whole_at, owner_at}
-use Rattle.scene_basics.specs.Columns.{part_id, whole_stored, owner_stored, number_column, owner_column, basic_columns}
+use Rattle.scene_basics.specs.Columns.{part_id, whole_stored, owner_stored, number_column, number_events, number_emits, owner_column, owner_events, owner_emits, basic_columns}
 use Rattle.scene_basics.specs.Registering.{HasNumbers, HasOwners}
 use Rattle.scene_basics.specs.Apart.{each-kind}
 use Rattle.scene_basics.specs.declared.data.Datum.{Datum}
@@ -176,3 +176,11 @@ nothing-read kind owners entities found none are = record {
   nobody = λ index. ap named_in (none index);
   read = ap (each_there (option_map part_of)) are ∙ sym (each-none _ (λ index. ap (option_map (part_read [])) (none index)) entities);
 }
+
+-- the column and the events of numbers are those of their storage
+pub has-numbers : (v : Value) (numbers : Numbers) → v ≡ NumbersValue numbers → HasColumn whole_stored number_column number_events number_emits v numbers
+has-numbers v numbers is = subst (λ one. HasColumn whole_stored number_column number_events number_emits one numbers) (sym is) (record { parts = λ index. refl; log_is = refl; tells_is = refl })
+
+-- the column and the events of owners are those of their storage
+pub has-owners : (v : Value) (owners : Owners) → v ≡ OwnersValue owners → HasColumn owner_stored owner_column owner_events owner_emits v owners
+has-owners v owners is = subst (λ one. HasColumn owner_stored owner_column owner_events owner_emits one owners) (sym is) (record { parts = λ index. refl; log_is = refl; tells_is = refl })

@@ -1,14 +1,15 @@
 -- Where the parts and the global of the program's rules stand in a world, and what is read there.
-use Rattle.std.specs.Prelude.{ℕ, false, [], ◌∷◌, Option, option_map, option_and_then, if◌then◌else◌}
+use Rattle.std.specs.Prelude.{ℕ, Bool, false, [], ◌∷◌, Option, option_map, option_and_then, if◌then◌else◌}
 use Rattle.std.specs.List.{slice_index_or}
 use Rattle.std.specs.Option.{option_map_or}
 use Rattle.std.specs.Str.{bytes_eq}
 use Rattle.serde_json.specs.Data.{number, unsigned}
 use Rattle.shred_world.specs.declared.resource_id.ResourceId.{ResourceId}
 use Rattle.shred_world.specs.ResourceIds.{id_of}
-use Rattle.specs_layouts.specs.Channels.{log_of, no_log}
+use Rattle.specs_layouts.specs.Channels.{Log, log_of, no_log}
+use Rattle.specs_layouts.specs.declared.track.ComponentEvent.{ComponentEvent}
 use Rattle.specs_layouts.specs.Flagged.{tells}
-use Rattle.scene_world.specs.Markers.{marker_at}
+use Rattle.scene_world.specs.Markers.{marker_at, marker_log, marker_tells}
 use Rattle.scene_model.specs.Parts.{Name}
 use Rattle.scene_world.specs.Stored.{Stored}
 use Rattle.scene_world.specs.Standing.{Kinds}
@@ -47,6 +48,19 @@ number_column v index = option_map whole_stored (option_and_then (λ s. whole_at
 abbrev pub owner_column : Value → ℕ → Option Stored
 owner_column v index = option_map owner_stored (option_and_then (λ s. owner_at s index) (owners_in v))
 
+-- the events that tell of numbers, and of owners, and whether a change is told
+abbrev pub number_events : Value → Log ComponentEvent
+number_events v = option_map_or (λ s. log_of s.inner.channel) (numbers_in v) no_log
+
+abbrev pub number_emits : Value → Bool
+number_emits v = option_map_or (λ s. tells s.inner) (numbers_in v) false
+
+abbrev pub owner_events : Value → Log ComponentEvent
+owner_events v = option_map_or (λ s. log_of s.inner.channel) (owners_in v) no_log
+
+abbrev pub owner_emits : Value → Bool
+owner_emits v = option_map_or (λ s. tells s.inner) (owners_in v) false
+
 -- where the kinds and the global stand, and what is read there
 abbrev pub basic_columns : Columns Value
 basic_columns = record {
@@ -55,8 +69,8 @@ basic_columns = record {
   part_id = part_id;
   global_id = λ name. global_id;
   stored = λ kind v index. if bytes_eq kind owner_kind then owner_column v index else number_column v index;
-  events = λ kind v. if bytes_eq kind owner_kind then option_map_or (λ s. log_of s.inner.channel) (owners_in v) no_log else option_map_or (λ s. log_of s.inner.channel) (numbers_in v) no_log;
-  emits = λ kind v. if bytes_eq kind owner_kind then option_map_or (λ s. tells s.inner) (owners_in v) false else option_map_or (λ s. tells s.inner) (numbers_in v) false;
+  events = λ kind v. if bytes_eq kind owner_kind then owner_events v else number_events v;
+  emits = λ kind v. if bytes_eq kind owner_kind then owner_emits v else number_emits v;
   value = λ name v. option_map json_of (global_in v);
 }
 
@@ -69,6 +83,8 @@ basic_places = record {
   queue_id = λ position. id_of 3 position;
   births = births_in;
   marker = λ v index. option_and_then (λ markers. marker_at markers index) (markers_in v);
+  marker_events = λ v. option_map_or marker_log (markers_in v) no_log;
+  marker_emits = λ v. option_map_or marker_tells (markers_in v) false;
   noting = noting_in;
   queue = queue_in;
   queue_value = QueueValue;

@@ -1,20 +1,23 @@
 //! The parts of the four kinds in the values of a world.
 ghost use Rattle.std.specs.Prelude.{◌≡◌, ◌<◌, ◌++◌, [], length, map, None, IfOk, OnOk, OnErr, option_map};
 ghost use Rattle.specs_layouts.specs.Masked.{Agrees};
+ghost use Rattle.specs_layouts.specs.Shows.{Shows};
+ghost use Rattle.scene_world.specs.Telling.{GainsReader, CatchesUp, TakesTold, TakesSome};
 ghost use Rattle.scene_world.specs.Putting.{named_in, part_read, each_there, PutsIn, TakesOut, SameColumn, Registers};
 ghost use Rattle.scene_basics.specs.declared.data.Datum.TheVariants.{Whole as DatumWhole};
 ghost use Rattle.scene_basics.specs.Values.{whole_at};
 ghost use Rattle.scene_basics.specs.Numbers.{counting, referring, part_of};
 ghost use Rattle.scene_basics.specs.Columns.{part_id, number_column, owner_column, basic_columns};
+ghost use Rattle.scene_basics.specs.Columns.{number_events, number_emits, owner_events, owner_emits};
 ghost use Rattle.scene_basics.specs.Registering.{HasNumbers, HasOwners};
 
 use crate::data::{Datum, HP, OWNER, POS, VEL};
 use crate::values::{Owner, Value, Whole};
 use hibitset::BitSet;
-use scene_world::{AnyStore, Store, scene_storage};
+use scene_world::{AnyStore, Store, catch_up_reader, gain_reader, scene_storage, told_indices};
 use shred_world::{ResourceId, World};
 use specs_entity::Entity;
-use specs_layouts::{MaskedStorage, UnprotectedStorage};
+use specs_layouts::{MaskedStorage, ReaderId, UnprotectedStorage};
 use std::alloc::{AllocError, Global};
 
 /// Where the parts of a kind stand.
@@ -79,6 +82,7 @@ pub(crate) fn put_number(value: &mut Value, index: u32, number: i64) -> Result<(
     requires { index < 16777216 }
     ensures ok { OnOk result (PutsIn number_column index (counting number) [] value.old value.new) }
     ensures err { OnErr result (SameColumn number_column value.old value.new) }
+    ensures shown { Shows number_column number_events number_emits value.old value.new }
 {
     let Value::NumbersValue(numbers) = value else {
         return Err(AllocError);
@@ -100,6 +104,7 @@ pub(crate) fn put_owner(
     requires as_many { length named.now ≡ 1 }
     ensures ok { OnOk result (PutsIn owner_column index (referring id) named.now value.old value.new) }
     ensures err { OnErr result (SameColumn owner_column value.old value.new) }
+    ensures shown { Shows owner_column owner_events owner_emits value.old value.new }
 {
     let Value::OwnersValue(owners) = value else {
         return Err(AllocError);
@@ -117,22 +122,30 @@ pub(crate) fn put_owner(
 pub(crate) fn take_number(value: &mut Value, index: u32) -> Result<(), AllocError>
     ensures ok { OnOk result (TakesOut number_column index value.old value.new) }
     ensures err { OnErr result (SameColumn number_column value.old value.new) }
+    ensures shown { Shows number_column number_events number_emits value.old value.new }
 {
     let Value::NumbersValue(numbers) = value else {
         return Ok(());
     };
-    numbers.drop(index)
+    match numbers.drop(index) {
+        Ok(()) => Ok(()),
+        Err(_) => Err(AllocError),
+    }
 }
 
 /// Takes an owner out. Errors: want of memory.
 pub(crate) fn take_owner(value: &mut Value, index: u32) -> Result<(), AllocError>
     ensures ok { OnOk result (TakesOut owner_column index value.old value.new) }
     ensures err { OnErr result (SameColumn owner_column value.old value.new) }
+    ensures shown { Shows owner_column owner_events owner_emits value.old value.new }
 {
     let Value::OwnersValue(owners) = value else {
         return Ok(());
     };
-    owners.drop(index)
+    match owners.drop(index) {
+        Ok(()) => Ok(()),
+        Err(_) => Err(AllocError),
+    }
 }
 
 /// Puts the owner at an index, if there is one, behind others. Errors: want of memory.
@@ -238,4 +251,98 @@ pub(crate) fn numbers_each(
         AnyStore::Hash(layout) => numbers_in(mask, layout, entities, alloc),
         AnyStore::BTree(layout) => numbers_in(mask, layout, entities, alloc),
     }
+}
+
+/// Registers a reader of the events of numbers and turns emission on.
+///
+/// Errors: want of memory, and where the value has no numbers; all is as it was.
+pub(crate) fn number_reader(value: &mut Value) -> Result<ReaderId, AllocError>
+    ensures ok { IfOk result
+        (λ reader. GainsReader number_column number_events number_emits reader value.old value.new) }
+    ensures err { OnErr result (value.new ≡ value.old) }
+{
+    let Value::NumbersValue(numbers) = value else {
+        return Err(AllocError);
+    };
+    match gain_reader(numbers) {
+        Ok(reader) => Ok(reader),
+        Err(_) => Err(AllocError),
+    }
+}
+
+/// Puts the indices of which a reader of the events of numbers has yet to read events into a set.
+///
+/// Errors: want of memory; some of the indices are in.
+pub(crate) fn told_numbers(
+    value: &Value,
+    reader: &ReaderId,
+    into: &mut BitSet,
+) -> Result<(), AllocError>
+    ensures ok { OnOk result (TakesTold (number_events value.now) reader.now into.old into.new) }
+    ensures err { OnErr result (TakesSome (number_events value.now) reader.now into.old into.new) }
+{
+    let Value::NumbersValue(numbers) = value else {
+        return Ok(());
+    };
+    match told_indices(numbers, reader, into) {
+        Ok(()) => Ok(()),
+        Err(_) => Err(AllocError),
+    }
+}
+
+/// A reader of the events of numbers has read all of them.
+pub(crate) fn catch_up_numbers(value: &mut Value, reader: &ReaderId)
+    ensures { CatchesUp number_column number_events number_emits reader.now value.old value.new }
+{
+    let Value::NumbersValue(numbers) = value else {
+        return;
+    };
+    catch_up_reader(numbers, reader);
+}
+
+/// Registers a reader of the events of owners and turns emission on.
+///
+/// Errors: want of memory, and where the value has no owners; all is as it was.
+pub(crate) fn owner_reader(value: &mut Value) -> Result<ReaderId, AllocError>
+    ensures ok { IfOk result
+        (λ reader. GainsReader owner_column owner_events owner_emits reader value.old value.new) }
+    ensures err { OnErr result (value.new ≡ value.old) }
+{
+    let Value::OwnersValue(owners) = value else {
+        return Err(AllocError);
+    };
+    match gain_reader(owners) {
+        Ok(reader) => Ok(reader),
+        Err(_) => Err(AllocError),
+    }
+}
+
+/// Puts the indices of which a reader of the events of owners has yet to read events into a set.
+///
+/// Errors: want of memory; some of the indices are in.
+pub(crate) fn told_owners(
+    value: &Value,
+    reader: &ReaderId,
+    into: &mut BitSet,
+) -> Result<(), AllocError>
+    ensures ok { OnOk result (TakesTold (owner_events value.now) reader.now into.old into.new) }
+    ensures err { OnErr result (TakesSome (owner_events value.now) reader.now into.old into.new) }
+{
+    let Value::OwnersValue(owners) = value else {
+        return Ok(());
+    };
+    match told_indices(owners, reader, into) {
+        Ok(()) => Ok(()),
+        Err(_) => Err(AllocError),
+    }
+}
+
+/// A reader of the events of owners has read all of them.
+pub(crate) fn catch_up_owners(value: &mut Value, reader: &ReaderId)
+    ensures { CatchesUp owner_column owner_events owner_emits reader.now value.old value.new }
+{
+    let Value::OwnersValue(owners) = value else {
+        return;
+    };
+    catch_up_reader(owners, reader);
 }

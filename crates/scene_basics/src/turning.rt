@@ -9,17 +9,20 @@ ghost use Rattle.scene_basics.specs.WorldLaws.{law-of_book};
 use crate::adding::{add_to, global_of};
 use crate::asking::ask_all;
 use crate::columns::{
-    number_datum, numbers_each, owner_datum, part_id, push_owner, put_number, put_owner,
-    register_all, take_number, take_owner,
+    catch_up_numbers, catch_up_owners, number_datum, number_reader, numbers_each, owner_datum,
+    owner_reader, part_id, push_owner, put_number, put_owner, register_all, take_number,
+    take_owner, told_numbers, told_owners,
 };
 use crate::data::{Ask, BasicSystem, Datum, Gain, HP, OWNER, POS, VEL};
 use crate::rules::Basics;
 use crate::values::Value;
+use hibitset_sets::BitSet;
 use scene_model::Queue;
 use scene_world::{Rules, Store};
 use shred_stages::Stop;
 use shred_world::{Holder, ResourceId, World};
 use specs_entity::Entity;
+use specs_layouts::ReaderId;
 use std::alloc::{AllocError, Global};
 
 impl Rules for Basics {
@@ -68,6 +71,35 @@ impl Rules for Basics {
             take_owner(value, index)
         } else {
             take_number(value, index)
+        }
+    }
+
+    fn reader(value: &mut Value, kind: &str) -> Result<ReaderId, AllocError> {
+        if kind == OWNER {
+            owner_reader(value)
+        } else {
+            number_reader(value)
+        }
+    }
+
+    fn events(
+        value: &Value,
+        kind: &str,
+        reader: &ReaderId,
+        into: &mut BitSet,
+    ) -> Result<(), AllocError> {
+        if kind == OWNER {
+            told_owners(value, reader, into)
+        } else {
+            told_numbers(value, reader, into)
+        }
+    }
+
+    fn catch_up(value: &mut Value, kind: &str, reader: &ReaderId) {
+        if kind == OWNER {
+            catch_up_owners(value, reader);
+        } else {
+            catch_up_numbers(value, reader);
         }
     }
 

@@ -15,12 +15,14 @@ ghost use Rattle.scene_tests.specs.Leavers.{leavers, leave_kind, leaving, config
 ghost use Rattle.scene_tests.specs.LeaverLaws.{law-leaving_is_known};
 
 use crate::leaving::turn;
+use hibitset_sets::BitSet;
 use scene::{DocumentRules, Queue, ReadError, Rules, RunningTime, Stop, Store, SystemAccess};
 use scene_basics::data::{Datum, G, HP};
 use scene_basics::{Basics, Value};
 use serde_json::Value as Json;
 use shred_world::{Holder, ResourceId, World};
 use specs_entity::Entity;
+use specs_layouts::ReaderId;
 use std::alloc::{AllocError, Global};
 
 /// Rules with the parts and the global of the program and one system, `leave`.
@@ -198,6 +200,23 @@ impl Rules for Leavers {
 
     fn take(value: &mut Value, kind: &str, index: u32) -> Result<(), AllocError> {
         Basics::take(value, kind, index)
+    }
+
+    fn reader(value: &mut Value, kind: &str) -> Result<ReaderId, AllocError> {
+        Basics::reader(value, kind)
+    }
+
+    fn events(
+        value: &Value,
+        kind: &str,
+        reader: &ReaderId,
+        into: &mut BitSet,
+    ) -> Result<(), AllocError> {
+        Basics::events(value, kind, reader, into)
+    }
+
+    fn catch_up(value: &mut Value, kind: &str, reader: &ReaderId) {
+        Basics::catch_up(value, kind, reader);
     }
 
     fn named_at(

@@ -12,11 +12,13 @@ ghost use Rattle.scene_tests.specs.Watched.{configured};
 ghost use Rattle.scene_tests.specs.Gated.{place_access, place_name, gated_book, Passes, IsAlone, law-passes};
 ghost use Rattle.scene_tests.specs.GatedLaws.{law-gates_known};
 
+use hibitset_sets::BitSet;
 use scene::{DocumentRules, Queue, ReadError, Rules, RunningTime, Stop, Store, SystemAccess};
 use scene_world_tests::turns::{Drifting, Value};
 use serde_json::Value as Json;
 use shred_world::{Holder, ResourceId, World};
 use specs_entity::Entity;
+use specs_layouts::ReaderId;
 use std::alloc::{AllocError, Global};
 use std::sync::Arc;
 use std::sync::atomic::{AtomicU64, Ordering};
@@ -254,6 +256,23 @@ impl Rules for Gated {
 
     fn take(value: &mut Value, kind: &str, index: u32) -> Result<(), AllocError> {
         Drifting::take(value, kind, index)
+    }
+
+    fn reader(value: &mut Value, kind: &str) -> Result<ReaderId, AllocError> {
+        Drifting::reader(value, kind)
+    }
+
+    fn events(
+        value: &Value,
+        kind: &str,
+        reader: &ReaderId,
+        into: &mut BitSet,
+    ) -> Result<(), AllocError> {
+        Drifting::events(value, kind, reader, into)
+    }
+
+    fn catch_up(value: &mut Value, kind: &str, reader: &ReaderId) {
+        Drifting::catch_up(value, kind, reader);
     }
 
     fn named_at(

@@ -11,6 +11,7 @@ ghost use Rattle.scene_world_tests.specs.DriftingLaws.{law-kinds_ascend, law-glo
 ghost use Rattle.scene_tests.specs.Watched.{configured, mover_access, mover_does, mover_name, watched_book, law-does, IsHalt};
 ghost use Rattle.scene_tests.specs.WatchedLaws.{law-declares_known};
 
+use hibitset_sets::BitSet;
 use scene_model::{DocumentRules, Queue, ReadError, RunningTime, SystemAccess};
 use scene_world::{Rules, Store};
 use scene_world_tests::turns::{Drift, Drifting, Value};
@@ -18,6 +19,7 @@ use serde_json::Value as Json;
 use shred_stages::Stop;
 use shred_world::{Holder, ResourceId, World};
 use specs_entity::Entity;
+use specs_layouts::ReaderId;
 use std::alloc::{AllocError, Global};
 
 /// Rules under which entities drift, are watched, and are halted.
@@ -212,6 +214,23 @@ impl Rules for Watched {
 
     fn take(value: &mut Value, kind: &str, index: u32) -> Result<(), AllocError> {
         Drifting::take(value, kind, index)
+    }
+
+    fn reader(value: &mut Value, kind: &str) -> Result<ReaderId, AllocError> {
+        Drifting::reader(value, kind)
+    }
+
+    fn events(
+        value: &Value,
+        kind: &str,
+        reader: &ReaderId,
+        into: &mut BitSet,
+    ) -> Result<(), AllocError> {
+        Drifting::events(value, kind, reader, into)
+    }
+
+    fn catch_up(value: &mut Value, kind: &str, reader: &ReaderId) {
+        Drifting::catch_up(value, kind, reader);
     }
 
     fn named_at(

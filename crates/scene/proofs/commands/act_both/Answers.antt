@@ -6,6 +6,7 @@ use Rattle.scene_model.proofs.CallerLemmas.{joined-to}
 use Rattle.scene_world.specs.Places.{kinds_of}
 use Rattle.scene_world.specs.Standing.{plain_of}
 use Rattle.scene_commands.specs.Acts.{seen_of}
+use Rattle.scene_commands.proofs.CallerLemmas.{goes-both}
 use Rattle.scene.specs.Waiting.{waiting_in}
 use Rattle.scene.proofs.CommandLemmas.{acts-behind, acts-before}
 use Rattle.scene.proofs.commands.act_both.Goals as goal
@@ -25,6 +26,9 @@ returns-clause-ran g c =
 
 pub returns-clause-elsewhere : goal.returns-clause-elsewhere
 returns-clause-elsewhere g c = on_ok_weaker c.act_queues.result (λ later id e m a p. later id e m a p ∙ c.in_ok-act_all.ensures.elsewhere id e m a p) c.act_queues.ensures.elsewhere
+
+pub returns-clause-goes_on : goal.returns-clause-goes_on
+returns-clause-goes_on g c = on_ok_weaker c.act_queues.result (goes-both (kinds_of g.R.Value.SceneValue.places g.R.DocumentRules.part_of g.R.Rules.columns) c.args.world.now c.act_all.new.world c.act_queues.new.world c.in_ok-act_all.ensures.goes_on) c.act_queues.ensures.goes_on
 
 pub returns-clause-refused : goal.returns-clause-refused
 returns-clause-refused g c =

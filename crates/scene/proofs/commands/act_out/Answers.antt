@@ -6,11 +6,12 @@ use Rattle.scene_model.specs.Queues.{plain_commands, waiting}
 use Rattle.scene_world.specs.Places.{kinds_of}
 use Rattle.scene_world.specs.Standing.{plain_of}
 use Rattle.scene_commands.specs.Acts.{seen_of}
+use Rattle.scene_commands.proofs.CallerLemmas.{goes-both}
 use Rattle.scene.specs.Waiting.{waiting_in}
 use Rattle.scene.specs.Sparing.{Spares, AsksNoDeath, NoneGone}
 use Rattle.scene.proofs.CommandLemmas.{lead-played}
 use Rattle.scene.proofs.SpareLemmas.{spares-keep, spare-plain, spare-waiting}
-use Rattle.scene.proofs.WorldLemmas.{scene-stays, may-stays, stays-apart}
+use Rattle.scene.proofs.WorldLemmas.{scene-stays, may-stays, goes-beside, stays-apart}
 use Rattle.scene.proofs.commands.act_out.Goals as goal
 
 pub returns-in_default-clause-refused : goal.returns-in_default-clause-refused
@@ -36,6 +37,11 @@ returns-clause-may g c =
 pub returns-clause-apart : goal.returns-clause-apart
 returns-clause-apart g c =
     on_ok_weaker c.look.result (λ none. stays-apart (kinds_of g.R.Value.SceneValue.places g.R.DocumentRules.part_of g.R.Rules.columns) g.met.R.Rules.apart c.args.input.now.places.now c.args.world.now c.act_both.new.world c.put_queues.new.world c.in_ok-act_both.ensures.elsewhere c.in-Ok.ensures.beside) c.look.ensures.ok
+
+pub returns-clause-goes_on : goal.returns-clause-goes_on
+returns-clause-goes_on g c =
+    on_ok_weaker c.look.result (λ none. goes-both (kinds_of g.R.Value.SceneValue.places g.R.DocumentRules.part_of g.R.Rules.columns) c.args.world.now c.act_both.new.world c.put_queues.new.world c.in_ok-act_both.ensures.goes_on
+    (goes-beside (kinds_of g.R.Value.SceneValue.places g.R.DocumentRules.part_of g.R.Rules.columns) g.met.R.Rules.apart c.args.input.now.places.now c.act_both.new.world c.put_queues.new.world c.in-Ok.ensures.beside)) c.look.ensures.ok
 
 pub returns-clause-refused : goal.returns-clause-refused
 returns-clause-refused g c =

@@ -8,6 +8,7 @@ use Rattle.scene_world.specs.Places.{kinds_of}
 use Rattle.scene_world.specs.Standing.{plain_of}
 use Rattle.scene_commands.specs.Acts.{seen_of}
 use Rattle.scene_commands.specs.Lists.{RefusesActs}
+use Rattle.scene_commands.proofs.CallerLemmas.{goes-nowhere, goes-both}
 use Rattle.scene.specs.Waiting.{waiting_in}
 use Rattle.scene.proofs.CountLemmas.{flat-more, flat-front, holds-of}
 use Rattle.scene.proofs.CommandLemmas.{acts-behind, acts-before}
@@ -19,6 +20,7 @@ loop-queue-init g c = record {
   ran = none-to c.args.frame (c.args.earlier + 1) (plain_of (kinds_of g.R.Value.SceneValue.places g.R.DocumentRules.part_of g.R.Rules.columns) (seen_of c.args.world.now)) c.args.skips.now.items;
   may = c.requires.may;
   elsewhere = λ id e m a p. refl;
+  goes_on = goes-nowhere (kinds_of g.R.Value.SceneValue.places g.R.DocumentRules.part_of g.R.Rules.columns) c.args.world.now;
   kept = ([], sym (append-nil c.args.skips.now.items));
 }
 
@@ -55,6 +57,7 @@ loop-queue-preserved g c =
           (subst (λ commands. RunsTo c.args.frame (c.loop-queue.place + 1) commands (plain_of (kinds_of g.R.Value.SceneValue.places g.R.DocumentRules.part_of g.R.Rules.columns) (seen_of c.loop-queue.world)) (plain_of (kinds_of g.R.Value.SceneValue.places g.R.DocumentRules.part_of g.R.Rules.columns) (seen_of c.act_all.new.world)) c.loop-queue.skips.items c.act_all.new.skips.items) handed c.in_ok-act_all.ensures.ran));
       may = c.in_ok-act_all.ensures.may;
       elsewhere = λ id e m a p. c.in_ok-act_all.ensures.elsewhere id e m a p ∙ c.loop-queue.invariant.elsewhere id e m a p;
+      goes_on = goes-both (kinds_of g.R.Value.SceneValue.places g.R.DocumentRules.part_of g.R.Rules.columns) c.args.world.now c.loop-queue.world c.act_all.new.world c.loop-queue.invariant.goes_on c.in_ok-act_all.ensures.goes_on;
       kept = (c.loop-queue.invariant.kept.0 ++ c.in_ok-act_all.ensures.kept.0, c.in_ok-act_all.ensures.kept.1 ∙ ap (λ skips. skips ++ c.in_ok-act_all.ensures.kept.0) c.loop-queue.invariant.kept.1 ∙ append_assoc c.args.skips.now.items c.loop-queue.invariant.kept.0 c.in_ok-act_all.ensures.kept.0);
     }
 

@@ -6,10 +6,11 @@ use Rattle.scene_model.specs.Queues.{plain_command, plain_commands, waiting}
 use Rattle.scene_world.specs.Places.{kinds_of}
 use Rattle.scene_world.specs.Standing.{plain_of, commands_of}
 use Rattle.scene_commands.specs.Acts.{seen_of}
+use Rattle.scene_commands.proofs.CallerLemmas.{goes-both}
 use Rattle.scene.specs.Waiting.{waiting_in, waiting_at}
 use Rattle.scene.specs.Sparing.{NoneGone}
 use Rattle.scene.specs.Refusals.{CommandsRefusedIn}
-use Rattle.scene.proofs.WorldLemmas.{scene-stays, may-stays, beside-apart}
+use Rattle.scene.proofs.WorldLemmas.{scene-stays, may-stays, goes-beside, beside-apart}
 use Rattle.scene.proofs.CountLemmas.{flat-same, all-same}
 use Rattle.scene.proofs.CommandLemmas.{lead-played, all-refused}
 use Rattle.scene.proofs.commands.run_commands.Goals as goal
@@ -56,6 +57,11 @@ returns-in-Ok-act_out-clause-accepted g c =
 
 pub returns-in-Ok-act_out-clause-apart : goal.returns-in-Ok-act_out-clause-apart
 returns-in-Ok-act_out-clause-apart g c = beside-apart (kinds_of g.R.Value.SceneValue.places g.R.DocumentRules.part_of g.R.Rules.columns) g.met.R.Rules.apart c.args.input.now.places.now c.args.world.now c.take_queues.new.world c.act_out.new.world c.in-Ok.ensures.beside c.in-Ok-act_out.ensures.apart
+
+pub returns-in-Ok-act_out-clause-goes_on : goal.returns-in-Ok-act_out-clause-goes_on
+returns-in-Ok-act_out-clause-goes_on g c =
+    goes-both (kinds_of g.R.Value.SceneValue.places g.R.DocumentRules.part_of g.R.Rules.columns) c.args.world.now c.take_queues.new.world c.act_out.new.world
+    (goes-beside (kinds_of g.R.Value.SceneValue.places g.R.DocumentRules.part_of g.R.Rules.columns) g.met.R.Rules.apart c.args.input.now.places.now c.args.world.now c.take_queues.new.world c.in-Ok.ensures.beside) c.in-Ok-act_out.ensures.goes_on
 
 pub returns-in-Err-clause-refused : goal.returns-in-Err-clause-refused
 returns-in-Err-clause-refused g c =

@@ -1,8 +1,8 @@
-use Rattle.std.proofs.Common.{ℕ, ◌++◌, ◌∷◌, [], List, Option, Some, map, take, get_or, cond, eqb, ap, sym, ◌∙◌, arith}
+use Rattle.std.proofs.Common.{ℕ, List, Option, Some, take, get_or, cond, eqb, ap, sym, ◌∙◌}
 use Rattle.std.proofs.lemmas.List.{take_all}
 use Rattle.scene_snapshot.specs.Rows.{seat_at}
 use Rattle.scene_snapshot.proofs.CallerLemmas.{has-room}
-use Rattle.scene.specs.Taken.{with_last}
+use Rattle.scene.specs.Taken.{turned, with_last}
 use Rattle.scene.proofs.KeepLemmas.{front-more, last-more}
 use Rattle.scene.proofs.keeping.enter_all.Goals as goal
 
@@ -13,7 +13,7 @@ pub loop-pair-preserved : goal.loop-pair-preserved
 loop-pair-preserved g c =
     let pairs = c.args.pairs.now in
     let one : ℕ × ℕ = get_or pairs c.loop-pair.pair-index (0, 0) in
-    let front : List (ℕ × ℕ) = map (λ (pair : ℕ × ℕ). (pair.1, pair.0)) (take c.loop-pair.pair-index pairs) in
+    let front : List (ℕ × ℕ) = turned (take c.loop-pair.pair-index pairs) in
     let before : ℕ → Option ℕ = seat_at c.args.kept.now in
     record {
       seats = λ index.
@@ -31,4 +31,4 @@ loop-pair-preserved g c =
 pub returns-clause-seats : goal.returns-clause-seats
 returns-clause-seats g c index =
     c.loop-pair.invariant.seats index
-    ∙ ap (λ pairs. with_last (map (λ (pair : ℕ × ℕ). (pair.1, pair.0)) pairs) (seat_at c.args.kept.now) index) (take_all c.loop-pair.pair-index c.args.pairs.now c.loop-pair-test.false)
+    ∙ ap (λ pairs. with_last (turned pairs) (seat_at c.args.kept.now) index) (take_all c.loop-pair.pair-index c.args.pairs.now c.loop-pair-test.false)

@@ -1,19 +1,27 @@
-use Rattle.std.proofs.Common.{◌∷◌, refl, ap, ◌∙◌, arith}
+use Rattle.std.proofs.Common.{◌≡◌, ◌<◌, ◌∷◌, ◌++◌, None, refl, ap, sym, subst, ◌∙◌, arith, All}
+use Rattle.scene_world.specs.Putting.{each_there}
+use Rattle.scene_snapshot.specs.Rows.{seat_at}
 use Rattle.scene_snapshot.proofs.CallerLemmas.{has-room}
-use Rattle.scene.proofs.KeepLemmas.{no-items, writing-begins, writing-ends, writing-passes, writing-goes}
+use Rattle.scene.proofs.KeepLemmas.{no-items, found-there, writing-begins, writing-ends, writing-passes, writing-goes}
 use Rattle.scene.proofs.keeping.write_found.Goals as goal
 
 pub loop-index-init : goal.loop-index-init
 loop-index-init g c =
-    writing-begins c.args.found.items c.into_iter-index-iterator.result.rest.items c.args.place c.args.count c.args.kept.now c.args.kept.now c.into_iter-index-iterator.ensures.into_iter_gives.0 refl c.requires.free
-    c.requires.room
+    writing-begins c.args.found.items c.into_iter-index-iterator.result.rest.items c.args.place c.args.count c.args.kept.now c.args.kept.now c.into_iter-index-iterator.ensures.into_iter_gives.0 refl c.requires.room
 
 pub write-requires : goal.write-requires
-write-requires g c = record {
-  place = omega (arith, c.requires.kinds, c.loop-index.invariant.course.kinds);
-  room = has-room c.loop-index.kept c.args.count c.in-Some.index c.loop-index.invariant.room c.if-index-count.false;
-  free = c.loop-index.invariant.seats c.in-Some.index;
-}
+write-requires g c =
+    let so_far = c.loop-index.invariant in
+    let rest = c.next.new.self.rest.items in
+    let left = c.in-Some.ensures.steps.0 ∙ ap (λ datum. (c.in-Some.index, datum) ∷ rest) c.in-Some-datum.is in
+    let split = ap (λ list. so_far.done ++ list) (sym left) ∙ so_far.split in
+    record {
+      place = omega (arith, c.requires.kinds, so_far.course.kinds);
+      room = has-room c.loop-index.kept c.args.count c.in-Some.index so_far.room
+          (found-there (λ one. one.0 < c.args.count) so_far.done c.in-Some.index c.in-Some-datum.datum rest (subst (λ list. All (λ one. one.0 < c.args.count) (each_there (λ one. one) list)) (sym split) c.requires.within));
+      free = so_far.seats c.in-Some.index
+          ∙ found-there (λ one. seat_at c.args.kept.now one.0 ≡ None) so_far.done c.in-Some.index c.in-Some-datum.datum rest (subst (λ list. All (λ one. seat_at c.args.kept.now one.0 ≡ None) (each_there (λ one. one) list)) (sym split) c.requires.free);
+    }
 
 pub loop-index-preserved : goal.loop-index-preserved
 loop-index-preserved g c =

@@ -1,19 +1,17 @@
-use Rattle.std.proofs.Common.{◌≡◌, ◌<◌, ◌≤◌, ◌+◌, ◌≢◌, ℕ, List, [], ◌∷◌, All, Option, None, IsSome, true, map, get_or, refl, ap, sym, subst, ◌∙◌, arith}
-use Rattle.std.proofs.lemmas.List.Elements.{All-nil, All-cons}
-use Rattle.scene_model.specs.Parts.{Name, is_among, name_at}
+use Rattle.std.proofs.Common.{◌≡◌, ◌<◌, ℕ, List, All, true, map, get_or, refl, sym, subst, ◌∙◌, arith}
+use Rattle.scene_model.specs.Parts.{Name, is_among}
 use Rattle.scene_model.specs.Declaring.{texts}
 use Rattle.scene_world.specs.Places.{kinds_of}
-use Rattle.scene_world.specs.Standing.{roll_of}
-use Rattle.scene_world.specs.Rolls.{id_at}
 use Rattle.scene_commands.specs.Acts.{seen_of}
 use Rattle.scene_commands.proofs.DropLemmas.{no_name, named-there}
 use Rattle.scene.specs.Taken.{IsAmong, IsRowOf}
-use Rattle.scene.proofs.KeepLemmas.{behind-itself, same-indices, name-there, more-rows}
+use Rattle.scene.proofs.KeepLemmas.{behind-itself, same-indices, part-among, name-there, more-rows}
+use Rattle.scene.proofs.EntryLemmas.{seconds-behind}
 use Rattle.scene.proofs.keeping.write_rows.Goals as goal
 
 pub loop-place-init : goal.loop-place-init
 loop-place-init g c = record {
-  rows = λ place below. absurd (omega (arith, below));
+  rows = λ place below index. absurd (omega (arith, below));
   bare = λ other index from. c.requires.bare.rows other index;
   seats = c.requires.bare.seats;
   room = c.requires.room;
@@ -28,6 +26,20 @@ write_row-requires-clause-known g c =
 pub write_row-requires-clause-indices : goal.write_row-requires-clause-indices
 write_row-requires-clause-indices g c = subst (All (λ (pair : ℕ × ℕ). pair.0 ≡ pair.1)) (sym (c.deref.ensures.value ∙ c.in_ok-indices.ensures)) (behind-itself c.args.pairs.now)
 
+pub write_row-requires-clause-within : goal.write_row-requires-clause-within
+write_row-requires-clause-within g c =
+    subst (All (λ (pair : ℕ × ℕ). pair.1 < c.args.count)) (sym (c.deref.ensures.value ∙ c.in_ok-indices.ensures)) (seconds-behind c.args.count c.args.pairs.now c.requires.within)
+
+pub write_row-requires-clause-all : goal.write_row-requires-clause-all
+write_row-requires-clause-all g c index some =
+    let kinds = kinds_of g.R.Value.SceneValue.places g.R.DocumentRules.part_of g.R.Rules.columns in
+    let kind = (get_or c.args.names.now c.loop-place.place no_name).now in
+    let known : is_among kind kinds.part_names ≡ true = subst (λ names. is_among kind names ≡ true) (c.requires.known ∙ sym (g.met.R.Rules.named_so c.args.rules.now).parts)
+    (named-there c.args.names.now c.loop-place.place no_name c.loop-place-test.true) in
+    subst (λ (list : List (ℕ × ℕ)). IsAmong (map (λ (pair : ℕ × ℕ). pair.1) list) index) (sym (c.deref.ensures.value ∙ c.in_ok-indices.ensures))
+    (subst (λ list. IsAmong list index) (sym (same-indices c.args.pairs.now))
+    (part-among kinds (g.R.DocumentRules.book c.args.rules.now) (seen_of c.args.world.now) c.requires.stands c.args.pairs.now c.requires.pairs kind known index some))
+
 pub write_row-requires-clause-bare : goal.write_row-requires-clause-bare
 write_row-requires-clause-bare g c index = c.loop-place.invariant.bare c.loop-place.place index (omega arith)
 
@@ -40,9 +52,9 @@ loop-place-preserved g c =
     let wrote = c.in_ok-write_row.ensures in
     record {
       rows = more-rows kinds g.R.DocumentRules.part_of w names c.loop-place.place c.loop-place.kept c.write_row.new.kept so_far.rows
-          (λ index some.
+          (λ index.
           subst (λ name. IsRowOf kinds g.R.DocumentRules.part_of w name c.loop-place.place c.write_row.new.kept index) (sym (name-there c.args.names.now c.loop-place.place no_name c.loop-place-test.true))
-          (wrote.row index (subst (λ (list : List (ℕ × ℕ)). IsAmong (map (λ (pair : ℕ × ℕ). pair.1) list) index) (sym (c.deref.ensures.value ∙ c.in_ok-indices.ensures)) (subst (λ list. IsAmong list index) (sym (same-indices c.args.pairs.now)) (c.requires.pairs.all index some)))))
+          (wrote.row index))
           wrote.others;
       bare = λ other index from. wrote.others other index (λ is. omega (arith, from, is)) ∙ so_far.bare other index (omega (arith, from));
       seats = wrote.seats;
@@ -51,4 +63,4 @@ loop-place-preserved g c =
     }
 
 pub returns-clause-rows : goal.returns-clause-rows
-returns-clause-rows g c place below index some = c.loop-place.invariant.rows place (omega (arith, below)) index some
+returns-clause-rows g c place below index = c.loop-place.invariant.rows place (omega (arith, below)) index

@@ -1,4 +1,4 @@
-use Rattle.std.proofs.Common.{◌≡◌, ◌≤◌, ℕ, All, None}
+use Rattle.std.proofs.Common.{◌≡◌, ◌≤◌, ℕ, None}
 use Rattle.scene_model.specs.Declaring.{texts}
 use Rattle.scene_world.specs.Places.{kinds_of}
 use Rattle.scene_commands.specs.Acts.{seen_of}

@@ -1,55 +1,15 @@
-use Rattle.std.proofs.Common.{◌≡◌, ℕ, map, arith, true, false, None, is_none, sym, ◌∙◌, ap, subst, All}
+use Rattle.std.proofs.Common.{sym, subst}
+use Rattle.std.proofs.lemmas.Result.{MatchResult-weaker}
 use Rattle.serde_json.specs.View.{view}
-use Rattle.scene_model.specs.Scenes.{lives}
-use Rattle.scene_model.specs.Stores.{store_named}
-use Rattle.scene_document.specs.DraftViews.{plain_draft}
-use Rattle.scene_document.specs.Openings.{frames_of, all_systems}
-use Rattle.scene_document.proofs.CallerLemmas.{unrefused, few-entries, store-known}
-use Rattle.scene_world.specs.Turns.{placed_as}
-use Rattle.scene_dispatch.specs.Orders.{turn_order}
-use Rattle.scene.specs.Waiting.{PlacesAscend}
-use Rattle.scene.specs.Running.{course_of}
-use Rattle.scene.proofs.AloneLemmas.{draft-alone}
-use Rattle.scene.proofs.PlaceLemmas.{places-ascend, order-there, order-described}
+use Rattle.scene_document.specs.Loading.{IsNotLoaded}
 use Rattle.scene.proofs.load.prepare_document.Goals as goal
 
-pub places_of_systems-requires : goal.places_of_systems-requires
-places_of_systems-requires g c =
-    let few = few-entries g.R.DocumentRules.part_of g.R.DocumentRules.global_of g.R.DocumentRules.kind_of g.R.DocumentRules.config_of (g.R.DocumentRules.book c.args.rules.now) c.args.limits.indices c.in_ok-draft.ensures.0 c.in_ok-draft.draft c.in_ok-draft.ensures.2 (unrefused (g.R.DocumentRules.book c.args.rules.now) c.args.limits.indices (view c.args.value.now) c.in_ok-draft.ensures.0 c.in_ok-draft.ensures.1) in
-    record { few = omega (arith, few, c.as_slice.ensures.len) }
-
-pub course_of-requires : goal.course_of-requires
-course_of-requires g c = record { document = record { plain = c.in_ok-draft.ensures.0; indices = c.args.limits.indices; json = view c.args.value.now; is = c.in_ok-draft.ensures.1; says = c.in_ok-draft.ensures.2; made = c.in_ok-draft.ensures.3 } }
-
--- the store of a document against which no refusal stands has a name
-pub returns-in_default-store : goal.returns-in_default-store
-returns-in_default-store g c =
-    let draft = c.in_ok-draft.ensures.0 in
-    let known = store-known c.args.limits.indices draft (unrefused (g.R.DocumentRules.book c.args.rules.now) c.args.limits.indices (view c.args.value.now) draft c.in_ok-draft.ensures.1) in
-    let none : store_named draft.store ≡ None = c.in_ok-draft.ensures.2.store ∙ c.in_default-store.is in
-    let both : true ≡ false = sym (ap is_none none) ∙ known in
-    absurd cc
+pub prepare_draft-requires : goal.prepare_draft-requires
+prepare_draft-requires g c = record { document = record { plain = c.in_ok-draft.ensures.0; indices = c.args.limits.indices; json = view c.args.value.now; is = c.in_ok-draft.ensures.1; says = c.in_ok-draft.ensures.2; made = c.in_ok-draft.ensures.3 } }
 
 pub returns : goal.returns
 returns g c =
-    let draft = c.in_ok-draft.ensures.0 in
-    let says = c.in_ok-draft.ensures.2 in
-    let drawn = c.in-Ok-course_of.ensures in
-    let order = (turn_order (placed_as (λ placed. placed.position) (λ placed. placed.system) g.R.DocumentRules.kind_of g.R.DocumentRules.config_of g.R.DocumentRules.declared g.R.Rules.sense g.R.Rules.does).plain c.in-Ok-course_of.course.dispatcher) in
-    let frames : (frame : ℕ) → frames_of draft frame ≡ course_of g.R.DocumentRules.part_of order c.in-Ok-course_of.course.commands.items frame = λ frame. drawn.frames draft frame says in
-    let places = c.in-Ok.ensures draft (says.entries ∙ ap (map plain_draft) (sym c.as_slice.ensures.value)) in
-    record {
-      draft = draft;
-      is = c.in_ok-draft.ensures.1;
-      says = draft-alone g.R.DocumentRules.part_of g.R.DocumentRules.global_of g.R.DocumentRules.kind_of g.R.DocumentRules.config_of (g.R.DocumentRules.book c.args.rules.now) draft c.in_ok-draft.draft c.in-Ok-course_of.draft says drawn.alone;
-      places = record {
-        ascend = subst PlacesAscend (sym places) (places-ascend draft);
-        there = subst (λ list. All (λ system. lives system.position list ≡ true) order) (sym places) (subst (All (λ system. lives system.position (map (λ one. one.position) (all_systems draft)) ≡ true)) (ap (λ frame. frame.order) (frames 0)) (order-there draft 0));
-      };
-      frames = frames;
-      lawful = drawn.lawful;
-      staged = drawn.staged;
-      locals = drawn.locals;
-      asked = drawn.asked ∙ sym says.frames;
-      described = λ number. order-described g.R.DocumentRules.kind_of g.R.DocumentRules.config_of (g.R.DocumentRules.book c.args.rules.now) draft c.in_ok-draft.draft.entries.items number says.entries says.made;
-    }
+    let read = c.in_ok-draft.ensures in
+    MatchResult-weaker c.prepare_draft.result c.prepare_draft.ensures
+    (λ prepared so. so c.args.limits (view c.args.value.now) read.0 read.1 read.2)
+    (λ error is. subst (IsNotLoaded (g.R.DocumentRules.book c.args.rules.now) c.args.limits.indices (view c.args.value.now)) (sym is) tt)

@@ -1,5 +1,6 @@
 use Rattle.std.proofs.Common.{get_or, arith, Ok, Err, ◌≡◌, ◌++◌, [], sym, ◌∙◌, subst, All}
 use Rattle.std.specs.List.{flat_map}
+use Rattle.std.specs.Result.{OnOk}
 use Rattle.std.proofs.lemmas.Result.{IfErr-weaker, on_ok_weaker}
 use Rattle.std.proofs.lemmas.List.Elements.{All-nil, All-append}
 use Rattle.scene_model.specs.Lawful.{IsLawful}
@@ -12,7 +13,8 @@ use Rattle.scene_world.specs.Places.{kinds_of}
 use Rattle.scene_world.specs.Turns.{placed_as}
 use Rattle.scene_dispatch.specs.Orders.{turn_order}
 use Rattle.scene_world.specs.Standing.{plain_of, commands_of}
-use Rattle.scene_commands.specs.Acts.{seen_of}
+use Rattle.scene_commands.specs.Acts.{seen_of, GoesOn}
+use Rattle.scene_commands.proofs.CallerLemmas.{goes-both}
 use Rattle.scene.specs.Waiting.{waiting_at}
 use Rattle.scene.specs.Refusals.{CommandsRefusedIn}
 use Rattle.scene.specs.Coming.{HaveCome}
@@ -103,6 +105,12 @@ returns-clause-ready g c =
       locals = turns.ready.locals;
     })
     c.run_commands.ensures.accepted c.run_commands.ensures.may
+
+pub returns-clause-goes_on : goal.returns-clause-goes_on
+returns-clause-goes_on g c =
+    let is : c.args.outcome ≡ Ok c.in_ok-outcome.field-0 = grind arith in
+    let kinds = kinds_of g.R.Value.SceneValue.places g.R.DocumentRules.part_of g.R.Rules.columns in
+    on_ok_weaker c.run_commands.result (λ on. λ w was. goes-both kinds w c.args.world.now c.run_commands.new.world (subst (λ outcome. OnOk outcome (GoesOn kinds w c.args.world.now)) is was) on) c.run_commands.ensures.goes_on
 
 pub returns-clause-none : goal.returns-clause-none
 returns-clause-none g c =

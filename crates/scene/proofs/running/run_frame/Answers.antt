@@ -8,7 +8,7 @@ use Rattle.scene_world.specs.Standing.{plain_of}
 use Rattle.scene_commands.specs.Acts.{seen_of}
 use Rattle.scene.specs.Waiting.{AreTheirPlaces}
 use Rattle.scene.specs.Refusals.{RefusedIn}
-use Rattle.scene.proofs.FrameLemmas.{have-come}
+use Rattle.scene.proofs.FrameLemmas.{have-come, come-goes}
 use Rattle.scene.proofs.running.run_frame.Goals as goal
 
 pub finish_frame-requires-clause-come : goal.finish_frame-requires-clause-come
@@ -40,6 +40,15 @@ returns-clause-accepted g c =
       skipped.2,
     ))
     c.finish_frame.ensures.accepted
+
+pub returns-clause-goes_on : goal.returns-clause-goes_on
+returns-clause-goes_on g c =
+    let kinds = kinds_of g.R.Value.SceneValue.places g.R.DocumentRules.part_of g.R.Rules.columns in
+    let meaning = placed_as (λ placed. placed.position) (λ placed. placed.system) g.R.DocumentRules.kind_of g.R.DocumentRules.config_of g.R.DocumentRules.declared g.R.Rules.sense g.R.Rules.does in
+    let book = g.R.DocumentRules.book c.args.rules.now in
+    on_ok_weaker c.finish_frame.result (λ on. on c.args.world.now
+    (come-goes kinds meaning book c.args.dispatcher.now c.run_systems-outcome.new.self c.args.world.now c.run_systems-outcome.new.world c.run_systems-outcome.result (c.run_systems-outcome.ensures.comes c.requires.ready)))
+    c.finish_frame.ensures.goes_on
 
 pub returns-clause-refused : goal.returns-clause-refused
 returns-clause-refused g c =

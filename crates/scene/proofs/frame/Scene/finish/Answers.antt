@@ -46,6 +46,7 @@ returns-in-Ok-clause-ready g c =
     let stands = subst (λ places. Stands (kinds_of g.R.Value.SceneValue.places g.R.DocumentRules.part_of g.R.Rules.columns) (placed_as (λ placed. placed.position) (λ placed. placed.system) g.R.DocumentRules.kind_of g.R.DocumentRules.config_of g.R.DocumentRules.declared g.R.Rules.sense g.R.Rules.does) (g.R.DocumentRules.book c.args.self.now.rules) c.args.self.now.dispatcher c.advance.new.world places (listed_scene g.R.DocumentRules.part_of g.R.DocumentRules.global_of (g.R.DocumentRules.book c.args.self.now.rules) c.advance.new.kept)) c.as_slice-2.ensures.value c.in-Ok.ensures.stands in
     record {
       stands = λ none. stands;
+      kept = λ none. c.in-Ok.ensures.full;
       lawful = c.requires.under_way.lawful;
       proper = subst (IsProper (g.R.DocumentRules.book c.args.self.now.rules)) stands.same stands.ready.world.proper;
     }
@@ -56,7 +57,7 @@ returns-in-Err-clause-err g c =
     let given : plain_commands g.R.DocumentRules.part_of c.commands_for-given.result.now ≡ commands_at g.R.DocumentRules.part_of c.args.self.now.commands.items (c.args.self.now.report.frames + 1) = c.commands_for-given.ensures g.R.DocumentRules.part_of ∙ ap (λ lists. commands_at g.R.DocumentRules.part_of lists (c.args.self.now.report.frames + 1)) c.as_slice.ensures.value in
     let skips = c.from_vec-in-Err.ensures ∙ c.in-Err.ensures.skips ∙ c.into_vec-skips.ensures ∙ c.replace.ensures.value in
     record {
-      scene = ap (listed_scene g.R.DocumentRules.part_of g.R.DocumentRules.global_of (g.R.DocumentRules.book c.args.self.now.rules)) c.in-Err.ensures.kept;
+      scene = c.in-Err.ensures.kept;
       course = record { frames = refl; limit = refl; asked = refl };
       told = told_first _ c.args.self.now.report.refused c.requires.under_way.going (
         c.in-Err.cause,
@@ -71,6 +72,7 @@ returns-in-Err-clause-err g c =
 pub returns-in-Err-clause-ready : goal.returns-in-Err-clause-ready
 returns-in-Err-clause-ready g c = record {
   stands = λ none. absurd (none-some (c.args.self.now.report.frames + 1, c.in-Err.cause) (sym none));
+  kept = λ none. absurd (none-some (c.args.self.now.report.frames + 1, c.in-Err.cause) (sym none));
   lawful = c.requires.under_way.lawful;
-  proper = subst (λ kept. IsProper (g.R.DocumentRules.book c.args.self.now.rules) (listed_scene g.R.DocumentRules.part_of g.R.DocumentRules.global_of (g.R.DocumentRules.book c.args.self.now.rules) kept)) (sym c.in-Err.ensures.kept) c.requires.under_way.proper;
+  proper = subst (IsProper (g.R.DocumentRules.book c.args.self.now.rules)) (sym c.in-Err.ensures.kept) c.requires.under_way.proper;
 }

@@ -6,7 +6,7 @@ use Rattle.scene.specs.Waiting.{AreTheirPlaces}
 use Rattle.scene.specs.Turns.{Advances, Stays}
 use Rattle.scene.specs.Running.{shown_of}
 use Rattle.scene.proofs.TurnLemmas.{none_there}
-use Rattle.scene.proofs.FrameLemmas.{have-come, same-shown}
+use Rattle.scene.proofs.FrameLemmas.{have-come, come-goes, same-shown}
 use Rattle.scene.proofs.frame.Scene.run_frame.Goals as goal
 
 pub finish-requires-clause-under_way : goal.finish-requires-clause-under_way
@@ -21,6 +21,7 @@ finish-requires-clause-under_way g c =
     record {
       going = going;
       come = have-come kinds meaning book c.args.self.now.dispatcher c.run_systems-outcome.new.self c.args.self.now.world c.run_systems-outcome.new.world _ c.run_systems-outcome.result stands.none stands.same order (c.run_systems-outcome.ensures.comes stands.ready);
+      since = (c.args.self.now.world, c.requires.ready.kept going, come-goes kinds meaning book c.args.self.now.dispatcher c.run_systems-outcome.new.self c.args.self.now.world c.run_systems-outcome.new.world c.run_systems-outcome.result (c.run_systems-outcome.ensures.comes stands.ready));
       places = subst (AreTheirPlaces c.args.self.now.places.items) (sym order) stands.places;
       lawful = c.requires.ready.lawful;
       proper = c.requires.ready.proper;
