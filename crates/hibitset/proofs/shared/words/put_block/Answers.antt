@@ -1,4 +1,6 @@
-use Rattle.std.proofs.Common.{◌≡◌, ℕ, ◌/◌, ◌%◌, ◌==◌, Bool, get_or, sym, ap, ◌∙◌, arith, eq-eqb, ne_eqb}
+use Rattle.std.proofs.Common.{◌≡◌, ℕ, ◌/◌, ◌%◌, ◌==◌, Bool, get_or, refl, sym, ap, ◌∙◌, arith, eq-eqb, ne_eqb}
+use mathlib.Core.Logic.{dite}
+use native.Mathlib.Decide.{ℕ_discrete}
 use Rattle.std.specs.Slots.{slots_items}
 use Rattle.hibitset_sets.specs.BitSet.{SetWithRoom, has_member}
 use Rattle.hibitset_sets.specs.Bits.{has_bit}
@@ -51,3 +53,12 @@ returns-clause-members c = λ index.
     let stops = c.loop-place.auto.place-end in
     let words : ℕ → ℕ = λ number. get_or (slots_items c.args.closed.now.words) number 0 in
     c.loop-place.invariant.members index ∙ in_block-end words (has_member c.args.bits.now) c.args.block c.loop-place.place index (omega arith)
+
+pub returns-then-is_block_of-clause-members : goal.returns-then-is_block_of-clause-members
+returns-then-is_block_of-clause-members c = λ index.
+    let words : ℕ → ℕ = λ number. get_or (slots_items c.args.closed.now.words) number 0 in
+    let same = c.is_block_of.ensures c.if-is_block_of.true in
+    dite (ℕ_discrete (index / 4096) c.args.block)
+    (λ here. as-in-word words (has_member c.args.bits.now) (index / 64) index (same (index / 64) (omega (arith, here))) refl
+    ∙ sym (chosen (index / 4096 == c.args.block) _ _ (eq-eqb (index / 4096) c.args.block here)))
+    (λ there. sym (other (index / 4096 == c.args.block) _ _ (ne_eqb (index / 4096) c.args.block there)))
