@@ -16,7 +16,8 @@ use Rattle.scene_commands.specs.declared.watching.Watcher.{Watcher}
 use Rattle.scene_commands.specs.declared.watching.Watchers.{Watchers}
 use Rattle.scene_snapshot.specs.Rows.{seat_at, datum_at}
 use Rattle.scene_snapshot.specs.declared.kept.KeptScene.{KeptScene}
-use Rattle.scene.specs.Keeping.{IsBelow, mark_told, part_told, watcher_at, AreToldSince, IsFullByIndex}
+use Rattle.scene_commands.specs.Watching.{watcher_at}
+use Rattle.scene.specs.Keeping.{IsBelow, mark_told, part_told, AreToldSince, IsFullByIndex}
 use Rattle.scene.specs.Changes.{IsChange, AreChanges, AreTouched, IsSound, AreFree, row_after}
 use Rattle.scene.specs.Taken.{IsAmong, is_one_of, behind_themselves, turned, marks_at, with_last, part_at, IsRowOf}
 use Rattle.scene.specs.declared.changes.RowChange.{RowChange}

@@ -1,16 +1,14 @@
 -- What holds of pairs, of what is read at them, and of what is kept where the same entries are.
-use Rattle.std.proofs.Common.{◌≡◌, ◌<◌, ℕ, zero, suc, Bool, true, false, ◌||◌, List, [], ◌∷◌, map, length, All, Option, None, Some, option_map, refl, ap, sym, subst, ◌∙◌, arith}
+use Rattle.std.proofs.Common.{◌≡◌, ◌<◌, ℕ, zero, suc, List, [], ◌∷◌, map, length, All, Option, None, Some, option_map, refl, ap, sym, subst, ◌∙◌}
 use Rattle.std.specs.Prelude.{option_and_then, slice_get}
 use Rattle.std.specs.Global.{Vec}
 use Rattle.std.specs.List.{cons_option}
 use Rattle.std.specs.Ordering.{nat_cmp}
-use Rattle.std.specs.Str.{bytes_eq}
-use Rattle.std.proofs.lemmas.Slice.Eq.{bytes_eq-Decides}
 use Rattle.std.specs.FinMap as finite
 use Rattle.std.specs.FinMap.{FinMap}
 use Rattle.std.proofs.Math.Path.{fun_ext}
 use Rattle.std.proofs.lemmas.List.Elements.{All-nil, All-cons, All-head, All-tail}
-use Rattle.scene_model.specs.Parts.{Json, Name, Part, place_of, is_among, name_at}
+use Rattle.scene_model.specs.Parts.{Json, Name, Part, place_of}
 use Rattle.scene_model.specs.Rulebook.{Book}
 use Rattle.scene_model.specs.Slots.{filled}
 use Rattle.scene_model.proofs.CallerLemmas.{same_scene}
@@ -88,7 +86,7 @@ same-kept part_of global_of value_at book before after same =
     at (Some place) index = same.rows place index
 
 pub same-entries : {D G : Type 0} (kept : KeptScene D G) → SameEntries kept kept
-same-entries kept = record { seats = λ index. refl; rows = λ place index. refl; course = record { kinds = refl; next = refl; globals = refl } }
+same-entries kept = record { seats = λ index. refl; rows = λ place index. refl; course = record { kinds = refl; next = refl; globals = refl }; changes = refl }
 
 -- the entries and rows are those of before, where next id and globals became others
 module _ {D G : Type 0} (before after : KeptScene D G) (next : ℕ) (globals : G) (is : IsSettled before next globals after) where
@@ -100,16 +98,3 @@ module _ {D G : Type 0} (before after : KeptScene D G) (next : ℕ) (globals : G
 
   pub settled-kinds : kinds_kept after ≡ kinds_kept before
   settled-kinds = ap (λ (columns : Vec (Vec (Option D))). length columns.items) is.columns
-
--- the name at a place of some is among them
-pub name-known : (names : List Name) (place : ℕ) → place < length names → is_among (name_at names place) names ≡ true
-name-known [] place below = absurd (none place below)
-  where
-    none : (place : ℕ) → place < 0 → ⊥
-    none place below = omega (arith, below)
-name-known (name ∷ names) zero below = ap (λ b. b || is_among name names) ((bytes_eq-Decides name name).1 refl)
-name-known (name ∷ names) (suc place) below = ap (λ b. bytes_eq (name_at names place) name || b) (name-known names place (omega (arith, below))) ∙ or-true (bytes_eq (name_at names place) name)
-  where
-    or-true : (b : Bool) → (b || true) ≡ true
-    or-true true = refl
-    or-true false = refl

@@ -1,15 +1,17 @@
 -- Lemmas on the frames of a scene that stands in a world: how far it has come, and how it ends.
-use Rattle.std.proofs.Common.{◌≡◌, ◌<◌, ◌∙◌, ℕ, Result, Ok, Err, inl, refl, sym, ap, subst}
-use Rattle.std.specs.Result.{OnOk}
+use Rattle.std.proofs.Common.{◌≡◌, ◌<◌, ◌≤◌, ◌+◌, ◌∙◌, ℕ, ltb, Bool, true, false, List, Result, Ok, Err, inl, refl, sym, ap, subst, arith}
+use Rattle.std.specs.Result.{OnOk, IfErr, IsOk}
 use Rattle.shred_world.specs.Worlds.{Slots}
 use Rattle.shred_world.specs.Bundles.{holding_of}
 use Rattle.shred.specs.Dispatching.{Dispatching}
+use Rattle.std.proofs.lemmas.Bool.{false≢true, ltb-true, ltb-false}
 use Rattle.scene_model.specs.declared.refusals.FrameRefusal.{FrameRefusal}
 use Rattle.scene_model.specs.declared.refusals.FrameRefusal.TheVariants.{System, GoneReference, IdsSpent, IndicesSpent, GenerationsSpent, TooManyCommands, Memory, Threads}
-use Rattle.scene_model.specs.Frames.{SystemsRun}
+use Rattle.scene_model.specs.Bounds.{FrameLimit}
+use Rattle.scene_model.specs.Frames.{SystemsRun, Refuses}
 use Rattle.scene_model.specs.Scenes.{PlainScene, PlainFrame}
 use Rattle.scene_model.specs.Parts.{Json, Part}
-use Rattle.scene_model.specs.Rulebook.{Book}
+use Rattle.scene_model.specs.Rulebook.{Book, Command}
 use Rattle.scene_world.specs.Ages.{Ages}
 use Rattle.scene_world.specs.Standing.{Kinds, roll_of, plain_of}
 use Rattle.scene_world.proofs.CallerLemmas.{ages-none, markers-stay}
@@ -17,11 +19,14 @@ use Rattle.scene_world.specs.Turns.{Meaning}
 use Rattle.scene_world.specs.Chains.{left_at}
 use Rattle.scene_world.specs.declared.placed.Placed.{Placed}
 use Rattle.scene_dispatch.specs.Orders.{turn_order}
-use Rattle.scene_dispatch.specs.Frames.{AreRefused, Come}
+use Rattle.scene_dispatch.specs.Frames.{AreRefused, Come, WantsThread}
 use Rattle.scene_commands.specs.Acts.{seen_of, GoesOn}
 use Rattle.scene.specs.Waiting.{NoneWaits}
 use Rattle.scene.specs.Refusals.{RefusedIn}
-use Rattle.scene.specs.Coming.{HaveCome, HaveTurned}
+use Rattle.scene_world.specs.Rolls.{Roll}
+use Rattle.scene_commands.specs.Bounds.{GrowsByIds, IsBounded}
+use Rattle.scene_commands.proofs.CallerLemmas.{goes-nowhere, grows-none, bounded-on}
+use Rattle.scene.specs.Coming.{HaveCome, HaveTurned, IsUnder, StaysUnder}
 use Rattle.scene.specs.Turns.{frames_left, Advances, Stays}
 use Rattle.scene.specs.Running.{rules_of, shown_of, course_of, IsReady, MayBegin, IsGoing, HasRunOut}
 use Rattle.scene.specs.declared.frame.Scene.{Scene}
@@ -47,6 +52,7 @@ module _ {V P : Type 0} (kinds : Kinds V) (meaning : Meaning P) (book : Book) wh
   come-goes before after w later (Ok a) turns = record {
     shown = record { parts = turns.shown; markers = markers-stay kinds (seen_of w) (seen_of later) turns.markers };
     ages = subst (λ roll. Ages (roll_of kinds (seen_of w)) roll) (sym turns.rolls) (ages-none (roll_of kinds (seen_of w)));
+    grows = subst (λ roll. GrowsByIds (roll_of kinds (seen_of w)) roll) (sym turns.rolls) (grows-none (roll_of kinds (seen_of w)).births (roll_of kinds (seen_of w)).noting.next);
   }
   come-goes before after w later (Err cause) refused = tt
 
@@ -55,15 +61,87 @@ module _ {V P : Type 0} (kinds : Kinds V) (meaning : Meaning P) (book : Book) wh
   turned systems w scene outcome is come = subst (HaveCome kinds meaning book systems w scene) is come
 
   -- what refuses the systems of a frame refuses the frame
-  pub refused-turns : (limit : ℕ) (frame : PlainFrame) (scene : PlainScene) (cause : FrameRefusal) → AreRefused book frame.order scene cause → RefusedIn kinds book limit frame scene cause
-  refused-turns limit frame scene (System position text) why = why
-  refused-turns limit frame scene (GoneReference id) why = absurd why
-  refused-turns limit frame scene IdsSpent why = absurd why
-  refused-turns limit frame scene IndicesSpent why = absurd why
-  refused-turns limit frame scene GenerationsSpent why = absurd why
-  refused-turns limit frame scene TooManyCommands why = inl why
-  refused-turns limit frame scene Memory why = tt
-  refused-turns limit frame scene Threads why = tt
+  pub refused-turns : (limit : ℕ) (start : Roll) (frame : PlainFrame) (scene : PlainScene) (cause : FrameRefusal) → AreRefused book frame.order scene cause → RefusedIn kinds book limit start frame scene cause
+  refused-turns limit start frame scene (System position text) why = why
+  refused-turns limit start frame scene (GoneReference id) why = absurd why
+  refused-turns limit start frame scene IdsSpent why = absurd why
+  refused-turns limit start frame scene IndicesSpent why = absurd why
+  refused-turns limit start frame scene GenerationsSpent why = absurd why
+  refused-turns limit start frame scene TooManyCommands why = inl why
+  refused-turns limit start frame scene Memory why = tt
+  refused-turns limit start frame scene Threads why = tt
+
+  -- and refuses it for the scene
+  turns-refuse : (limit : FrameLimit) (frame : PlainFrame) (scene : PlainScene) (cause : FrameRefusal) → (WantsThread cause → 2 ≤ limit.workers) → AreRefused book frame.order scene cause → Refuses book limit frame scene cause
+  turns-refuse limit frame scene (System position text) wants why = why
+  turns-refuse limit frame scene (GoneReference id) wants why = absurd why
+  turns-refuse limit frame scene IdsSpent wants why = absurd why
+  turns-refuse limit frame scene IndicesSpent wants why = absurd why
+  turns-refuse limit frame scene GenerationsSpent wants why = absurd why
+  turns-refuse limit frame scene TooManyCommands wants why = inl why
+  turns-refuse limit frame scene Memory wants why = tt
+  turns-refuse limit frame scene Threads wants why = wants tt
+
+  -- a frame is refused under a limit, by its systems, or once these have come to a good end
+  pub refused-under : (limit : FrameLimit) (systems : Dispatching P P) (w : Slots V) (commands : List Command) (scene : PlainScene) (outcome : Result (Unit {0}) FrameRefusal) (cause : FrameRefusal)
+      → ((under : IsBounded limit.indices limit.generation limit.unlisted (roll_of kinds (seen_of w))) → (WantsThread cause → 2 ≤ limit.workers)
+      → RefusedIn kinds book limit.commands (roll_of kinds (seen_of w)) (record { order = turn_order meaning.plain systems; commands = commands }) scene cause → Refuses book limit (record { order = turn_order meaning.plain systems; commands = commands }) scene cause)
+      → HaveCome kinds meaning book systems w scene outcome → StaysUnder kinds limit w outcome → IfErr outcome (λ why. cause ≡ why) → (IfErr outcome (λ why. ¬ (WantsThread why)) → ¬ (WantsThread cause))
+      → RefusedIn kinds book limit.commands (roll_of kinds (seen_of w)) (record { order = turn_order meaning.plain systems; commands = commands }) scene cause
+      → Refuses book limit (record { order = turn_order meaning.plain systems; commands = commands }) scene cause
+  refused-under limit systems w commands scene (Ok a) cause law come under told threads why = law under (λ wants. absurd (threads tt wants)) why
+  refused-under limit systems w commands scene (Err because) cause law come under told threads why =
+      subst (λ one. Refuses book limit (record { order = turn_order meaning.plain systems; commands = commands }) scene one) (sym told)
+      (turns-refuse limit (record { order = turn_order meaning.plain systems; commands = commands }) scene because under come)
+
+  -- the entities stay under a limit while systems run
+  pub come-under : (before after : Dispatching P P) (limit : FrameLimit) (w later : Slots V) (outcome : Result (Unit {0}) FrameRefusal) → Come kinds meaning book before (holding_of w) outcome after (holding_of later) → IsUnder kinds limit w
+      → IfErr outcome (λ cause. WantsThread cause → 2 ≤ limit.workers) → StaysUnder kinds limit later outcome
+  come-under before after limit w later (Ok a) turns under wants = subst (IsBounded limit.indices limit.generation limit.unlisted) (sym turns.rolls) under
+  come-under before after limit w later (Err cause) turns under wants = wants
+
+  -- what refuses a frame once its systems have come to an outcome refuses it since they began
+  pub refused-since : (before after : Dispatching P P) (w later : Slots V) (limit : ℕ) (commands : List Command) (scene : PlainScene) (outcome : Result (Unit {0}) FrameRefusal) (cause : FrameRefusal)
+      → Come kinds meaning book before (holding_of w) outcome after (holding_of later) → HaveCome kinds meaning book after later scene outcome → IfErr outcome (λ why. cause ≡ why)
+      → RefusedIn kinds book limit (roll_of kinds (seen_of later)) (record { order = turn_order meaning.plain after; commands = commands }) scene cause
+      → RefusedIn kinds book limit (roll_of kinds (seen_of w)) (record { order = turn_order meaning.plain after; commands = commands }) scene cause
+  refused-since before after w later limit commands scene (Ok a) cause turns come told why =
+      subst (λ roll. RefusedIn kinds book limit roll (record { order = turn_order meaning.plain after; commands = commands }) scene cause) turns.rolls why
+  refused-since before after w later limit commands scene (Err because) cause turns come told why =
+      subst (RefusedIn kinds book limit (roll_of kinds (seen_of w)) (record { order = turn_order meaning.plain after; commands = commands }) scene) (sym told)
+      (refused-turns limit (roll_of kinds (seen_of w)) (record { order = turn_order meaning.plain after; commands = commands }) scene because come)
+
+-- the entities stay under a limit while commands are carried out, which they are once the systems have come to a good end
+pub under-on : {V : Type 0} (kinds : Kinds V) (limit : FrameLimit) (w later : Slots V) (outcome result : Result (Unit {0}) FrameRefusal) → StaysUnder kinds limit w outcome → IfErr outcome (λ why. result ≡ Err why) → IsOk result
+    → (OnOk outcome (GoesOn kinds w w) → GoesOn kinds w later) → IsUnder kinds limit later
+under-on kinds limit w later (Ok a) result under told is goes = bounded-on limit.indices limit.generation limit.unlisted (roll_of kinds (seen_of w)) (roll_of kinds (seen_of later)) under (goes (goes-nowhere kinds w)).grows
+under-on kinds limit w later (Err why) result under told is goes = absurd (false≢true (subst (λ r. IsOk r) told is))
+
+-- what is told as it is, is that
+pub told-as : {T : Type 0} (outcome result : Result T FrameRefusal) → IfErr outcome (λ why. result ≡ Err why) → IfErr result (λ cause. IfErr outcome (λ why. cause ≡ why))
+told-as (Ok a) (Ok b) told = tt
+told-as (Ok a) (Err cause) told = tt
+told-as (Err why) (Ok b) told = tt
+told-as (Err why) (Err cause) told = cc
+
+-- what holds in both cases holds of a refusal, by two things that do
+pub if_err_two : {T E : Type 0} (r : Result T E) (A B C : E → Type 0) → ((error : E) → A error → B error → C error) → IfErr r A → IfErr r B → IfErr r C
+if_err_two (Ok x) A B C f a b = tt
+if_err_two (Err y) A B C f a b = f y a b
+
+-- a thread is wanting only with two workers or more
+pub wants-two : (outcome : Result (Unit {0}) FrameRefusal) (workers : ℕ) → (workers < 2 → IfErr outcome (λ cause. ¬ (WantsThread cause))) → IfErr outcome (λ cause. WantsThread cause → 2 ≤ workers)
+wants-two (Ok a) workers few = tt
+wants-two (Err cause) workers few = λ wants. by (ltb workers 2) refl wants
+  where
+    by : (b : Bool) → ltb workers 2 ≡ b → WantsThread cause → 2 ≤ workers
+    by true less wants = absurd (few (ltb-true workers 2 less) wants)
+    by false more wants = let many = ltb-false workers 2 more in omega (arith, many)
+
+-- where none is wanting at all, neither
+pub wants-none : (outcome : Result (Unit {0}) FrameRefusal) (workers : ℕ) → IfErr outcome (λ cause. ¬ (WantsThread cause)) → IfErr outcome (λ cause. WantsThread cause → 2 ≤ workers)
+wants-none (Ok a) workers none = tt
+wants-none (Err cause) workers none = λ wants. absurd (none wants)
 
 -- a scene with other systems and another world
 abbrev with_world : {R V D G S : Type 0} → Scene R V D G S → Dispatching (Placed R V D G S) (Placed R V D G S) → Slots V → Scene R V D G S
@@ -113,12 +191,12 @@ module _ {R V D G S : Type 0} (kinds : Kinds V) (part_of : D → Part) (global_o
 
   -- what is shown of a scene stays where its systems keep their order
   pub same-shown : (scene : Scene R V D G S) (systems : Dispatching (Placed R V D G S) (Placed R V D G S)) (w : Slots V)
-      → turn_order meaning.plain systems ≡ turn_order meaning.plain scene.dispatcher
+      → turn_order meaning.plain systems ≡ turn_order meaning.plain scene.dispatcher → systems.workers ≡ scene.dispatcher.workers
       → shown_of kinds part_of global_of meaning book_of (with_world scene systems w) ≡ shown_of kinds part_of global_of meaning book_of scene
-  same-shown scene systems w order = λ i. record {
+  same-shown scene systems w order workers = λ i. record {
     scene = (shown_of kinds part_of global_of meaning book_of scene).scene;
     frames = course_of part_of (order i) scene.commands.items;
-    limit = scene.limit;
+    limit = record { commands = scene.limit.commands; indices = scene.limit.indices; generation = scene.limit.generation; unlisted = scene.limit.unlisted; workers = workers i };
     asked = scene.asked;
     report = scene.report;
   }

@@ -1,13 +1,15 @@
 -- Lemmas on what is kept of a world: of who lives, of the rows of kinds, and of the scene.
-use Rattle.std.proofs.Common.{◌≡◌, ◌≢◌, ◌⊎◌, inl, inr, ◌<◌, ◌+◌, ℕ, zero, suc, take, get_or, Bool, true, false, cond, eqb, ◌||◌, List, [], ◌∷◌, ◌++◌, append_assoc, append-nil, map, length, All, Option, Some, None, IsSome, is_some, option_map, refl, ap, sym, subst, ◌∙◌, arith}
+use Rattle.std.proofs.Common.{◌≡◌, ◌≢◌, ◌⊎◌, inl, inr, ◌<◌, ◌≤◌, ◌+◌, ℕ, take, get_or, Bool, true, false, cond, eqb, ◌||◌, List, [], ◌∷◌, ◌++◌, append_assoc, append-nil, map, length, All, Option, Some, None, IsSome, is_some, option_map, refl, ap, sym, subst, ◌∙◌, arith}
 use Rattle.std.specs.Prelude.{option_and_then, slice_get}
-use Rattle.std.specs.List.{list_any, cons_option}
+use Rattle.std.specs.List.{list_any, cons_option, filter, range_with_len}
 use Rattle.std.specs.Global.{Vec}
 use Rattle.std.specs.FinMap as finite
 use Rattle.std.proofs.lemmas.Bool.{false≢true, eqb-true, eq-eqb}
 use Rattle.std.proofs.lemmas.List.Elements.{All-nil, All-cons, All-head, All-tail, All-push, All-weaker, All-map, filter_map-append}
 use Rattle.std.proofs.lemmas.Option.{same_Some}
-use Rattle.std.proofs.lemmas.List.{map-append, take_more}
+use Rattle.std.proofs.lemmas.List.{map-append, take_more, length-map, length-append}
+use Rattle.std.proofs.lemmas.List.FromFn.{length-range_with_len}
+use Rattle.std.proofs.lemmas.List.Sums.{length-filter, count_by-le-length}
 use Rattle.hibitset_sets.specs.BitSet.{has_member}
 use Rattle.hibitset_sets.specs.Walk.{walk}
 use Rattle.hibitset_sets.proofs.CallerLemmas.{any-walk, members-walked}
@@ -18,9 +20,7 @@ use Rattle.specs_layouts.specs.Masked.{Masked, Agrees}
 use Rattle.specs_layouts.specs.declared.storages.vec.VecStorage.{VecStorage}
 use Rattle.scene_world.specs.Markers.{marker_at}
 use Rattle.scene_model.specs.Parts.{Json, Name, Part, is_among, place_of, name_at, living as reaching}
-use Rattle.scene_model.specs.Declaring.{texts}
 use Rattle.scene_model.specs.Rulebook.{Book}
-use denote.Ref.{Bor}
 use Rattle.scene_model.specs.Scenes.{RefLives}
 use Rattle.scene_model.specs.Slots.{filled}
 use Rattle.scene_model.proofs.CallerLemmas.{same-ids}
@@ -90,6 +90,17 @@ front-more g items k d below = ap (map g) (take_more items k d below) ∙ map-ap
 
 -- ---- who lives
 
+-- of some numbers no more pass than there are
+passing-few : (members : ℕ → Bool) (n : ℕ) → length (filter members (range_with_len 0 n)) ≤ n
+passing-few members n =
+    let less = count_by-le-length members (range_with_len 0 n) in
+    omega (arith, less, length-filter members (range_with_len 0 n), length-range_with_len 0 n)
+
+-- so a set has no more members than indices below its end
+pub walk-few : (members : ℕ → Bool) → length (walk members) ≤ 16777216
+unfolding walk
+walk-few members = passing-few members 16777216
+
 -- markers of which each is that of somebody who lives are all that there are
 module _ (roll : Roll) (is : IsRoll roll) (markers : Masked (Flagged (VecStorage ℕ))) (of : (index : ℕ) → roll.marker index ≡ marker_at markers index) where
   marked-lives : (index id : ℕ) → marker_at markers index ≡ Some id → id_at roll index ≡ Some id
@@ -111,6 +122,7 @@ module _ (roll : Roll) (is : IsRoll roll) (markers : Masked (Flagged (VecStorage
     each = All-weaker (λ pair. marker_at markers pair.1 ≡ Some pair.0) (λ pair. id_at roll pair.1 ≡ Some pair.0) (λ pair. marked-lives pair.1 pair.0) pairs are.each;
     below = are.below;
     all = λ index some. are.all index (lives-marked index some);
+    few = are.few;
   }
 
 module _ (markers : Masked (Flagged (VecStorage ℕ))) where
@@ -137,6 +149,10 @@ module _ (markers : Masked (Flagged (VecStorage ℕ))) where
           let member : has_member markers.mask index ≡ true = agree index ∙ some in
           ap (list_any (eqb index)) (sym (append-nil (map (λ pair. pair.1) pairs)) ∙ sym (ap (λ rest. map (λ pair. pair.1) pairs ++ rest) none) ∙ pairing.all)
           ∙ any-walk (has_member markers.mask) index (range index member) member;
+      few = let total : length pairs + length left ≡ length (walk (has_member markers.mask)) =
+          sym (ap (λ n. n + length left) (length-map pairs (λ (pair : ℕ × ℕ). pair.1))) ∙ sym (length-append (map (λ pair. pair.1) pairs) left) ∙ ap length pairing.all in
+          let small = walk-few (has_member markers.mask) in
+          omega (arith, total, small);
     }
 
     module _ (index : ℕ) (rest : List ℕ) (is : left ≡ index ∷ rest) where
@@ -259,6 +275,7 @@ pub record Writing {D G : Type 0} (found left : List (ℕ × Option D)) (place c
   pub seats : (index : ℕ) → seat_at now index ≡ seat_at old index
   pub room : HasRoom count now
   pub course : SameCourse old now
+  pub changes : now.changes ≡ old.changes
 
 module _ {D G : Type 0} (found left : List (ℕ × Option D)) (place count : ℕ) (old now : KeptScene D G) where
   pub writing-begins : left ≡ found → now ≡ old → HasRoom count old → Writing found left place count old now
@@ -270,6 +287,7 @@ module _ {D G : Type 0} (found left : List (ℕ × Option D)) (place count : ℕ
     seats = λ index. refl;
     room = room;
     course = record { kinds = refl; next = refl; globals = refl };
+    changes = refl;
   })
 
   module _ (writing : Writing found left place count old now) where
@@ -294,13 +312,14 @@ module _ {D G : Type 0} (found left : List (ℕ × Option D)) (place count : ℕ
         seats = writing.seats;
         room = writing.room;
         course = writing.course;
+        changes = writing.changes;
       }
 
       -- and one with a datum is written
       pub writing-goes : (datum : D) (after : KeptScene D G) → left ≡ (number, Some datum) ∷ rest
           → ((at other : ℕ) → datum_at after at other ≡ cond (eqb at place) (cond (eqb other number) (Some datum) (datum_at now at other)) (datum_at now at other))
-          → ((other : ℕ) → seat_at after other ≡ seat_at now other) → SameCourse now after → ((count : ℕ) → HasRoom count now → HasRoom count after) → Writing found rest place count old after
-      writing-goes datum after is rows seats course room = record {
+          → ((other : ℕ) → seat_at after other ≡ seat_at now other) → SameCourse now after → ((count : ℕ) → HasRoom count now → HasRoom count after) → after.changes ≡ now.changes → Writing found rest place count old after
+      writing-goes datum after is rows seats course room changes = record {
         done = writing.done ++ (number, Some datum) ∷ [];
         split = split-on (number, Some datum) is;
         row = λ index.
@@ -313,6 +332,7 @@ module _ {D G : Type 0} (found left : List (ℕ × Option D)) (place count : ℕ
         seats = λ index. seats index ∙ writing.seats index;
         room = room count writing.room;
         course = record { kinds = course.kinds ∙ writing.course.kinds; next = course.next ∙ writing.course.next; globals = course.globals ∙ writing.course.globals };
+        changes = changes ∙ writing.changes;
       }
         where
           unlike : (other : ℕ) → other ≢ place → (b : Bool) → eqb other place ≡ b → eqb other place ≡ false
@@ -375,12 +395,6 @@ behind-itself pairs = All-map (λ (pair : ℕ × ℕ). pair.0 ≡ pair.1) (λ (p
 pub same-indices : (pairs : List (ℕ × ℕ)) → map (λ (pair : ℕ × ℕ). pair.1) (map (λ (pair : ℕ × ℕ). (pair.1, pair.1)) pairs) ≡ map (λ pair. pair.1) pairs
 same-indices [] = refl
 same-indices (pair ∷ pairs) = ap (λ rest. pair.1 ∷ rest) (same-indices pairs)
-
--- the name at a place among the texts of names
-pub name-there : (names : List (Bor Name)) (place : ℕ) (d : Bor Name) → place < length names → name_at (texts names) place ≡ (get_or names place d).now
-name-there [] place d below = absurd (omega (arith, below))
-name-there (name ∷ names) zero d below = refl
-name-there (name ∷ names) (suc place) d below = name-there names place d (omega (arith, below))
 
 -- where each index bears the id of who lives there, the bearer of an id is the index of who is known under it
 pub bearers-known : (roll : Roll) → IsRoll roll → (seats : List (Option ℕ)) → ((index : ℕ) → filled (slice_get seats index) ≡ id_at roll index) → (id : ℕ) → finite.get (bearers seats) id ≡ index_of roll id

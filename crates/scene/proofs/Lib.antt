@@ -9,9 +9,11 @@ pub mod EntryLemmas
 pub mod StepLemmas
 pub mod ChangeLemmas
 pub mod LoopLemmas
+pub mod CountingLemmas
 pub mod TellingLemmas
 pub mod TurnLemmas
 pub mod OutcomeLemmas
 pub mod PlaceLemmas
 pub mod AloneLemmas
 pub mod FrameLemmas
+pub mod RestLemmas

@@ -1,5 +1,5 @@
 -- What loops over indices and kinds have done so far.
-use Rattle.std.proofs.Common.{◌≡◌, ◌≢◌, ◌<◌, ◌+◌, ℕ, zero, suc, Bool, true, false, cond, eqb, ◌||◌, ◌&&◌, nat_lt, List, [], ◌∷◌, ◌++◌, append_assoc, append-nil, map, length, take, get_or, All, Option, None, Some, is_some, option_map, refl, ap, sym, subst, ◌∙◌, arith}
+use Rattle.std.proofs.Common.{◌≡◌, ◌≢◌, ◌<◌, ◌+◌, ◌⊎◌, inl, inr, ℕ, zero, suc, Bool, true, false, cond, eqb, ◌||◌, ◌&&◌, nat_lt, List, [], ◌∷◌, ◌++◌, append_assoc, append-nil, map, length, take, get_or, All, Option, None, Some, is_some, option_map, refl, ap, sym, subst, ◌∙◌, arith}
 use Rattle.std.specs.Prelude.{slice_get}
 use Rattle.std.specs.List.{filter_map}
 use Rattle.std.proofs.Math.Path.{fun_ext}
@@ -13,10 +13,11 @@ use Rattle.scene_world.specs.Telling.{is_told}
 use Rattle.scene_model.specs.Parts.{Name, Part, name_at}
 use Rattle.scene_world.specs.Standing.{Sight, Kinds}
 use Rattle.scene_commands.specs.declared.watching.Watcher.{Watcher}
-use Rattle.scene.specs.Keeping.{part_told, watcher_at}
+use Rattle.scene_commands.specs.Watching.{watcher_at}
+use Rattle.scene.specs.Keeping.{part_told}
 use Rattle.scene_snapshot.specs.Rows.{seat_at, datum_at, HasRoom, SameCourse}
 use Rattle.scene_snapshot.specs.declared.kept.KeptScene.{KeptScene}
-use Rattle.scene.specs.Changes.{IsChange, AreChanges, AreTouched, row_after}
+use Rattle.scene.specs.Changes.{IsChange, AreChanges, AreTouched, OnlyTouched, row_after}
 use Rattle.scene.specs.Taken.{is_one_of, behind_themselves, marks_at}
 use Rattle.scene.specs.declared.changes.RowChange.{RowChange}
 
@@ -71,6 +72,10 @@ united-right low one other is there = ap (λ b. b && (one || other)) is ∙ ap (
 pub united-low : (low one : Bool) → (low && one) ≡ true → (index : ℕ) → low ≡ nat_lt index 16777216 → index < 16777216
 united-low true one both index is = grind (arith, is)
 united-low false one both index is = absurd (false≢true both)
+
+pub united-one : (low one : Bool) → (low && one) ≡ true → one ≡ true
+united-one true one both = both
+united-one false one both = absurd (false≢true both)
 
 -- ---- indices so far
 
@@ -204,6 +209,22 @@ touched-more kinds w names watchers place before after were kept told at below i
         told index (subst (λ n. part_told kinds w (name_at names n) (watcher_at watchers n).frame index ≡ true) here one)
     by false apart = kept index (were at (grind (arith, below, apart)) index one)
 
+-- and what is touched more is told at one of them
+pub only-more : {V : Type 0} (kinds : Kinds V) (w : Sight V) (names : List Name) (watchers : List Watcher) (place : ℕ) (first before after : ℕ → Bool) → OnlyTouched kinds w names watchers place first before
+    → ((index : ℕ) → after index ≡ true → (before index || part_told kinds w (name_at names place) (watcher_at watchers place).frame index) ≡ true)
+    → OnlyTouched kinds w names watchers (place + 1) first after
+only-more kinds w names watchers place first before after were told index member = by (before index) refl (told index member)
+  where
+    sooner : (first index ≡ true) ⊎ ((at : ℕ) × (at < place) × (part_told kinds w (name_at names at) (watcher_at watchers at).frame index ≡ true))
+        → (first index ≡ true) ⊎ ((at : ℕ) × (at < place + 1) × (part_told kinds w (name_at names at) (watcher_at watchers at).frame index ≡ true))
+    sooner (inl is) = inl is
+    sooner (inr found) = let below = found.1 in inr (found.0, omega (arith, below), found.2)
+
+    by : (b : Bool) → before index ≡ b → (b || part_told kinds w (name_at names place) (watcher_at watchers place).frame index) ≡ true
+        → (first index ≡ true) ⊎ ((at : ℕ) × (at < place + 1) × (part_told kinds w (name_at names at) (watcher_at watchers at).frame index ≡ true))
+    by true was _ = sooner (were index was)
+    by false away here = inr (place, omega arith, here)
+
 -- ---- changes that are made, from the last on
 
 -- of all changes these are left, and the others are made
@@ -214,6 +235,7 @@ pub record Making {D G : Type 0} (all left : List (RowChange D)) (count : ℕ) (
   pub seats : (index : ℕ) → seat_at now index ≡ seat_at old index
   pub room : HasRoom count now
   pub course : SameCourse old now
+  pub changes : now.changes ≡ old.changes
 
 module _ {D G : Type 0} (all left : List (RowChange D)) (count : ℕ) (old now : KeptScene D G) where
   pub making-begins : left ≡ all → now ≡ old → HasRoom count old → Making all left count old now
@@ -224,6 +246,7 @@ module _ {D G : Type 0} (all left : List (RowChange D)) (count : ℕ) (old now :
     seats = λ index. refl;
     room = room;
     course = record { kinds = refl; next = refl; globals = refl };
+    changes = refl;
   })
     where
       past : (list : List (RowChange D)) (place : ℕ) → nat_lt place (length list) ≡ false → slice_get list place ≡ None
@@ -266,15 +289,16 @@ module _ {D G : Type 0} (all left : List (RowChange D)) (count : ℕ) (old now :
         by (one ∷ list) = let more = ap suc (by list) in omega (arith, more)
 
     pub making-goes : (after : KeptScene D G) → ((index : ℕ) → datum_at after (length rest) index ≡ row_after (Some change) (datum_at now (length rest)) index)
-        → ((other index : ℕ) → other ≢ length rest → datum_at after other index ≡ datum_at now other index) → ((index : ℕ) → seat_at after index ≡ seat_at now index) → HasRoom count after → SameCourse now after
+        → ((other index : ℕ) → other ≢ length rest → datum_at after other index ≡ datum_at now other index) → ((index : ℕ) → seat_at after index ≡ seat_at now index) → HasRoom count after → SameCourse now after → after.changes ≡ now.changes
         → Making all rest count old after
-    making-goes after row others seats room course = record {
+    making-goes after row others seats room course changes = record {
       made = change ∷ making.made;
       split = split-on;
       rows = λ place index. by place index (eqb place (length rest)) refl (nat_lt place (length rest)) refl;
       seats = λ index. seats index ∙ making.seats index;
       room = room;
       course = record { kinds = course.kinds ∙ making.course.kinds; next = course.next ∙ making.course.next; globals = course.globals ∙ making.course.globals };
+      changes = changes ∙ making.changes;
     }
       where
         was : (place index : ℕ) (b : Bool) → nat_lt place (length left) ≡ b → datum_at now place index ≡ cond b (datum_at old place index) (row_after (slice_get all place) (datum_at old place) index)

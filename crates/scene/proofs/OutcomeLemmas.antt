@@ -15,15 +15,15 @@ use Rattle.scene.specs.Turns.{Shown, opening, RunsOut}
 use Rattle.scene.specs.Outcomes.{Bounds, IsRunOf, IsNoDocument}
 
 -- a run to the end of a document that was opened is a run of its bytes
-pub run_of : (book : Book) (bounds : Bounds) (input : List ℕ) (json : Json) (draft : Draft) (start now : Shown) (report : Report) (text : List ℕ) → json_of input ≡ Some json → document_from book bounds.indices json ≡ Ok draft → start ≡ opening bounds.commands draft → CanBegin book draft → RunsOut book start now → IsProper book now.scene → report ≡ now.report → text ≡ text_of book now.scene → ReadsBack text (scene_json book now.scene) → IsRunOf book bounds input report text
+pub run_of : (book : Book) (bounds : Bounds) (input : List ℕ) (json : Json) (draft : Draft) (start now : Shown) (report : Report) (text : List ℕ) → json_of input ≡ Some json → document_from book bounds.indices json ≡ Ok draft → start ≡ opening bounds draft → CanBegin book draft → RunsOut book start now → IsProper book now.scene → report ≡ now.report → text ≡ text_of book now.scene → ReadsBack text (scene_json book now.scene) → IsRunOf book bounds input report text
 run_of book bounds input json draft start now report text reads document opened begins out proper told written back =
-    let ends : RunsOut book (opening bounds.commands draft) now = subst (λ some. RunsOut book some now) opened out in
+    let ends : RunsOut book (opening bounds draft) now = subst (λ some. RunsOut book some now) opened out in
     record {
       draft = draft;
       scene = now.scene;
       document = ap (of_reading book bounds.indices) reads ∙ document;
       begins = begins;
-      ran = subst (λ some. Ran book bounds.commands draft some now.scene) (sym told) (ends.reached, ends.ended);
+      ran = subst (λ some. Ran book bounds draft some now.scene) (sym told) (ends.reached, ends.ended);
       proper = proper;
       written = written;
       reads = back;

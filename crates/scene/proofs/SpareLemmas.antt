@@ -52,22 +52,22 @@ one-none true one other first second = first
 one-none false one other first second = second
 
 -- a command that kills nobody leaves none that is gone
-spared : (command : Command) (scene after : PlainScene) → Spares command → NoneGone scene → apply command scene ≡ changed after → NoneGone after
-spared (spawn parts) scene after spares none made =
-    let makes = spawn-makes parts scene after made in
+spared : (owning : List Name) (command : Command) (scene after : PlainScene) → Spares command → NoneGone scene → apply owning command scene ≡ changed after → NoneGone after
+spared owning (spawn parts) scene after spares none made =
+    let makes = spawn-makes owning parts scene after made in
     subst NoneGone makes.1 (λ id kind. one-none (eqb id scene.next) (under kind parts) (scene.part id kind) (under-none scene.ids kind parts makes.0) (none id kind))
-spared (kill id) scene after spares none made = absurd spares
-spared (put id kind part) scene after spares none made =
+spared owning (kill id) scene after spares none made = absurd spares
+spared owning (put id kind part) scene after spares none made =
     let makes = tested-makes (lives id scene.ids && refs_live scene.ids part) scene _ after made in
     subst NoneGone makes.1 (λ other name. one-none (eqb other id && bytes_eq name kind) (Some part) (scene.part other name) (tested-none scene.ids part.refs (and-second (lives id scene.ids) (refs_live scene.ids part) makes.0)) (none other name))
-spared (take id kind) scene after spares none made =
+spared owning (take id kind) scene after spares none made =
     let makes = tested-makes (lives id scene.ids) scene _ after made in
     subst NoneGone makes.1 (λ other name. one-none (eqb other id && bytes_eq name kind) None (scene.part other name) refl (none other name))
 
 -- so do commands one after another
-pub spares-keep : (commands : List Command) (scene after : PlainScene) (places : List ℕ) → All Spares commands → NoneGone scene → play 1 commands scene ≡ played after places → NoneGone after
-spares-keep commands scene after places spares none led =
-    (play-keeps (λ one other. Unit {0}) (λ s. tt) (λ one two three first second. tt) Spares NoneGone (λ command s t kind good made. (tt, spared command s t kind good made)) 1 commands scene after places spares none led).1
+pub spares-keep : (owning : List Name) (commands : List Command) (scene after : PlainScene) (places : List ℕ) → All Spares commands → NoneGone scene → play owning 1 commands scene ≡ played after places → NoneGone after
+spares-keep owning commands scene after places spares none led =
+    (play-keeps owning (λ one other. Unit {0}) (λ s. tt) (λ one two three first second. tt) Spares NoneGone (λ command s t kind good made. (tt, spared owning command s t kind good made)) 1 commands scene after places spares none led).1
 
 -- a proper scene holds none
 pub proper-none : (book : Book) (scene : PlainScene) → IsProper book scene → NoneGone scene

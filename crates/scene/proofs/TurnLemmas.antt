@@ -5,18 +5,21 @@ use Rattle.std.proofs.lemmas.Option.{MatchOption-at_none, none-some}
 use Rattle.scene_model.specs.declared.refusals.FrameRefusal.{FrameRefusal}
 use Rattle.scene_model.specs.declared.refusals.Report.{Report}
 use Rattle.scene_model.specs.declared.refusals.Skip.{Skip}
+use Rattle.scene_model.specs.Bounds.{FrameLimit}
 use Rattle.scene_model.specs.Rulebook.{Book}
 use Rattle.scene_model.specs.Commands.{skips_of}
 use Rattle.scene_document.specs.Drafts.{Draft}
 use Rattle.scene_document.specs.Openings.{first_scene, frames_of}
 use Rattle.scene_model.specs.Frames.{Accepts, Refuses, Reaches, Ended}
+use Rattle.scene_commands.specs.Bounds.{unlisted_in}
+use Rattle.scene.specs.Limits.{Bounds, limit_of}
 use Rattle.scene.specs.Turns.{Shown, opening, nothing_yet, frames_left, next_frame, SameCourse, Advances, IsRefused, Stays, Going, RunsOut}
 
 -- a scene before any of its frames
 pub going_start : (book : Book) (start : Shown) → start.report ≡ nothing_yet → Going book start start
 going_start book start same = record {
   going = ap (λ report. report.refused) same;
-  reached = subst (λ report. Reaches book start.limit start.frames report.frames start.scene start.scene report.skips) (sym same) (refl, refl);
+  reached = subst (λ report. Reaches book start.limit.commands start.frames report.frames start.scene start.scene report.skips) (sym same) (refl, refl);
   course = record { frames = refl; limit = refl; asked = refl };
   within = let none : start.report.frames ≡ 0 = ap (λ report. report.frames) same in omega (arith, none);
 }
@@ -34,13 +37,13 @@ pub going_on : (book : Book) (start now after : Shown) → Going book start now 
 going_on book start now after going left advances =
     let places : List ℕ = advances.accepted.0 in
     let report : after.report ≡ record { frames = suc now.report.frames; skips = now.report.skips ++ skips_of (suc now.report.frames) places; refused = None } = advances.accepted.2 in
-    let accepted : Accepts book start.limit (start.frames (suc now.report.frames)) now.scene after.scene places =
-    subst (λ limit. Accepts book limit (start.frames (suc now.report.frames)) now.scene after.scene places) going.course.limit
-    (subst (λ frame. Accepts book now.limit frame now.scene after.scene places) (next_by_start start now going.course) advances.accepted.1) in
-    let reached : Reaches book start.limit start.frames (suc now.report.frames) start.scene after.scene (now.report.skips ++ skips_of (suc now.report.frames) places) = (now.scene, now.report.skips, places, going.reached, accepted, refl) in
+    let accepted : Accepts book start.limit.commands (start.frames (suc now.report.frames)) now.scene after.scene places =
+    subst (λ (limit : FrameLimit). Accepts book limit.commands (start.frames (suc now.report.frames)) now.scene after.scene places) going.course.limit
+    (subst (λ frame. Accepts book now.limit.commands frame now.scene after.scene places) (next_by_start start now going.course) advances.accepted.1) in
+    let reached : Reaches book start.limit.commands start.frames (suc now.report.frames) start.scene after.scene (now.report.skips ++ skips_of (suc now.report.frames) places) = (now.scene, now.report.skips, places, going.reached, accepted, refl) in
     record {
       going = ap (λ some. some.refused) report;
-      reached = subst (λ some. Reaches book start.limit start.frames some.frames start.scene after.scene some.skips) (sym report) reached;
+      reached = subst (λ some. Reaches book start.limit.commands start.frames some.frames start.scene after.scene some.skips) (sym report) reached;
       course = then_course going.course advances.course;
       within = let frames : after.report.frames ≡ suc now.report.frames = ap (λ some. some.frames) report in omega (arith, frames, advances.course.asked, left, going.within);
     }
@@ -65,9 +68,16 @@ ended_refused book start now after going left stays =
     subst (λ scene. RunsOut book start (record { scene = scene; frames = after.frames; limit = after.limit; asked = after.asked; report = after.report })) (sym stays.scene)
     (subst (λ some. RunsOut book start (record { scene = now.scene; frames = after.frames; limit = after.limit; asked = after.asked; report = some })) (sym report) (record { reached = going.reached; ended = ended }))
 
+-- a limit of these numbers is that of a document
+abbrev pub limit_with : (commands indices generation unlisted workers : ℕ) → FrameLimit
+limit_with commands indices generation unlisted workers = record { commands = commands; indices = indices; generation = generation; unlisted = unlisted; workers = workers }
+
+pub limit_is : (bounds : Bounds) (draft : Draft) (generation unlisted workers : ℕ) → generation ≡ bounds.generation → unlisted ≡ unlisted_in draft → workers ≡ draft.workers → limit_with bounds.commands bounds.indices generation unlisted workers ≡ limit_of bounds draft
+limit_is bounds draft generation unlisted workers births ids threads = λ i. record { commands = bounds.commands; indices = bounds.indices; generation = births i; unlisted = ids i; workers = threads i }
+
 -- what shows a document's scene and frames before any frame is its opening
-pub is_opening : (limit : ℕ) (draft : Draft) (shown : Shown) → shown.scene ≡ first_scene draft → shown.frames ≡ frames_of draft → shown.limit ≡ limit → shown.asked ≡ draft.frames → shown.report ≡ nothing_yet → shown ≡ opening limit draft
-is_opening limit draft shown scene frames same_limit asked report = λ i. record { scene = scene i; frames = frames i; limit = same_limit i; asked = asked i; report = report i }
+pub is_opening : (bounds : Bounds) (draft : Draft) (shown : Shown) → shown.scene ≡ first_scene draft → shown.frames ≡ frames_of draft → shown.limit ≡ limit_of bounds draft → shown.asked ≡ draft.frames → shown.report ≡ nothing_yet → shown ≡ opening bounds draft
+is_opening bounds draft shown scene frames same_limit asked report = λ i. record { scene = scene i; frames = frames i; limit = same_limit i; asked = asked i; report = report i }
 
 -- a report with no frame and no refusal
 abbrev pub record_of : List Skip → Report

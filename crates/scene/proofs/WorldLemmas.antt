@@ -20,6 +20,8 @@ use Rattle.scene_world.specs.Standing.{Kinds, roll_of, column_in, column_of, pla
 use Rattle.scene_world.specs.Lent.{Place, entities, markers, allocator, parts, value, queue, id_of_place, is_known, same_place, StandApart}
 use Rattle.scene_world.specs.Ages.{Ages}
 use Rattle.scene_world.proofs.CallerLemmas.{same-roll, ages-none, kind-stays, markers-stay as shown-markers}
+use Rattle.scene_commands.specs.Bounds.{GrowsByIds}
+use Rattle.scene_commands.proofs.CallerLemmas.{grows-none}
 use Rattle.scene_commands.specs.Acts.{seen_of, WasBorn, MayAct, StaysElsewhere, GoesOn}
 use Rattle.scene_commands.proofs.CallerLemmas.{sees-now}
 use Rattle.scene.specs.Waiting.{PlacesAscend, IsNoQueue, StaysBeside, StaysApart, NoneWaitsAt}
@@ -56,7 +58,7 @@ module _ {V : Type 0} (kinds : Kinds V) (apart : StandApart kinds) where
     value-stays : (name : Name) → is_among name kinds.global_names ≡ true → seen_of later (kinds.global_id name) ≡ seen_of w (kinds.global_id name)
     value-stays name known = beside (kinds.global_id name) (no-queue (value name) known (λ position. refl) places)
 
-    roll-stays : roll_of kinds (seen_of later) ≡ roll_of kinds (seen_of w)
+    pub roll-stays : roll_of kinds (seen_of later) ≡ roll_of kinds (seen_of w)
     roll-stays = same-roll kinds (seen_of later) (seen_of w) entities-stay markers-stay allocator-stays
 
     column-stays : (kind : Name) → is_among kind kinds.part_names ≡ true → column_of kinds (seen_of later) kind ≡ column_of kinds (seen_of w) kind
@@ -88,6 +90,7 @@ module _ {V : Type 0} (kinds : Kinds V) (apart : StandApart kinds) where
         markers = shown-markers kinds (seen_of w) (seen_of later) markers-stay;
       };
       ages = subst (λ roll. Ages (roll_of kinds (seen_of w)) roll) (sym roll-stays) (ages-none (roll_of kinds (seen_of w)));
+      grows = subst (λ roll. GrowsByIds (roll_of kinds (seen_of w)) roll) (sym roll-stays) (grows-none (roll_of kinds (seen_of w)).births (roll_of kinds (seen_of w)).noting.next);
     }
 
     -- and commands may be carried out there as before

@@ -1,5 +1,5 @@
 -- What becomes of rows that are kept, and of the entries at indices that are touched; no public clause cites this.
-use Rattle.std.specs.Prelude.{◌≡◌, ◌<◌, ℕ, Bool, true, List, length, map, Option, None, Some, slice_get, if◌then◌else◌}
+use Rattle.std.specs.Prelude.{◌≡◌, ◌<◌, ◌⊎◌, ℕ, Bool, true, List, length, map, Option, None, Some, slice_get, if◌then◌else◌}
 use Rattle.std.specs.List.{All}
 use Rattle.hibitset_sets.specs.Walk.{walk}
 use Rattle.scene_model.specs.Parts.{Name, Part, name_at}
@@ -8,7 +8,8 @@ use Rattle.scene_world.specs.Standing.{Sight, Kinds}
 use Rattle.scene_commands.specs.declared.watching.Watcher.{Watcher}
 use Rattle.scene_snapshot.specs.Rows.{seat_at}
 use Rattle.scene_snapshot.specs.declared.kept.KeptScene.{KeptScene}
-use Rattle.scene.specs.Keeping.{watcher_at, part_told}
+use Rattle.scene_commands.specs.Watching.{watcher_at}
+use Rattle.scene.specs.Keeping.{part_told}
 use Rattle.scene.specs.Taken.{IsAmong, is_one_of, behind_themselves, with_last, AreOfPairs}
 use Rattle.scene.specs.declared.changes.RowChange.{RowChange}
 
@@ -28,6 +29,11 @@ module _ {V : Type 0} (kinds : Kinds V) (w : Sight V) where
   -- each index of which a reader of the first of some kinds is told is touched
   abbrev pub AreTouched : List Name → List Watcher → ℕ → (ℕ → Bool) → Type 0
   AreTouched names watchers count touched = (place : ℕ) → place < count → (index : ℕ) → part_told kinds w (name_at names place) (watcher_at watchers place).frame index ≡ true → touched index ≡ true
+
+  -- and what is touched more than before is told by such a reader
+  abbrev pub OnlyTouched : List Name → List Watcher → ℕ → (ℕ → Bool) → (ℕ → Bool) → Type 0
+  OnlyTouched names watchers count before after = (index : ℕ) → after index ≡ true
+      → (before index ≡ true) ⊎ ((place : ℕ) × (place < count) × (part_told kinds w (name_at names place) (watcher_at watchers place).frame index ≡ true))
 
 -- the data of a change stand at its indices, which are below a number
 pub record IsSound {D : Type 0} (count : ℕ) (change : RowChange D) : Type 0 where

@@ -16,7 +16,7 @@ use Rattle.scene_world.specs.declared.value.SceneValue as values
 use Rattle.scene_dispatch.specs.Orders.{turn_order}
 use Rattle.scene.specs.Coming.{HaveCome}
 use Rattle.scene.specs.Turns.{Shown}
-use Rattle.scene.specs.Running.{shown_of, listed_scene, IsReady, IsUnderWay, MayBegin, HasRunOut, IsOpened, IsOpenedFrom, IsPlaced, IsPrepared}
+use Rattle.scene.specs.Running.{shown_of, listed_scene, CountsTouched, IsReady, IsUnderWay, MayBegin, HasRunOut, IsOpened, IsOpenedFrom, IsPlaced, IsPrepared}
 use Rattle.scene.specs.declared.frame.Scene.{Scene}
 use Rattle.scene.specs.declared.load.Opened.{Opened}
 use Rattle.scene.specs.declared.load.Prepared.{Prepared}
@@ -38,6 +38,10 @@ module _ {R V D G S : Type 0} (rules : Members R V D G S) where
     -- what is shown of a scene
     abbrev pub shown_by : Scene R V D G S → Shown
     shown_by = shown_of (kinds_by rules held) rules.part_of rules.global_of (placed_by rules) rules.book
+
+    -- the changes that a frame makes are those at the indices that were touched
+    abbrev pub CountsTouchedBy : (old new : Scene R V D G S) → Type 0
+    CountsTouchedBy = CountsTouched (kinds_by rules held)
 
     -- a scene is ready for its next frame
     abbrev pub IsReadyBy : Scene R V D G S → Type 0

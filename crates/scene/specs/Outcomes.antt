@@ -7,7 +7,6 @@ use Rattle.scene_model.specs.declared.refusals.DocRefusal.{DocRefusal}
 use Rattle.scene_model.specs.declared.refusals.Report.{Report}
 use Rattle.scene_document.specs.declared.loaded.LoadError.{LoadError}
 use Rattle.scene_document.specs.declared.loaded.LoadError.TheVariants.{Document, Memory}
-use Rattle.scene_document.specs.declared.loaded.Limits.{Limits}
 use Rattle.scene.specs.declared.runner.RunError.{RunError}
 use Rattle.scene.specs.declared.runner.RunError.TheVariants as run
 use Rattle.scene_model.specs.Rulebook.{Book}
@@ -15,19 +14,8 @@ use Rattle.scene_model.specs.Scenes.{PlainScene, IsProper}
 use Rattle.scene_document.specs.Drafts.{Draft}
 use Rattle.scene_document.specs.Documents.{document_of}
 use Rattle.scene_document.specs.Texts.{scene_json, text_of, ReadsBack}
+pub use Rattle.scene.specs.Limits.{Bounds, bounds_of, full_bounds}
 use Rattle.scene.specs.Runs.{CanBegin, Ran}
-
--- the limits that a run is under: how many entities a document may list, and how many commands a frame may have
-pub record Bounds : Type 0 where
-  pub indices : ℕ
-  pub commands : ℕ
-
--- those of limits of the code, and the greatest ones
-abbrev pub bounds_of : Limits → Bounds
-bounds_of limits = record { indices = limits.indices; commands = limits.commands }
-
-abbrev pub full_bounds : Bounds
-full_bounds = record { indices = 16777216; commands = 1048576 }
 
 -- a text is that of a scene which the frames of the document in these bytes reach, with this report; the document can begin, the
 -- scene is proper, and the text reads as its JSON, and as no other
@@ -36,7 +24,7 @@ pub record IsRunOf (book : Book) (bounds : Bounds) (input : List ℕ) (report : 
   pub scene : PlainScene
   pub document : document_of book bounds.indices input ≡ Ok draft
   pub begins : CanBegin book draft
-  pub ran : Ran book bounds.commands draft report scene
+  pub ran : Ran book bounds draft report scene
   pub proper : IsProper book scene
   pub written : text ≡ text_of book scene
   pub reads : ReadsBack text (scene_json book scene)

@@ -1,5 +1,5 @@
 -- What a scene is that runs in a world of entities: what is shown of it, and when it is ready for its next frame.
-use Rattle.std.specs.Prelude.{◌≡◌, ℕ, List, [], codes, min, Result, Ok, Some, None, Option, All, slice_get}
+use Rattle.std.specs.Prelude.{◌≡◌, ◌≤◌, ◌+◌, ◌*◌, ℕ, List, [], codes, min, Result, Ok, Some, None, Option, All, slice_get}
 use Rattle.std.specs.Global.{Vec}
 use Rattle.serde_json.specs.View.{view}
 use Rattle.shred_world.specs.Worlds.{Slots}
@@ -9,6 +9,8 @@ use Rattle.shred.specs.Dispatching.{Dispatching}
 use Rattle.scene_model.specs.declared.command.Command.{Command}
 use Rattle.scene_model.specs.declared.refusals.FrameRefusal.{FrameRefusal}
 use Rattle.scene_model.specs.declared.store.Store.TheVariants as stores
+use Rattle.scene_model.specs.Bounds.{FrameLimit}
+use Rattle.scene_model.specs.Stores.{store_named}
 use Rattle.scene_model.specs.Parts.{Json, Name, Part}
 use Rattle.scene_model.specs.Rulebook.{Access, Book}
 use Rattle.scene_model.specs.Scenes.{PlainScene, PlainSystem, PlainFrame, IsProper, IsDescribed}
@@ -32,8 +34,11 @@ use Rattle.scene_dispatch.specs.Orders.{turn_order}
 use Rattle.scene_dispatch.specs.Frames.{AreReady}
 use Rattle.scene_commands.specs.Acts.{seen_of}
 use Rattle.scene.specs.Waiting.{AreTheirPlaces, NoneWaits}
-use Rattle.scene.specs.Coming.{HaveCome}
-use Rattle.scene.specs.Keeping.{IsKept, IsKeptSince}
+use Rattle.scene.specs.Coming.{HaveCome, IsUnder, StaysUnder}
+use Rattle.scene.specs.Limits.{bounds_of, limit_of}
+use Rattle.scene_commands.specs.Bounds.{unlisted_in}
+use Rattle.scene_commands.specs.declared.watching.ReaderTurn.TheVariants.{Next}
+use Rattle.scene.specs.Keeping.{IsKept, IsKeptSince, touched_in, changes_at}
 use Rattle.scene.specs.Runs.{CanBegin}
 use Rattle.scene.specs.Turns.{Shown, opening, nothing_yet, Going, RunsOut}
 use Rattle.scene.specs.declared.frame.Scene.{Scene}
@@ -97,7 +102,8 @@ pub record Stands {V P : Type 0} (kinds : Kinds V) (meaning : Meaning P) (book :
   pub places : AreTheirPlaces at_places (turn_order meaning.plain systems)
   pub same : plain_of kinds (seen_of w) ≡ scene
 
--- a document is ready to be put into a world: its scene alone is at hand, and its systems and their places are those of its frames
+-- a document is ready to be put into a world: its scene alone is at hand, its systems and their places are those of its frames, and its
+-- workers and its store are as it says
 pub record IsPrepared {R V D G S : Type 0} (part_of : D → Part) (global_of : G → Json) (kind_of : S → Name) (config_of : S → Json) (meaning : Meaning (Placed R V D G S)) (book : Book) (limits : Limits) (json : Json) (prepared : Prepared R V D G S) : Type 0 where
   pub draft : Draft
   pub is : document_from book limits.indices json ≡ Ok draft
@@ -109,9 +115,11 @@ pub record IsPrepared {R V D G S : Type 0} (part_of : D → Part) (global_of : G
   pub locals : All (IsOfBook meaning book) prepared.course.dispatcher.locals
   pub asked : prepared.course.asked ≡ draft.frames
   pub described : (number : ℕ) → All (IsDescribed book) (frames_of draft number).order
+  pub workers : prepared.course.dispatcher.workers ≡ draft.workers
+  pub store : store_named draft.store ≡ Some prepared.store
 
 -- a document stands in a world, before anything is kept of its scene: no command waits there, its systems and their places are those of its
--- frames, and it can begin
+-- frames, it can begin, and its entities and workers are as it and the limits say
 pub record IsPlaced {R V D G S : Type 0} (kinds : Kinds V) (part_of : D → Part) (meaning : Meaning (Placed R V D G S)) (book : Book) (limits : Limits) (json : Json) (opened : Opened R V D G S) : Type 0 where
   pub draft : Draft
   pub is : document_from book limits.indices json ≡ Ok draft
@@ -125,14 +133,40 @@ pub record IsPlaced {R V D G S : Type 0} (kinds : Kinds V) (part_of : D → Part
   pub locals : All (IsOfBook meaning book) opened.course.dispatcher.locals
   pub asked : opened.course.asked ≡ draft.frames
   pub begins : CanBegin book draft
+  pub under : IsUnder kinds (limit_of (bounds_of limits) draft) opened.world
+  pub unlisted : opened.unlisted ≡ unlisted_in draft
+  pub workers : opened.course.dispatcher.workers ≡ draft.workers
 
 -- the rules that a scene runs under
 abbrev pub rules_of : {R V D G S : Type 0} → Scene R V D G S → R
 rules_of scene = scene.rules
 
+-- how many entries of what is kept have left and entered
+abbrev pub changes_of : {R V D G S : Type 0} → Scene R V D G S → ℕ
+changes_of scene = scene.kept.changes
+
 -- how many workers a crew has that stands by for a scene's frames
 abbrev pub crew_of : {R V D G S : Type 0} → Scene R V D G S → ℕ
 crew_of scene = min scene.dispatcher.workers (most_worth scene.dispatcher.staging.planning.stages)
+
+-- what bounds the frames of a scene
+abbrev pub limit_in : {R V D G S : Type 0} → Scene R V D G S → FrameLimit
+limit_in scene = record {
+  commands = scene.limit.commands;
+  indices = scene.limit.indices;
+  generation = scene.limit.generation;
+  unlisted = scene.limit.unlisted;
+  workers = scene.dispatcher.workers;
+}
+
+module _ {R V D G S : Type 0} (kinds : Kinds V) where
+  -- the indices that were touched, as those readers tell them who read as the next frame begins
+  abbrev pub touched_of : Scene R V D G S → List ℕ
+  touched_of scene = touched_in kinds Next kinds.part_names scene.watchers (seen_of scene.world)
+
+  -- for each index that was touched an entry left if it bore one, and one entered if it bears one now, and no other change was made
+  abbrev pub CountsTouched : (old new : Scene R V D G S) → Type 0
+  CountsTouched old new = changes_of new ≡ changes_of old + changes_at (touched_of new) old.kept new.kept
 
 module _ {R V D G S : Type 0} (kinds : Kinds V) (part_of : D → Part) (global_of : G → Json) (meaning : Meaning (Placed R V D G S)) (book_of : R → Book) where
   -- what is shown of a scene: what is kept of the last accepted one, and its frames
@@ -140,18 +174,21 @@ module _ {R V D G S : Type 0} (kinds : Kinds V) (part_of : D → Part) (global_o
   shown_of scene = record {
     scene = listed_scene part_of global_of (book_of scene.rules) scene.kept;
     frames = course_of part_of (turn_order meaning.plain scene.dispatcher) scene.commands.items;
-    limit = scene.limit;
+    limit = limit_in scene;
     asked = scene.asked;
     report = scene.report;
   }
 
-  -- a scene is ready: unless a frame was refused, it stands in its world, of which what is kept is the full save; it is proper, and the commands of its frames are ones that the
-  -- rules know; every scene that was loaded is, and stays so
+  -- a scene is ready: unless a frame was refused, it stands in its world, of which what is kept is the full save, and whose entities are
+  -- under the scene's limit; it is proper, and the commands of its frames are ones that the rules know, and no more changes were counted
+  -- than its frames can make; every scene that was loaded is, and stays so
   pub record IsReady (scene : Scene R V D G S) : Type 0 where
     pub stands : scene.report.refused ≡ None → Stands kinds meaning (book_of scene.rules) scene.dispatcher scene.world scene.places.items (listed_scene part_of global_of (book_of scene.rules) scene.kept)
     pub kept : scene.report.refused ≡ None → IsKept kinds part_of (book_of scene.rules) scene.watchers scene.kept (seen_of scene.world)
+    pub under : scene.report.refused ≡ None → IsUnder kinds (limit_in scene) scene.world
     pub lawful : (number : ℕ) → All (IsLawful (book_of scene.rules)) (commands_at part_of scene.commands.items number)
     pub proper : IsProper (book_of scene.rules) (listed_scene part_of global_of (book_of scene.rules) scene.kept)
+    pub few : changes_of scene ≤ 33554432 * (scene.report.frames + 1)
 
   -- the systems of a scene's next frame have come to an outcome, and nothing else of the frame was done since what is kept was the full save of
   -- its world
@@ -159,9 +196,11 @@ module _ {R V D G S : Type 0} (kinds : Kinds V) (part_of : D → Part) (global_o
     pub going : scene.report.refused ≡ None
     pub come : HaveCome kinds meaning (book_of scene.rules) scene.dispatcher scene.world (listed_scene part_of global_of (book_of scene.rules) scene.kept) outcome
     pub since : IsKeptSince kinds part_of (book_of scene.rules) scene.watchers scene.kept scene.world outcome
+    pub under : StaysUnder kinds (limit_in scene) scene.world outcome
     pub places : AreTheirPlaces scene.places.items (turn_order meaning.plain scene.dispatcher)
     pub lawful : (number : ℕ) → All (IsLawful (book_of scene.rules)) (commands_at part_of scene.commands.items number)
     pub proper : IsProper (book_of scene.rules) (listed_scene part_of global_of (book_of scene.rules) scene.kept)
+    pub few : changes_of scene ≤ 33554432 * (scene.report.frames + 1)
 
   -- a scene is ready, and none of its frames has run
   pub record MayBegin (scene : Scene R V D G S) : Type 0 where
@@ -184,7 +223,7 @@ module _ {R V D G S : Type 0} (kinds : Kinds V) (part_of : D → Part) (global_o
   pub record IsOpened (rules : R) (limits : Limits) (json : Json) (scene : Scene R V D G S) : Type 0 where
     pub same_rules : rules_of scene ≡ rules
     pub ready : IsReady scene
-    pub document : (draft : Draft) × (document_from (book_of rules) limits.indices json ≡ Ok draft) × (shown_of scene ≡ opening limits.commands draft) × CanBegin (book_of rules) draft
+    pub document : (draft : Draft) × (document_from (book_of rules) limits.indices json ≡ Ok draft) × (shown_of scene ≡ opening (bounds_of limits) draft) × CanBegin (book_of rules) draft
 
   -- a scene was opened from bytes: they read as a JSON, and it was opened from that
   abbrev pub IsOpenedFrom : R → Limits → List ℕ → Scene R V D G S → Type 0

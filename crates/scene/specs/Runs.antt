@@ -7,6 +7,7 @@ use Rattle.scene_model.specs.Lawful.{IsLawful}
 use Rattle.scene_document.specs.Drafts.{Draft}
 use Rattle.scene_document.specs.Openings.{first_scene, frames_of}
 use Rattle.scene_model.specs.Frames.{Reaches, Ended}
+use Rattle.scene.specs.Limits.{Bounds, limit_of}
 
 -- a document can begin: the scene that it gives is proper, its parts stand under the rules' kinds, and in each frame the systems are
 -- as the rules describe them, and the document's commands are ones that they know
@@ -16,6 +17,6 @@ pub record CanBegin (book : Book) (draft : Draft) : Type 0 where
   pub described : (number : ℕ) → All (IsDescribed book) (frames_of draft number).order
   pub lawful : (number : ℕ) → All (IsLawful book) (frames_of draft number).commands
 
--- a document's frames reach a scene, with this report, where a frame may have so many commands
-abbrev pub Ran : Book → ℕ → Draft → Report → PlainScene → Type 0
-Ran book limit draft report scene = Reaches book limit (frames_of draft) report.frames (first_scene draft) scene report.skips × Ended book limit (frames_of draft) draft.frames report scene
+-- a document's frames reach a scene, with this report, under these bounds
+abbrev pub Ran : Book → Bounds → Draft → Report → PlainScene → Type 0
+Ran book bounds draft report scene = Reaches book bounds.commands (frames_of draft) report.frames (first_scene draft) scene report.skips × Ended book (limit_of bounds draft) (frames_of draft) draft.frames report scene

@@ -1,5 +1,5 @@
 -- What is taken off a world to be kept; no public clause cites this.
-use Rattle.std.specs.Prelude.{◌≡◌, ◌<◌, ℕ, Bool, true, List, [], ◌∷◌, map, Option, None, Some, IsSome, option_map, ◌==◌, if◌then◌else◌}
+use Rattle.std.specs.Prelude.{◌≡◌, ◌<◌, ◌≤◌, ℕ, Bool, true, List, [], ◌∷◌, length, map, Option, None, Some, IsSome, option_map, ◌==◌, if◌then◌else◌}
 use Rattle.std.specs.List.{All, list_any, filter_map}
 use Rattle.specs_entity.specs.Life.{LifeAt}
 use Rattle.specs_layouts.specs.Flagged.{Flagged}
@@ -43,12 +43,14 @@ pub record AreMarkersOf (markers : Masked (Flagged (VecStorage ℕ))) (pairs : L
   pub each : All (λ pair. marker_at markers pair.1 ≡ Some pair.0) pairs
   pub below : All (λ pair. pair.1 < 16777216) pairs
   pub all : (index : ℕ) → IsSome (marker_at markers index) → IsAmong (map (λ pair. pair.1) pairs) index
+  pub few : length pairs ≤ 16777216
 
 -- these are the ids of those who live, each before the index of its entity
 pub record ArePairs (roll : Roll) (pairs : List (ℕ × ℕ)) : Type 0 where
   pub each : All (λ pair. id_at roll pair.1 ≡ Some pair.0) pairs
   pub below : All (λ pair. pair.1 < 16777216) pairs
   pub all : (index : ℕ) → IsSome (id_at roll index) → IsAmong (map (λ pair. pair.1) pairs) index
+  pub few : length pairs ≤ 16777216
 
 -- what stands behind a number in a list, the last of several, or what stood there before
 abbrev pub with_last : {X : Type 0} → List (ℕ × X) → (ℕ → Option X) → ℕ → Option X

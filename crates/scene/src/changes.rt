@@ -1,5 +1,6 @@
 //! What is kept of a world is changed where the readers of its events tell of changes, and nowhere else.
-ghost use Rattle.std.specs.Prelude.{◌≡◌, ◌≢◌, ◌<◌, ℕ, true, length, map, Some, None, All, IfOk, OnOk, OnErr, IsSome, if◌then◌else◌, slice_get};
+ghost use Rattle.std.specs.Prelude.{◌≡◌, ◌≢◌, ◌<◌, ◌||◌, ℕ, true, length, map, count_by, Some, None, is_some, All, AllPairs};
+ghost use Rattle.std.specs.Prelude.{IfOk, OnOk, OnErr, IsSome, if◌then◌else◌, slice_get};
 ghost use Rattle.hibitset_sets.specs.BitSet.{has_member};
 ghost use Rattle.hibitset_sets.specs.Walk.{walk};
 ghost use Rattle.scene_model.specs.Declaring.{texts};
@@ -12,8 +13,10 @@ ghost use Rattle.scene_commands.specs.Acts.{seen_of};
 ghost use Rattle.scene_commands.specs.Members.{scene_in};
 ghost use Rattle.scene_snapshot.specs.KeptScenes.{kept_scene};
 ghost use Rattle.scene_snapshot.specs.Rows.{seat_at, datum_at, kinds_kept, HasRoom, SameCourse};
-ghost use Rattle.scene.specs.Keeping.{IsBelow, part_told, AreToldSince, IsFullByIndex, SameEntries};
-ghost use Rattle.scene.specs.Changes.{IsChange, AreChanges, AreTouched, IsSound, AreFree, row_after};
+ghost use Rattle.scene_commands.specs.declared.watching.ReaderTurn.TheVariants.{Frame};
+ghost use Rattle.scene.specs.Keeping.{IsBelow, part_told, touched_in, AreToldSince, IsFullByIndex, SameEntries};
+ghost use Rattle.scene.specs.Keeping.{CountsMore, changes_at};
+ghost use Rattle.scene.specs.Changes.{IsChange, AreChanges, AreTouched, OnlyTouched, IsSound, AreFree, row_after};
 ghost use Rattle.scene.specs.Taken.{is_one_of, behind_themselves, marks_at};
 
 use crate::keeping::{enter_all, read_row, room_for, write_found};
@@ -36,11 +39,20 @@ pub(crate) struct RowChange<D> {
     found: Vec<(u64, Option<D>)>,
 }
 
+/// How many members a set has, for the room that a list of them takes.
+fn members_of(set: &BitSet) -> usize {
+    let mut count = 0usize;
+    for word in set.layer0_as_slice() {
+        count = count.saturating_add(word.count_ones() as usize);
+    }
+    count
+}
+
 /// The members of a set, each behind itself, ascending. Errors: want of memory.
 fn indices_of_set(set: &BitSet, alloc: Global) -> Result<Vec<(u64, u32)>, AllocError>
     ensures { IfOk result (λ indices. indices.items ≡ behind_themselves (walk (has_member set.now))) }
 {
-    let mut indices = Vec::new(alloc);
+    let mut indices = Vec::with_capacity(alloc, members_of(set))?;
     for index in set.iter() {
         indices.push((u64::from(index), index))?;
     }
@@ -101,6 +113,8 @@ fn change_of_kind<R: Rules>(
         → has_member touched.new index ≡ true) }
     ensures told { OnOk result ((index : ℕ) → part_told (kinds_by R.Rules R.Value.SceneValue) (seen_of world.now)
         kind.now reader.now index ≡ true → has_member touched.new index ≡ true) }
+    ensures only { OnOk result ((index : ℕ) → has_member touched.new index ≡ true → (has_member touched.old index
+        || part_told (kinds_by R.Rules R.Value.SceneValue) (seen_of world.now) kind.now reader.now index) ≡ true) }
 {
     let told = told_of_kind::<R>(world, kind, reader, alloc)?;
     touched.bitor_assign(&told)?;
@@ -132,6 +146,8 @@ fn changes_of_kinds<R: Rules>(
         → has_member touched.new index ≡ true) }
     ensures told { OnOk result (AreTouched (kinds_by R.Rules R.Value.SceneValue) (seen_of world.now)
         (texts names.now) watchers.now (length names.now) (has_member touched.new)) }
+    ensures only { OnOk result (OnlyTouched (kinds_by R.Rules R.Value.SceneValue) (seen_of world.now)
+        (texts names.now) watchers.now (length names.now) (has_member touched.old) (has_member touched.new)) }
 {
     let mut changes = Vec::new(alloc);
     for place in 0..names.len() {
@@ -167,13 +183,16 @@ fn entries_at(
     Ok(entries)
 }
 
-/// Takes out what these indices bear.
+/// Takes out what these indices bear, which ascend.
 fn leave_all<D: Drop, G>(touched: &[(u64, u32)], kept: &mut KeptScene<D, G>)
+    requires ascend { AllPairs (λ one other. one.1 < other.1) touched.now }
     ensures seats { (index : ℕ) → seat_at kept.new index ≡ (if is_one_of (map (λ pair. pair.1) touched.now) index
         then None else seat_at kept.old index) }
     ensures rows { (place index : ℕ) → datum_at kept.new place index ≡ datum_at kept.old place index }
     ensures course { SameCourse kept.old kept.new }
     ensures room { (count : ℕ) → HasRoom count kept.old → HasRoom count kept.new }
+    ensures changes { CountsMore kept.old.changes (count_by (λ pair. is_some (seat_at kept.old pair.1)) touched.now)
+        kept.new.changes }
 {
     for pair in touched {
         let _ = kept.leave_out(pair.1 as usize);
@@ -197,6 +216,7 @@ fn clear_row<D: Drop, G>(
     ensures seats { (index : ℕ) → seat_at kept.new index ≡ seat_at kept.old index }
     ensures room { HasRoom count kept.new }
     ensures course { SameCourse kept.old kept.new }
+    ensures changes { kept.new.changes ≡ kept.old.changes }
 {
     for pair in indices {
         kept.write(place, pair.1 as usize, None);
@@ -220,6 +240,7 @@ fn change_row<D: Drop, G>(
     ensures seats { (index : ℕ) → seat_at kept.new index ≡ seat_at kept.old index }
     ensures room { HasRoom count kept.new }
     ensures course { SameCourse kept.old kept.new }
+    ensures changes { kept.new.changes ≡ kept.old.changes }
 {
     let RowChange { indices, found } = change;
     clear_row(indices.as_slice(), place, count, kept);
@@ -237,6 +258,7 @@ fn change_rows<D: Drop, G>(mut changes: Vec<RowChange<D>>, count: usize, kept: &
     ensures seats { (index : ℕ) → seat_at kept.new index ≡ seat_at kept.old index }
     ensures room { HasRoom count kept.new }
     ensures course { SameCourse kept.old kept.new }
+    ensures changes { kept.new.changes ≡ kept.old.changes }
 {
     while let Some(change) = changes.pop() {
         change_row(change, changes.len(), count, kept);
@@ -269,6 +291,9 @@ pub(crate) fn keep_changes<R: Rules>(
     ensures full { OnOk result (IsFullByIndex (kinds_by R.Rules R.Value.SceneValue) R.part_of R.columns.part_names
         kept.new (seen_of world.now)) }
     ensures below { OnOk result (IsBelow (kinds_by R.Rules R.Value.SceneValue) (seen_of world.now)) }
+    ensures changes { OnOk result (CountsMore kept.old.changes (changes_at
+        (touched_in (kinds_by R.Rules R.Value.SceneValue) Frame R.columns.part_names watchers.now (seen_of world.now))
+        kept.old kept.new) kept.new.changes) }
     ensures refused { OnErr result (SameEntries kept.old kept.new) }
 {
     let globals = globals_in::<R>(world, rules.global_names(), alloc)?;

@@ -7,9 +7,10 @@ ghost use Rattle.scene_model.specs.Lawful.{IsLawful};
 ghost use Rattle.scene_model.specs.Leads.{RunsTo};
 ghost use Rattle.scene_model.specs.Commands.{CommandsAccepted, first_gone, skips_of};
 ghost use Rattle.scene_model.specs.Queues.{plain_commands, waiting};
-ghost use Rattle.scene_world.specs.Standing.{commands_of};
+ghost use Rattle.scene_world.specs.Standing.{commands_of, owning_in, roll_of};
 ghost use Rattle.scene_world.specs.Members.{kinds_by};
 ghost use Rattle.scene_commands.specs.Acts.{seen_of, MayAct, StaysElsewhere, GoesOn};
+ghost use Rattle.scene_commands.specs.Links.{Covers};
 ghost use Rattle.scene_commands.specs.Lists.{RefusesActs};
 ghost use Rattle.scene_commands.specs.Members.{scene_in};
 ghost use Rattle.scene.specs.Waiting.{given_and_waiting, waiting_in, PlacesAscend, NoneWaitsAt, StaysApart};
@@ -17,7 +18,7 @@ ghost use Rattle.scene.specs.Sparing.{AsksNoDeath, NoneGone};
 ghost use Rattle.scene.specs.Refusals.{CommandsRefusedIn, GoneIn, RefusesAll};
 
 use crate::queues::{put_queues, take_queues};
-use scene_commands::{act_all, find_gone};
+use scene_commands::{Holders, act_all, find_gone};
 use scene_model::{Command, DocumentRules, FrameRefusal, Queue, Skip};
 use scene_world::Rules;
 use shred_world::World;
@@ -74,6 +75,7 @@ fn count_of<D: Drop>(commands: &[Command<D>]) -> u32
 fn act_queues<R: Rules>(
     rules: &R,
     world: &mut World<R::Value>,
+    holders: &mut Holders,
     frame: u32,
     earlier: u32,
     queues: &[Queue<R::Data>],
@@ -84,8 +86,9 @@ fn act_queues<R: Rules>(
     requires lawful { All (λ queue. All (IsLawful (R.book rules.now)) (plain_commands R.part_of (waiting queue)))
         queues.now }
     requires room { earlier + length (waiting_in R.part_of queues.now) ≤ 4294967295 }
-    ensures ran { OnOk result (RunsTo frame (earlier + 1) (waiting_in R.part_of queues.now)
-        (scene_in R.Rules R.Value.SceneValue world.old)
+    requires covers { Covers (kinds_by R.Rules R.Value.SceneValue) holders.old world.old }
+    ensures ran { OnOk result (RunsTo (owning_in (kinds_by R.Rules R.Value.SceneValue)) frame (earlier + 1)
+        (waiting_in R.part_of queues.now) (scene_in R.Rules R.Value.SceneValue world.old)
         (scene_in R.Rules R.Value.SceneValue world.new) skips.old.items skips.new.items) }
     ensures may { OnOk result (MayAct (kinds_by R.Rules R.Value.SceneValue) world.new) }
     ensures elsewhere { OnOk result (StaysElsewhere (kinds_by R.Rules R.Value.SceneValue) world.old world.new) }
@@ -96,7 +99,16 @@ fn act_queues<R: Rules>(
 {
     let mut place = earlier;
     for queue in queues {
-        act_all(rules, world, frame, place, queue.as_slice(), skips, alloc)?;
+        act_all(
+            rules,
+            world,
+            holders,
+            frame,
+            place,
+            queue.as_slice(),
+            skips,
+            alloc,
+        )?;
         place = behind(place, queue);
     }
     Ok(())
@@ -117,8 +129,9 @@ fn act_both<R: Rules>(
     requires lawful { All (λ queue. All (IsLawful (R.book rules.now)) (plain_commands R.part_of (waiting queue)))
         queues.now }
     requires room { length given.now + length (waiting_in R.part_of queues.now) ≤ 4294967295 }
-    ensures ran { OnOk result (RunsTo frame 1 (plain_commands R.part_of given.now
-        ++ waiting_in R.part_of queues.now) (scene_in R.Rules R.Value.SceneValue world.old)
+    ensures ran { OnOk result (RunsTo (owning_in (kinds_by R.Rules R.Value.SceneValue)) frame 1
+        (plain_commands R.part_of given.now ++ waiting_in R.part_of queues.now)
+        (scene_in R.Rules R.Value.SceneValue world.old)
         (scene_in R.Rules R.Value.SceneValue world.new) skips.old.items skips.new.items) }
     ensures may { OnOk result (MayAct (kinds_by R.Rules R.Value.SceneValue) world.new) }
     ensures elsewhere { OnOk result (StaysElsewhere (kinds_by R.Rules R.Value.SceneValue) world.old world.new) }
@@ -127,9 +140,19 @@ fn act_both<R: Rules>(
         (plain_commands R.part_of given.now ++ waiting_in R.part_of queues.now) world.old) }
     ensures kept { (more : List Skip) × (skips.new.items ≡ skips.old.items ++ more) }
 {
-    act_all(rules, world, frame, 0, given, skips, alloc)?;
+    let mut holders = Holders::new(alloc);
+    act_all(rules, world, &mut holders, frame, 0, given, skips, alloc)?;
     let earlier = count_of(given);
-    act_queues(rules, world, frame, earlier, queues, skips, alloc)
+    act_queues(
+        rules,
+        world,
+        &mut holders,
+        frame,
+        earlier,
+        queues,
+        skips,
+        alloc,
+    )
 }
 
 /// Whether one of some commands is to kill somebody.
@@ -213,8 +236,9 @@ where
     requires lawful { All (λ queue. All (IsLawful (R.book rules.now)) (plain_commands R.part_of (waiting queue)))
         queues.items }
     requires room { length input.now.given.now + length (waiting_in R.part_of queues.items) ≤ 4294967295 }
-    ensures ran { OnOk result (RunsTo input.now.number 1 (plain_commands R.part_of input.now.given.now
-        ++ waiting_in R.part_of queues.items) (scene_in R.Rules R.Value.SceneValue world.old)
+    ensures ran { OnOk result (RunsTo (owning_in (kinds_by R.Rules R.Value.SceneValue)) input.now.number 1
+        (plain_commands R.part_of input.now.given.now ++ waiting_in R.part_of queues.items)
+        (scene_in R.Rules R.Value.SceneValue world.old)
         (scene_in R.Rules R.Value.SceneValue world.new) skips.old.items skips.new.items) }
     ensures may { OnOk result (MayAct (kinds_by R.Rules R.Value.SceneValue) world.new) }
     ensures none_gone { OnOk result
@@ -281,7 +305,7 @@ where
         (StaysApart (kinds_by R.Rules R.Value.SceneValue) input.now.places.now world.old world.new) }
     ensures goes_on { OnOk result (GoesOn (kinds_by R.Rules R.Value.SceneValue) world.old world.new) }
     ensures refused { IfErr result (CommandsRefusedIn (kinds_by R.Rules R.Value.SceneValue) (R.book rules.now)
-        input.now.limit (given_and_waiting (kinds_by R.Rules R.Value.SceneValue) R.part_of input.now
+        input.now.limit (roll_of (kinds_by R.Rules R.Value.SceneValue) (seen_of world.old)) (given_and_waiting (kinds_by R.Rules R.Value.SceneValue) R.part_of input.now
         (seen_of world.old)) (scene_in R.Rules R.Value.SceneValue world.old)) }
     ensures skips { OnErr result (skips.new.items ≡ skips.old.items) }
 {

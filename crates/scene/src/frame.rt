@@ -1,11 +1,12 @@
 //! A scene that runs frame by frame in a world of entities.
-ghost use Rattle.std.specs.Prelude.{◌≡◌, ◌<◌, is_some, OnOk, OnErr, IfOk, MatchResult};
+ghost use Rattle.std.specs.Prelude.{◌≡◌, ◌<◌, true, None, is_some, OnOk, OnErr, IfOk, MatchResult};
 ghost use Rattle.scene_model.specs.Parts.{Part};
 ghost use Rattle.scene_model.specs.Queues.{plain_commands};
 ghost use Rattle.scene_document.specs.Loading.{commands_at};
 ghost use Rattle.scene.specs.Members.{shown_by, IsReadyBy, IsUnderWayBy, IsOpenedBy, IsReadAndOpened, IsPlacedBy};
+ghost use Rattle.scene.specs.Members.{CountsTouchedBy};
 
-use crate::advance::advance;
+use crate::advance::{advance, begin_frame};
 use crate::load::{
     Course, Opened, ReadDocument, place_document, prepare_document, prepare_read,
     read_apart_or_whole,
@@ -27,6 +28,16 @@ use std::mem;
 use std::sync::Wait;
 use std::thread::Threads;
 
+/// What bounds the frames of a scene: how many commands one may have, how many indices the entities may have, how many births an
+/// index, and how many ids below the next one belong to nobody that was ever born.
+#[derive(Clone, Copy)]
+pub(crate) struct FrameBounds {
+    pub(crate) commands: u32,
+    pub(crate) indices: u32,
+    pub(crate) generation: u32,
+    pub(crate) unlisted: u64,
+}
+
 /// A scene that runs frame by frame: a world of entities, the systems of its document on a dispatcher, and what is
 /// kept of the last accepted scene.
 #[derive(Drop)]
@@ -35,7 +46,7 @@ where
     R::Value: Drop,
 {
     rules: R,
-    limit: u32,
+    limit: FrameBounds,
     world: World<R::Value>,
     dispatcher: SceneDispatcher<R>,
     places: Vec<u32>,
@@ -68,12 +79,12 @@ where
     R::Value: Drop,
 {
     ghost use Rattle.serde_json.specs.View.{view};
-    ghost use Rattle.scene.specs.Limits.{AreLimits};
-    ghost use Rattle.scene.specs.Turns.{Advances, Stays, frames_left};
-    ghost use Rattle.scene.specs.Outcomes.{IsNoDocument, bounds_of};
+    ghost use Rattle.scene.specs.Limits.{AreLimits, bounds_of};
+    ghost use Rattle.scene.specs.Turns.{Advances, Stays, IsAtRest, at_end, frames_left};
+    ghost use Rattle.scene.specs.Outcomes.{IsNoDocument};
     ghost use Rattle.scene_document.specs.Loading.{IsNotLoaded};
     ghost use Rattle.scene_document.specs.Texts.{scene_json, text_of, ReadsBack};
-    ghost use Rattle.scene.specs.Running.{rules_of, crew_of, IsReadAs};
+    ghost use Rattle.scene.specs.Running.{rules_of, crew_of, changes_of, IsReadAs};
     ghost use Rattle.scene_model.specs.Parts.{Json};
     ghost use Rattle.scene_document.specs.declared.loaded.LoadError.TheVariants.{Memory};
 
@@ -188,6 +199,7 @@ where
     {
         let Opened {
             mut world,
+            unlisted,
             places,
             course,
         } = opened;
@@ -208,9 +220,16 @@ where
             skips: Skips::from_vec(Vec::new(alloc)),
             refused: None,
         };
+        let births = limits.generation.unsigned_abs();
+        let limit = FrameBounds {
+            commands: limits.commands as u32,
+            indices: limits.indices,
+            generation: births,
+            unlisted,
+        };
         Ok(Scene {
             rules,
-            limit: limits.commands as u32,
+            limit,
             world,
             dispatcher,
             places,
@@ -248,6 +267,14 @@ where
         self.kept.next()
     }
 
+    /// How many changes were made of the entries of what is kept: each entry that left is one, and each that entered. As
+    /// a document is loaded each of its entities enters.
+    pub fn changes(&self) -> u64
+        ensures { result ≡ changes_of self.now }
+    {
+        self.kept.changes()
+    }
+
     /// How far the scene has come: accepted frames, skipped commands, and the refusal if there is one.
     pub fn report(&self) -> &Report
         ensures { result.now ≡ (shown_by R.Rules R.Value.SceneValue self.now).report }
@@ -260,6 +287,28 @@ where
         ensures { result ≡ is_some (shown_by R.Rules R.Value.SceneValue self.now).report.refused }
     {
         self.report.refused.is_some()
+    }
+
+    /// Whether nothing happens in the frames that are left: no system runs, and no command of the document is for one of
+    /// them.
+    pub(crate) fn is_at_rest(&self) -> bool
+        requires ready { IsReadyBy R.Rules R.Value.SceneValue self.now }
+        requires going { (shown_by R.Rules R.Value.SceneValue self.now).report.refused ≡ None }
+        ensures { result ≡ true → IsAtRest (shown_by R.Rules R.Value.SceneValue self.now) }
+    {
+        self.places.is_empty() && self.report.frames as usize >= self.commands.len()
+    }
+
+    /// Counts all frames that are left as accepted, where nothing happens in them.
+    pub(crate) fn rest(&mut self)
+        requires ready { IsReadyBy R.Rules R.Value.SceneValue self.old }
+        requires left { 0 < frames_left (shown_by R.Rules R.Value.SceneValue self.old) }
+        ensures rules { rules_of self.new ≡ rules_of self.old }
+        ensures ready { IsReadyBy R.Rules R.Value.SceneValue self.new }
+        ensures shown { shown_by R.Rules R.Value.SceneValue self.new
+            ≡ at_end (shown_by R.Rules R.Value.SceneValue self.old) }
+    {
+        self.report.frames = self.asked;
     }
 
     /// How many workers a crew has that stands by for the scene's frames: as many as its document asks for, or as a
@@ -301,6 +350,8 @@ where
             (shown_by R.Rules R.Value.SceneValue self.old) (shown_by R.Rules R.Value.SceneValue self.new)) }
         ensures err { OnErr result (Stays (R.book (rules_of self.old))
             (shown_by R.Rules R.Value.SceneValue self.old) (shown_by R.Rules R.Value.SceneValue self.new)) }
+        ensures changes { OnOk result (CountsTouchedBy R.Rules R.Value.SceneValue self.old self.new) }
+        ensures unchanged { OnErr result (changes_of self.new ≡ changes_of self.old) }
     {
         prove!(self.report.frames < self.asked);
         let frame = self.report.frames + 1;
@@ -309,7 +360,7 @@ where
         let given = commands_for(self.commands.as_slice(), frame);
         let input = FrameInput {
             number: frame,
-            limit: self.limit,
+            limit: self.limit.commands,
             places: self.places.as_slice(),
             given,
         };
@@ -354,10 +405,13 @@ where
             (shown_by R.Rules R.Value.SceneValue self.old) (shown_by R.Rules R.Value.SceneValue self.new)) }
         ensures err { OnErr result (Stays (R.book (rules_of self.old))
             (shown_by R.Rules R.Value.SceneValue self.old) (shown_by R.Rules R.Value.SceneValue self.new)) }
+        ensures changes { OnOk result (CountsTouchedBy R.Rules R.Value.SceneValue self.old self.new) }
+        ensures unchanged { OnErr result (changes_of self.new ≡ changes_of self.old) }
     {
         if self.is_over() {
             return Err(Refused);
         }
+        begin_frame(&self.rules, &mut self.world, &self.watchers);
         let outcome = self
             .dispatcher
             .run_systems_with(rt, crew, &self.rules, &mut self.world);
@@ -373,13 +427,17 @@ where
     R::System: Send + Sync,
 {
     ghost use Rattle.scene.specs.Turns.{Advances, Stays, frames_left};
-    ghost use Rattle.scene.specs.Running.{rules_of};
+    ghost use Rattle.scene.specs.Running.{rules_of, changes_of};
 
     /// Runs the next frame: its systems on the dispatcher, then its commands.
     ///
     /// An accepted frame takes the scene to the one after, whatever the number of workers. A refused frame leaves the
     /// scene as it was, and the report tells the frame and the cause; from then on each further call is refused and
     /// changes nothing.
+    ///
+    /// An accepted frame counts a change for each touched index that bore an entry before it, and one for each that bears
+    /// one after it: those of which the events of a part's or of the markers' storage tell since the accepted frame before,
+    /// or since the document was loaded. A refused frame counts none.
     ///
     /// Asked for is that frames are left.
     pub fn run_frame<H: AllocGlobal + Threads + Wait + Sync>(
@@ -394,10 +452,13 @@ where
             (shown_by R.Rules R.Value.SceneValue self.old) (shown_by R.Rules R.Value.SceneValue self.new)) }
         ensures err { OnErr result (Stays (R.book (rules_of self.old))
             (shown_by R.Rules R.Value.SceneValue self.old) (shown_by R.Rules R.Value.SceneValue self.new)) }
+        ensures changes { OnOk result (CountsTouchedBy R.Rules R.Value.SceneValue self.old self.new) }
+        ensures unchanged { OnErr result (changes_of self.new ≡ changes_of self.old) }
     {
         if self.is_over() {
             return Err(Refused);
         }
+        begin_frame(&self.rules, &mut self.world, &self.watchers);
         let outcome = self
             .dispatcher
             .run_systems(rt, &self.rules, &mut self.world);

@@ -1,5 +1,5 @@
 //! The scene that stands in a world, kept.
-ghost use Rattle.std.specs.Prelude.{◌≡◌, ◌≢◌, ◌<◌, ℕ, true, length, map, None, All, IfOk, OnOk, IsSome};
+ghost use Rattle.std.specs.Prelude.{◌≡◌, ◌≢◌, ◌<◌, ◌≤◌, ℕ, true, length, map, None, All, IfOk, OnOk, IsSome};
 ghost use Rattle.scene_model.specs.Parts.{is_among};
 ghost use Rattle.scene_model.specs.Declaring.{texts};
 ghost use Rattle.scene_world.specs.Standing.{roll_of, IsSceneWorld};
@@ -9,7 +9,7 @@ ghost use Rattle.scene_commands.specs.Members.{scene_in};
 ghost use Rattle.scene_snapshot.specs.Rows.{seat_at, datum_at, kinds_kept, HasRoom, SameCourse};
 ghost use Rattle.scene_snapshot.specs.KeptScenes.{kept_scene};
 ghost use Rattle.scene_world.specs.Putting.{each_there};
-ghost use Rattle.scene.specs.Keeping.{IsBelow, IsFullByIndex};
+ghost use Rattle.scene.specs.Keeping.{IsBelow, IsFullByIndex, CountsMore};
 ghost use Rattle.scene.specs.Taken.{ArePairs, IsAmong, IsRowOf, AreRowsOf, AreOfPairs, IsBare, part_at, turned, with_last};
 
 use crate::taking::{data_at, globals_in, next_in, pairs_in};
@@ -35,6 +35,7 @@ pub fn keep_scene<R: Rules>(
         ≡ scene_in R.Rules R.Value.SceneValue world.now) }
     ensures full { IfOk result (λ kept. IsFullByIndex (kinds_by R.Rules R.Value.SceneValue) R.part_of
         R.columns.part_names kept (seen_of world.now)) }
+    ensures few { IfOk result (λ kept. kept.changes ≤ 16777216) }
     ensures below { OnOk result (IsBelow (kinds_by R.Rules R.Value.SceneValue) (seen_of world.now)) }
 {
     let globals = globals_in::<R>(world, rules.global_names(), alloc)?;
@@ -79,6 +80,7 @@ pub(crate) fn enter_all<D: Drop, G>(pairs: &[(u64, u32)], count: usize, kept: &m
         ≡ with_last (turned pairs.now) (seat_at kept.old) index }
     ensures rows { (place index : ℕ) → datum_at kept.new place index ≡ datum_at kept.old place index }
     ensures course { SameCourse kept.old kept.new }
+    ensures changes { CountsMore kept.old.changes (length pairs.now) kept.new.changes }
 {
     for pair in pairs {
         kept.enter(pair.1 as usize, pair.0);
@@ -110,6 +112,7 @@ fn write_rows<R: Rules, G>(
     ensures seats { OnOk result ((index : ℕ) → seat_at kept.new index ≡ None) }
     ensures room { OnOk result (HasRoom count kept.new) }
     ensures course { OnOk result (SameCourse kept.old kept.new) }
+    ensures changes { OnOk result (kept.new.changes ≡ kept.old.changes) }
 {
     let indices = indices_of(pairs, alloc)?;
     for (place, kind) in names.iter().enumerate() {
@@ -150,6 +153,7 @@ fn write_row<R: Rules, G>(
     ensures seats { OnOk result ((index : ℕ) → seat_at kept.new index ≡ None) }
     ensures room { OnOk result (HasRoom count kept.new) }
     ensures course { OnOk result (SameCourse kept.old kept.new) }
+    ensures changes { OnOk result (kept.new.changes ≡ kept.old.changes) }
 {
     let found = read_row(rules, world, kind, indices, alloc)?;
     write_found(found, place, count, kept);
@@ -200,6 +204,7 @@ pub(crate) fn write_found<D: Drop, G>(
     ensures seats { (index : ℕ) → seat_at kept.new index ≡ seat_at kept.old index }
     ensures room { HasRoom count kept.new }
     ensures course { SameCourse kept.old kept.new }
+    ensures changes { kept.new.changes ≡ kept.old.changes }
 {
     for (index, datum) in found {
         if let Some(datum) = datum {

@@ -1,5 +1,5 @@
 //! A document is put into a world, with its systems on a dispatcher.
-ghost use Rattle.std.specs.Prelude.{◌≡◌, ◌≤◌, ℕ, List, All, length, map, Some, Ok, IfOk, OnOk, MatchResult};
+ghost use Rattle.std.specs.Prelude.{◌≡◌, ◌≤◌, ℕ, unsigned_abs, List, All, length, map, Some, Ok, IfOk, OnOk, MatchResult};
 ghost use Rattle.serde_json.specs.View.{view};
 ghost use Rattle.scene_model.specs.Parts.{Json};
 ghost use Rattle.scene_model.specs.Lawful.{IsLawful};
@@ -11,15 +11,16 @@ ghost use Rattle.scene_document.specs.declared.loaded.LoadError.TheVariants.{Mem
 ghost use Rattle.scene_document.specs.Openings.{first_scene, frames_of, all_systems};
 ghost use Rattle.scene_document.specs.Loading.{commands_at, IsNotLoaded};
 ghost use Rattle.scene_document.specs.Texts.{json_of};
-ghost use Rattle.scene_world.specs.Standing.{IsSceneWorld};
+ghost use Rattle.scene_world.specs.Standing.{IsSceneWorld, roll_of};
 ghost use Rattle.scene_commands.specs.Acts.{seen_of};
+ghost use Rattle.scene_commands.specs.Bounds.{IsBounded, unlisted_in};
 ghost use Rattle.scene_commands.specs.Members.{scene_in};
 ghost use Rattle.scene_world.specs.Turns.{IsOfBook};
 ghost use Rattle.scene_world.specs.Members.{kinds_by, placed_by};
 ghost use Rattle.scene_dispatch.specs.Orders.{turn_order};
 ghost use Rattle.scene.specs.Waiting.{NoneWaits};
-ghost use Rattle.scene.specs.Limits.{AreLimits};
-ghost use Rattle.scene.specs.Outcomes.{Bounds, IsNoDocument};
+ghost use Rattle.scene.specs.Limits.{AreLimits, Bounds};
+ghost use Rattle.scene.specs.Outcomes.{IsNoDocument};
 ghost use Rattle.scene.specs.Running.{IsUnrefused, IsOpenable, IsAlone, IsReadAs, course_of};
 ghost use Rattle.scene.specs.Members.{IsPlacedBy, IsPreparedBy};
 
@@ -60,13 +61,15 @@ pub(crate) struct Prepared<R: Rules> {
     pub(crate) course: Course<R>,
 }
 
-/// A document that stands in a world, with its systems on a dispatcher. Nothing is kept of its scene yet.
+/// A document that stands in a world, with its systems on a dispatcher, and how many ids below its next one it doesn't list.
+/// Nothing is kept of its scene yet.
 #[derive(Drop)]
 pub(crate) struct Opened<R: Rules>
 where
     R::Value: Drop,
 {
     pub(crate) world: World<R::Value>,
+    pub(crate) unlisted: u64,
     pub(crate) places: Vec<u32>,
     pub(crate) course: Course<R>,
 }
@@ -91,14 +94,13 @@ where
     ensures scene { IfOk result (λ world. (plain : Draft) → (indices : ℕ)
         → IsDraft R.part_of R.global_of R.kind_of R.config_of (R.book rules.now) plain draft.now
         → refusal_of indices plain ≡ None → scene_in R.Rules R.Value.SceneValue world ≡ first_scene plain) }
+    ensures bounded { IfOk result (λ world. (plain : Draft) → (indices : ℕ)
+        → IsDraft R.part_of R.global_of R.kind_of R.config_of (R.book rules.now) plain draft.now
+        → refusal_of indices plain ≡ None → IsBounded limits.indices (unsigned_abs limits.generation) (unlisted_in plain)
+        (roll_of (kinds_by R.Rules R.Value.SceneValue) (seen_of world))) }
 {
-    let mut world = load_world(
-        rules,
-        store,
-        (limits.indices, limits.generation as u32),
-        draft,
-        alloc,
-    )?;
+    let births = limits.generation.unsigned_abs();
+    let mut world = load_world(rules, store, (limits.indices, births), draft, alloc)?;
     open_queues::<R>(&mut world, places, alloc)?;
     Ok(world)
 }
@@ -245,8 +247,10 @@ where
     let Ok(world) = open_in_world(rules, limits, store, &draft, places.as_slice(), alloc) else {
         return Err(LoadError::Memory);
     };
+    let unlisted = draft.next.saturating_sub(draft.entities.len() as u64);
     Ok(Opened {
         world,
+        unlisted,
         places,
         course,
     })
@@ -279,6 +283,7 @@ where
         (λ drawn. All (IsOfBook (placed_by R.Rules) (R.book rules.now)) drawn.0.dispatcher.locals) }
     ensures alone { IfOk result (λ drawn. IsAlone draft.entry drawn.1) }
     ensures asked { IfOk result (λ drawn. drawn.0.asked ≡ draft.entry.frames) }
+    ensures workers { IfOk result (λ drawn. drawn.0.dispatcher.workers ≡ draft.entry.workers) }
 {
     let DocumentDraft {
         next,

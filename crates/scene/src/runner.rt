@@ -2,7 +2,8 @@
 ghost use Rattle.std.specs.Prelude.{◌≡◌, MatchResult};
 ghost use Rattle.scene.specs.Limits.{AreLimits};
 ghost use Rattle.scene.specs.Turns.{RunsOut, nothing_yet};
-ghost use Rattle.scene.specs.Outcomes.{IsRunOf, IsNoDocument, RunsDocument, reading, writing, bounds_of, full_bounds};
+ghost use Rattle.scene.specs.Outcomes.{IsRunOf, IsNoDocument, RunsDocument, reading, writing};
+ghost use Rattle.scene.specs.Limits.{bounds_of, full_bounds};
 ghost use Rattle.scene.specs.Running.{rules_of};
 ghost use Rattle.scene.specs.Members.{shown_by, IsReadyBy, MayBeginBy, HasRunOutBy};
 
@@ -56,7 +57,8 @@ where
     Ok((scene.into_report(), text))
 }
 
-/// Runs the frames of a scene to their end, each with workers of its own.
+/// Runs the frames of a scene to their end, each with workers of its own; those in which nothing happens at the end of a
+/// run at once.
 fn run_each<R: Rules + Drop + Send + Sync, H: AllocGlobal + Threads + Wait + Sync>(
     rt: &H,
     scene: Scene<R>,
@@ -71,6 +73,10 @@ where
 {
     let mut scene = scene;
     while scene.left() > 0 {
+        if scene.is_at_rest() {
+            scene.rest();
+            return scene;
+        }
         match scene.run_frame(rt) {
             Ok(()) => {}
             Err(_) => return scene,

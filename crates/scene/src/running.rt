@@ -1,5 +1,5 @@
 //! A frame in a world: its systems, and then its commands.
-ghost use Rattle.std.specs.Prelude.{◌≡◌, ◌<◌, ◌++◌, ℕ, List, All, IfErr, OnOk, OnErr};
+ghost use Rattle.std.specs.Prelude.{◌≡◌, ◌<◌, ◌++◌, ℕ, List, All, Err, IfErr, OnOk, OnErr};
 ghost use Rattle.shred_world.specs.Bundles.{holding_of};
 ghost use Rattle.scene_model.specs.Lawful.{IsLawful};
 ghost use Rattle.scene_model.specs.Scenes.{PlainScene};
@@ -7,6 +7,7 @@ ghost use Rattle.scene_model.specs.Commands.{skips_of};
 ghost use Rattle.scene_model.specs.Frames.{Accepts};
 ghost use Rattle.scene_model.specs.Queues.{plain_commands};
 ghost use Rattle.scene_world.specs.Lent.{StandApart};
+ghost use Rattle.scene_world.specs.Standing.{roll_of};
 ghost use Rattle.scene_world.specs.Putting.{AreNamedIn};
 ghost use Rattle.scene_world.specs.Members.{kinds_by, placed_by};
 ghost use Rattle.scene_dispatch.specs.Orders.{turn_order};
@@ -68,9 +69,10 @@ where
     ensures refused { IfErr result (λ cause. (scene : PlainScene)
         → HaveComeBy R.Rules R.Value.SceneValue rules.now dispatcher.now world.old scene outcome
         → RefusedIn (kinds_by R.Rules R.Value.SceneValue) (R.book rules.now) input.now.limit
-        (frame_by R.Rules dispatcher.now input.now.given.now) scene cause) }
+        (roll_of (kinds_by R.Rules R.Value.SceneValue) (seen_of world.old)) (frame_by R.Rules dispatcher.now input.now.given.now) scene cause) }
     ensures skips { OnErr result (skips.new.items ≡ skips.old.items) }
     ensures threads { IfErr outcome (λ cause. ¬ (WantsThread cause)) → IfErr result (λ cause. ¬ (WantsThread cause)) }
+    ensures systems { IfErr outcome (λ cause. result ≡ Err cause) }
 {
     outcome?;
     rules_stand(rules);
@@ -121,7 +123,7 @@ where
     ensures none { OnOk result (NoneWaits (kinds_by R.Rules R.Value.SceneValue) (seen_of world.new)) }
     ensures goes_on { OnOk result (GoesOn (kinds_by R.Rules R.Value.SceneValue) world.old world.new) }
     ensures refused { IfErr result (RefusedIn (kinds_by R.Rules R.Value.SceneValue) (R.book rules.now) input.now.limit
-        (frame_by R.Rules dispatcher.old input.now.given.now) (scene_in R.Rules R.Value.SceneValue world.old)) }
+        (roll_of (kinds_by R.Rules R.Value.SceneValue) (seen_of world.old)) (frame_by R.Rules dispatcher.old input.now.given.now) (scene_in R.Rules R.Value.SceneValue world.old)) }
     ensures skips { OnErr result (skips.new.items ≡ skips.old.items) }
     ensures order { turn_order (placed_by R.Rules).plain dispatcher.new ≡ turn_order
         (placed_by R.Rules).plain dispatcher.old }

@@ -1,8 +1,7 @@
--- Parts of the four kinds in the values of a world.
+-- Parts of the five kinds in the values of a world.
 use Rattle.std.proofs.Common.{◌≡◌, ℕ, ℤ, Bool, true, false, cond, eqb, List, [], ◌∷◌, map, length, Option, Some, None, Result, Ok, Err, is_some, refl, ap, sym, ◌∙◌, subst}
 use Rattle.std.specs.Prelude.{IsSome, OnOk, option_map, slice_get}
 use Rattle.std.specs.Option.{option_flatten}
-use Rattle.std.specs.Str.{bytes_eq}
 use Rattle.std.specs.FinMap as slots
 use Rattle.std.specs.FinSet as set
 use Rattle.std.specs.Ordering.{nat_cmp}
@@ -14,11 +13,11 @@ use Rattle.shred_world.proofs.CallerLemmas.{ids_total}
 use Rattle.specs_entity.specs.Life.{LifeAt}
 use Rattle.specs_layouts.specs.Masked.{Agrees}
 use Rattle.specs_layouts.specs.Parts.{Puts, HasNone}
-use Rattle.scene_model.specs.Parts.{Name}
+use Rattle.scene_model.specs.Parts.{Name, is_among}
 use Rattle.scene_world.specs.Changes.{but_at}
 use Rattle.scene_world.specs.Putting.{named_in, part_read, each_there, AreReadAt, PutsIn, Registers}
 use Rattle.scene_world.proofs.CallerLemmas.{HasColumn, each-same, each-none, each-mapped}
-use Rattle.scene_basics.specs.Names.{hp_kind, owner_kind, pos_kind, vel_kind}
+use Rattle.scene_basics.specs.Names.{bond_kind, hp_kind, owner_kind, pos_kind, vel_kind, reference_kinds}
 use Rattle.scene_basics.specs.Numbers.{counting, referring, part_of}
 use Rattle.scene_basics.specs.Values.{Numbers, Owners, whole_at, owner_at}
 use Rattle.scene_basics.specs.Columns.{part_id, whole_stored, owner_stored, number_column, number_events, number_emits, owner_column, owner_events, owner_emits, basic_columns}
@@ -69,8 +68,9 @@ pub where-done : {T E P Q : Type 0} (outcome : Result T E) → (P → Q) → OnO
 where-done (Ok value) follows done = follows done
 where-done (Err error) follows done = tt
 
--- storages of the four kinds that are put in one after the other are registered
-module _ (w with_hp with_owners with_pos later : Slots Value) (one : HasNumbers (part_id hp_kind) w with_hp) (two : HasOwners with_hp with_owners)
+-- storages of the five kinds that are put in one after the other are registered
+module _ (w with_bonds with_hp with_owners with_pos later : Slots Value) (zero : HasOwners (part_id bond_kind) w with_bonds) (one : HasNumbers (part_id hp_kind) with_bonds with_hp)
+    (two : HasOwners (part_id owner_kind) with_hp with_owners)
     (three : HasNumbers (part_id pos_kind) with_owners with_pos) (four : HasNumbers (part_id vel_kind) with_pos later) where
   -- what stands at an id after one more was put in
   with-one : (v : Value) (id : ResourceId) (was is : Slots Value) → is ≡ slots.insert was id (Some v) → (q : ResourceId) → slots.get is q ≡ cond (same_id q id) (Some (Some v)) (slots.get was q)
@@ -80,7 +80,8 @@ module _ (w with_hp with_owners with_pos later : Slots Value) (one : HasNumbers 
   last q = cond (same_id q (part_id vel_kind)) (Some (Some (NumbersValue four.numbers)))
       (cond (same_id q (part_id pos_kind)) (Some (Some (NumbersValue three.numbers)))
       (cond (same_id q (part_id owner_kind)) (Some (Some (OwnersValue two.owners)))
-      (cond (same_id q (part_id hp_kind)) (Some (Some (NumbersValue one.numbers))) (slots.get w q))))
+      (cond (same_id q (part_id hp_kind)) (Some (Some (NumbersValue one.numbers)))
+      (cond (same_id q (part_id bond_kind)) (Some (Some (OwnersValue zero.owners))) (slots.get w q)))))
 
   stands : (q : ResourceId) → slots.get later q ≡ last q
   stands q =
@@ -90,20 +91,24 @@ module _ (w with_hp with_owners with_pos later : Slots Value) (one : HasNumbers 
       ∙ ap (cond (same_id q (part_id pos_kind)) (Some (Some (NumbersValue three.numbers))))
       (with-one (OwnersValue two.owners) (part_id owner_kind) with_hp with_owners two.put q
       ∙ ap (cond (same_id q (part_id owner_kind)) (Some (Some (OwnersValue two.owners))))
-      (with-one (NumbersValue one.numbers) (part_id hp_kind) w with_hp one.put q)))
+      (with-one (NumbersValue one.numbers) (part_id hp_kind) with_bonds with_hp one.put q
+      ∙ ap (cond (same_id q (part_id hp_kind)) (Some (Some (NumbersValue one.numbers))))
+      (with-one (OwnersValue zero.owners) (part_id bond_kind) w with_bonds zero.put q))))
 
   -- what stands under a kind stores nothing
-  empty-numbers : (kind : Name) → bytes_eq kind owner_kind ≡ false → (numbers : Numbers) → HasNone (whole_at numbers) → slots.get later (part_id kind) ≡ Some (Some (NumbersValue numbers))
+  empty-numbers : (kind : Name) → is_among kind reference_kinds ≡ false → (numbers : Numbers) → HasNone (whole_at numbers) → slots.get later (part_id kind) ≡ Some (Some (NumbersValue numbers))
       → (v : Value) → value_at later (part_id kind) ≡ Some v → (index : ℕ) → basic_columns.stored kind v index ≡ None
   empty-numbers kind other numbers none there v e index =
       let same : NumbersValue numbers ≡ v = let h : Some (NumbersValue numbers) ≡ Some v = sym (ap option_flatten there) ∙ e in cc in
       ap (λ b. cond b (owner_column v index) (number_column v index)) other
       ∙ subst (λ x. number_column x index ≡ None) same (ap (option_map whole_stored) (none index))
 
-  empty-owners : (v : Value) → value_at later (part_id owner_kind) ≡ Some v → (index : ℕ) → basic_columns.stored owner_kind v index ≡ None
-  empty-owners v e index =
-      let same : OwnersValue two.owners ≡ v = let h : Some (OwnersValue two.owners) ≡ Some v = sym (ap option_flatten (stands (part_id owner_kind))) ∙ e in cc in
-      subst (λ x. owner_column x index ≡ None) same (ap (option_map owner_stored) (two.none index))
+  empty-owners : (kind : Name) → is_among kind reference_kinds ≡ true → (owners : Owners) → HasNone (owner_at owners) → slots.get later (part_id kind) ≡ Some (Some (OwnersValue owners))
+      → (v : Value) → value_at later (part_id kind) ≡ Some v → (index : ℕ) → basic_columns.stored kind v index ≡ None
+  empty-owners kind refers owners none there v e index =
+      let same : OwnersValue owners ≡ v = let h : Some (OwnersValue owners) ≡ Some v = sym (ap option_flatten there) ∙ e in cc in
+      ap (λ b. cond b (owner_column v index) (number_column v index)) refers
+      ∙ subst (λ x. owner_column x index ≡ None) same (ap (option_map owner_stored) (none index))
 
   abbrev IsThere : Name → Type 0
   IsThere kind = IsSome (value_at later (part_id kind))
@@ -117,31 +122,35 @@ module _ (w with_hp with_owners with_pos later : Slots Value) (one : HasNumbers 
   pub registers-all : Registers basic_columns w later
   registers-all = record {
     there = each-kind IsThere
+        (there-at (part_id bond_kind) (OwnersValue zero.owners) (stands (part_id bond_kind)))
         (there-at (part_id hp_kind) (NumbersValue one.numbers) (stands (part_id hp_kind)))
         (there-at (part_id owner_kind) (OwnersValue two.owners) (stands (part_id owner_kind)))
         (there-at (part_id pos_kind) (NumbersValue three.numbers) (stands (part_id pos_kind)))
         (there-at (part_id vel_kind) (NumbersValue four.numbers) (stands (part_id vel_kind)));
     empty = λ kind v known. each-kind IsBare
+        (empty-owners bond_kind refl zero.owners zero.none (stands (part_id bond_kind)))
         (empty-numbers hp_kind refl one.numbers one.none (stands (part_id hp_kind)))
-        empty-owners
+        (empty-owners owner_kind refl two.owners two.none (stands (part_id owner_kind)))
         (empty-numbers pos_kind refl three.numbers three.none (stands (part_id pos_kind)))
         (empty-numbers vel_kind refl four.numbers four.none (stands (part_id vel_kind))) kind known v;
-    others = λ id apart. stands id ∙ elsewhere id (same_id id (part_id vel_kind)) (same_id id (part_id pos_kind)) (same_id id (part_id owner_kind)) (same_id id (part_id hp_kind))
-        (apart vel_kind refl) (apart pos_kind refl) (apart owner_kind refl) (apart hp_kind refl);
+    others = λ id apart. stands id ∙ elsewhere id (same_id id (part_id vel_kind)) (same_id id (part_id pos_kind)) (same_id id (part_id owner_kind)) (same_id id (part_id hp_kind)) (same_id id (part_id bond_kind))
+        (apart vel_kind refl) (apart pos_kind refl) (apart owner_kind refl) (apart hp_kind refl) (apart bond_kind refl);
   }
     where
-      elsewhere : (id : ResourceId) (a b c d : Bool) → a ≡ false → b ≡ false → c ≡ false → d ≡ false
-          → cond a (Some (Some (NumbersValue four.numbers))) (cond b (Some (Some (NumbersValue three.numbers))) (cond c (Some (Some (OwnersValue two.owners))) (cond d (Some (Some (NumbersValue one.numbers))) (slots.get w id)))) ≡ slots.get w id
-      elsewhere id false false false false e f g h = refl
-      elsewhere id true b c d e f g h = absurd (true≢false e)
-      elsewhere id false true c d e f g h = absurd (true≢false f)
-      elsewhere id false false true d e f g h = absurd (true≢false g)
-      elsewhere id false false false true e f g h = absurd (true≢false h)
+      elsewhere : (id : ResourceId) (a b c d z : Bool) → a ≡ false → b ≡ false → c ≡ false → d ≡ false → z ≡ false
+          → cond a (Some (Some (NumbersValue four.numbers))) (cond b (Some (Some (NumbersValue three.numbers))) (cond c (Some (Some (OwnersValue two.owners))) (cond d (Some (Some (NumbersValue one.numbers)))
+          (cond z (Some (Some (OwnersValue zero.owners))) (slots.get w id))))) ≡ slots.get w id
+      elsewhere id false false false false false e f g h l = refl
+      elsewhere id true b c d z e f g h l = absurd (true≢false e)
+      elsewhere id false true c d z e f g h l = absurd (true≢false f)
+      elsewhere id false false true d z e f g h l = absurd (true≢false g)
+      elsewhere id false false false true z e f g h l = absurd (true≢false h)
+      elsewhere id false false false false true e f g h l = absurd (true≢false l)
 
 -- ---- columns that are read at once
 
 -- under a kind of numbers nobody is named, and what is found is what stands there
-pub numbers-read : (kind : Name) (numbers : Numbers) (entities : List (ℕ × ℕ)) (found : List (ℕ × Option Datum)) → bytes_eq kind owner_kind ≡ false
+pub numbers-read : (kind : Name) (numbers : Numbers) (entities : List (ℕ × ℕ)) (found : List (ℕ × Option Datum)) → is_among kind reference_kinds ≡ false
     → each_there (λ datum. datum) found ≡ each_there (λ index. option_map (λ (whole : Whole). DatumWhole whole.0) (whole_at numbers index)) entities → AreReadAt part_of (basic_columns.stored kind (NumbersValue numbers)) entities found
 numbers-read kind numbers entities found apart are = record {
   nobody = λ index. ap (λ b. named_in (cond b (owner_column (NumbersValue numbers) index) (number_column (NumbersValue numbers) index))) apart ∙ none (whole_at numbers index);
@@ -160,14 +169,18 @@ numbers-read kind numbers entities found apart are = record {
     same None = refl
     same (Some whole) = refl
 
--- where there are no owners, none stands under their kind
-pub no-owners : (kind : Name) (owners : Owners) → bytes_eq kind owner_kind ≡ true → Agrees owners.mask (owner_at owners) → owners.mask.members ≡ set.empty → (index : ℕ) → basic_columns.stored kind (OwnersValue owners) index ≡ None
-no-owners kind owners is agree none index =
+-- where the mask has no index, no owner stands there
+pub no-owner-at : (kind : Name) (owners : Owners) → is_among kind reference_kinds ≡ true → Agrees owners.mask (owner_at owners) → (index : ℕ) → set.contains owners.mask.members index ≡ false → basic_columns.stored kind (OwnersValue owners) index ≡ None
+no-owner-at kind owners is agree index off =
     ap (λ b. cond b (owner_column (OwnersValue owners) index) (number_column (OwnersValue owners) index)) is ∙ ap (option_map owner_stored) (by (owner_at owners index) refl)
   where
     by : (o : Option Owner) → owner_at owners index ≡ o → owner_at owners index ≡ None
     by None e = e
-    by (Some owner) e = absurd (false≢true (sym (ap (λ members. set.contains members index) none ∙ set.contains-empty nat_cmp index) ∙ agree index ∙ ap is_some e))
+    by (Some owner) e = absurd (false≢true (sym off ∙ agree index ∙ ap is_some e))
+
+-- under an empty mask no owner stands anywhere
+pub no-owners : (kind : Name) (owners : Owners) → is_among kind reference_kinds ≡ true → Agrees owners.mask (owner_at owners) → owners.mask.members ≡ set.empty → (index : ℕ) → basic_columns.stored kind (OwnersValue owners) index ≡ None
+no-owners kind owners is agree none index = no-owner-at kind owners is agree index (ap (λ members. set.contains members index) none ∙ set.contains-empty nat_cmp index)
 
 -- so nothing is found there
 pub nothing-read : (kind : Name) (owners : Owners) (entities : List (ℕ × ℕ)) (found : List (ℕ × Option Datum)) → ((index : ℕ) → basic_columns.stored kind (OwnersValue owners) index ≡ None) → found ≡ []

@@ -1,7 +1,6 @@
 -- What the fragment that a system is lent says of numbers in a world.
 use Rattle.std.proofs.Common.{◌≡◌, ℕ, ℤ, true, false, cond, Option, Some, None, refl, ap, sym, ◌∙◌}
 use Rattle.std.specs.Prelude.{option_and_then, option_map}
-use Rattle.std.specs.Str.{bytes_eq}
 use Rattle.shred_world.specs.Bundles.{Holding, readable}
 use Rattle.specs_entity.specs.Life.{LifeAt}
 use Rattle.scene_model.specs.Parts.{Name, Ref, is_among}
@@ -13,7 +12,7 @@ use Rattle.scene_basics.specs.declared.data.Ask.TheVariants.{Deaths, Births}
 use Rattle.scene_basics.specs.declared.data.BasicSystem.TheVariants.{Reap, Bud}
 use Rattle.scene_basics.specs.declared.values.Whole.{Whole}
 use Rattle.scene_basics.specs.declared.values.Value.{Value}
-use Rattle.scene_basics.specs.Names.{hp_kind, owner_kind, pos_kind, part_kinds}
+use Rattle.scene_basics.specs.Names.{hp_kind, pos_kind, part_kinds, reference_kinds}
 use Rattle.scene_basics.specs.Numbers.{counting, number_of}
 use Rattle.scene_basics.specs.RuleLaws.{whole_in-json_of}
 use Rattle.scene_basics.specs.Systems.{declared_access}
@@ -34,7 +33,7 @@ pub counted : (o : Option ℤ) → option_and_then number_of (option_map countin
 counted None = refl
 counted (Some z) = whole_in-json_of z
 
-module _ (kind : Name) (numeric : bytes_eq kind owner_kind ≡ false) where
+module _ (kind : Name) (numeric : is_among kind reference_kinds ≡ false) where
   -- what a column of numbers stores
   pub column-numbers : (w : Holding Value) (index : ℕ) → column_of basic_kinds (seen_in w) kind index ≡ option_map whole_stored (numbers_of (readable (w (part_id kind))) index)
   column-numbers w index = by (readable (w (part_id kind)))

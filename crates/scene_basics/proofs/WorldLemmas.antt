@@ -34,7 +34,7 @@ use Rattle.scene_basics.specs.declared.data.Gain.{Gain}
 use Rattle.scene_basics.specs.declared.values.Whole.{Whole}
 use Rattle.scene_basics.specs.declared.values.Value.{Value}
 use Rattle.scene_basics.specs.declared.values.Value.TheVariants.{NumbersValue}
-use Rattle.scene_basics.specs.Names.{owner_kind, pos_kind, vel_kind, g_name, part_kinds}
+use Rattle.scene_basics.specs.Names.{pos_kind, vel_kind, g_name, part_kinds, reference_kinds}
 use Rattle.scene_basics.specs.Numbers.{json_of, counting, whole_in, is_signed}
 use Rattle.scene_basics.specs.RuleLaws.{is_signed-fits, whole_in-json_of}
 use Rattle.scene_basics.specs.Gains.{added, number_at, global_number, sum_at, Gains, Overflows, Gaining}
@@ -127,7 +127,7 @@ shown-numbers false e before after shown = record {
     by index (inr named) = inr named
 
 -- numbers of a kind that were taken and put back changed
-module _ (kind : Name) (known : is_among kind part_kinds ≡ true) (numeric : bytes_eq kind owner_kind ≡ false) (before after : Numbers) (seen left : Holding Value) (writes : WritesNumbers kind before after seen left) where
+module _ (kind : Name) (known : is_among kind part_kinds ≡ true) (numeric : is_among kind reference_kinds ≡ false) (before after : Numbers) (seen left : Holding Value) (writes : WritesNumbers kind before after seen left) where
   was : readable (seen (part_id kind)) ≡ Some (NumbersValue before)
   was = ap readable writes.written
 
@@ -179,7 +179,7 @@ module _ (kind : Name) (known : is_among kind part_kinds ≡ true) (numeric : by
   shown-left shown =
       subst (λ one. Shows (column_in basic_kinds kind) (events_in basic_kinds kind) (emits_in basic_kinds kind) one (readable (left (part_id kind)))) (sym was)
       (subst (λ two. Shows (column_in basic_kinds kind) (events_in basic_kinds kind) (emits_in basic_kinds kind) (Some (NumbersValue before)) two) (sym here)
-      (shown-numbers (bytes_eq kind owner_kind) numeric before after shown))
+      (shown-numbers (is_among kind reference_kinds) numeric before after shown))
 
   module _ (gain : Gain) (add : ℕ → Option ℤ) (agree : (id index : ℕ) → index_of (basic_roll seen) id ≡ Some index → add id ≡ addend gain (with_slot seen (part_id kind) out) index)
       (access : Access) (declared : declares access kind ≡ true) where
@@ -229,7 +229,7 @@ module _ (kind : Name) (known : is_among kind part_kinds ≡ true) (numeric : by
         not-refused sum fits none = let e : Some (let made : Whole = record { 0 = sum } in made) ≡ None = sym (ap (λ b. option_map (λ one. let made : Whole = record { 0 = one } in made) (cond b (Some sum) None)) fits) ∙ none in cc
 
 -- a run of a system that adds to the numbers of a kind is a turn of it
-pub adds-runs : {T : Type 0} (system : BasicSystem) (kind : Name) (gain : Gain) (add : Fragment → ℕ → Option ℤ) → is_among kind part_kinds ≡ true → bytes_eq kind owner_kind ≡ false
+pub adds-runs : {T : Type 0} (system : BasicSystem) (kind : Name) (gain : Gain) (add : Fragment → ℕ → Option ℤ) → is_among kind part_kinds ≡ true → is_among kind reference_kinds ≡ false
     → declares (declared_access system) kind ≡ true → ((other : Name) → is_among other (declared_access system).writes ≡ true → other ≡ kind)
     → ((old : Fragment) (o : Outcome) → Gaining kind (add old) old o → Makes (Some system) old o)
     → (seen left : Holding Value) → ((id index : ℕ) → index_of (basic_roll seen) id ≡ Some index → add (seen_by system seen) id ≡ addend gain (with_slot seen (part_id kind) out) index)

@@ -10,7 +10,7 @@ use Rattle.specs_layouts.specs.Channels.{Log, log_of, no_log}
 use Rattle.specs_layouts.specs.declared.track.ComponentEvent.{ComponentEvent}
 use Rattle.specs_layouts.specs.Flagged.{tells}
 use Rattle.scene_world.specs.Markers.{marker_at, marker_log, marker_tells}
-use Rattle.scene_model.specs.Parts.{Name}
+use Rattle.scene_model.specs.Parts.{Name, is_among}
 use Rattle.scene_world.specs.Stored.{Stored}
 use Rattle.scene_world.specs.Standing.{Kinds}
 use Rattle.scene_world.specs.Places.{Places, Columns, kinds_of}
@@ -19,13 +19,13 @@ use Rattle.scene_basics.specs.declared.values.Whole.{Whole}
 use Rattle.scene_basics.specs.declared.values.Owner.{Owner}
 use Rattle.scene_basics.specs.declared.values.Value.{Value}
 use Rattle.scene_basics.specs.declared.values.Value.TheVariants.{QueueValue}
-use Rattle.scene_basics.specs.Names.{hp_kind, owner_kind, pos_kind, g_name, part_kinds}
+use Rattle.scene_basics.specs.Names.{bond_kind, hp_kind, owner_kind, pos_kind, g_name, part_kinds, reference_kinds, owns_holder}
 use Rattle.scene_basics.specs.Numbers.{json_of, part_of}
 use Rattle.scene_basics.specs.Values.{births_in, markers_in, noting_in, queue_in, numbers_in, owners_in, global_in, whole_at, owner_at}
 
 -- the number of a kind: under it its parts stand
 abbrev pub kind_number : Name → ℕ
-kind_number kind = if bytes_eq kind owner_kind then 4 else (if bytes_eq kind hp_kind then 5 else (if bytes_eq kind pos_kind then 6 else 7))
+kind_number kind = if bytes_eq kind owner_kind then 4 else (if bytes_eq kind hp_kind then 5 else (if bytes_eq kind pos_kind then 6 else (if bytes_eq kind bond_kind then 9 else 7)))
 
 -- where the parts of a kind stand, and where the global does
 abbrev pub part_id : Name → ResourceId
@@ -34,7 +34,7 @@ part_id kind = id_of (kind_number kind) 0
 abbrev pub global_id : ResourceId
 global_id = id_of 8 0
 
--- what is stored for a number, and for an owner, whose id is written for it
+-- what is stored for a number, and for a reference to an owner, whose id is written for it
 abbrev pub whole_stored : Whole → Stored
 whole_stored whole = record { named = []; written = λ ids. json_of whole.0 }
 
@@ -65,12 +65,13 @@ owner_emits v = option_map_or (λ s. tells s.inner) (owners_in v) false
 abbrev pub basic_columns : Columns Value
 basic_columns = record {
   part_names = part_kinds;
+  owning = owns_holder;
   global_names = g_name ∷ [];
   part_id = part_id;
   global_id = λ name. global_id;
-  stored = λ kind v index. if bytes_eq kind owner_kind then owner_column v index else number_column v index;
-  events = λ kind v. if bytes_eq kind owner_kind then owner_events v else number_events v;
-  emits = λ kind v. if bytes_eq kind owner_kind then owner_emits v else number_emits v;
+  stored = λ kind v index. if is_among kind reference_kinds then owner_column v index else number_column v index;
+  events = λ kind v. if is_among kind reference_kinds then owner_events v else number_events v;
+  emits = λ kind v. if is_among kind reference_kinds then owner_emits v else number_emits v;
   value = λ name v. option_map json_of (global_in v);
 }
 

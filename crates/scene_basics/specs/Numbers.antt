@@ -1,12 +1,11 @@
 -- Parts that are whole numbers, and parts that are references.
 use Rattle.std.specs.Prelude.{ℕ, ◌^◌, nat_lt, ℤ, pos, negsuc, Bool, true, false, ◌==◌, ◌&&◌, List, [], ◌∷◌, Option, Some, None, is_some, option_map, option_and_then, if◌then◌else◌}
-use Rattle.std.specs.Str.{bytes_eq}
 use Rattle.serde_json.specs.Data.{unsigned, number}
 use Rattle.serde_json.specs.Find.{as_number, as_u64, as_integer, of_integer}
 use Rattle.scene_model.specs.Parts.{Json, Name, Ref, living, gone, Part, is_among}
 use Rattle.scene_basics.specs.declared.data.Datum.{Datum}
 use Rattle.scene_basics.specs.declared.data.Datum.TheVariants.{Whole, Owner}
-use Rattle.scene_basics.specs.Names.{owner_kind, number_kinds}
+use Rattle.scene_basics.specs.Names.{number_kinds, reference_kinds}
 
 -- what is written for a whole number
 abbrev pub json_of : ℤ → Json
@@ -69,12 +68,12 @@ refers_never (ref ∷ refs) = false
 
 -- the part that a JSON is under a kind
 abbrev pub read_part : Name → Json → Option Part
-read_part kind json = if bytes_eq kind owner_kind then option_map referring (id_in json) else (if is_among kind number_kinds then option_map counting (signed_in json) else None)
+read_part kind json = if is_among kind reference_kinds then option_map referring (id_in json) else (if is_among kind number_kinds then option_map counting (signed_in json) else None)
 
 -- the value that a JSON is for the global
 abbrev pub read_global : Name → Json → Option Json
 read_global name json = option_map json_of (signed_in json)
 
--- whether a part may stand under a kind: one reference under `owner`, a number of 64 signed bits under the other three
+-- whether a part may stand under a kind: one reference under `bond` and `owner`, a number of 64 signed bits under the other three
 abbrev pub admits : Name → Part → Bool
-admits kind part = if bytes_eq kind owner_kind then refers_once (id_in part.json) part.refs else (is_among kind number_kinds && (is_some (signed_in part.json) && refers_never part.refs))
+admits kind part = if is_among kind reference_kinds then refers_once (id_in part.json) part.refs else (is_among kind number_kinds && (is_some (signed_in part.json) && refers_never part.refs))

@@ -6,9 +6,7 @@ use Rattle.shred_world.specs.Worlds.{Slots}
 use Rattle.specs_layouts.specs.Parts.{HasNone}
 use Rattle.scene_basics.specs.declared.values.Value.{Value}
 use Rattle.scene_basics.specs.declared.values.Value.TheVariants.{NumbersValue, OwnersValue}
-use Rattle.scene_basics.specs.Names.{owner_kind}
 use Rattle.scene_basics.specs.Values.{Numbers, Owners, whole_at, owner_at}
-use Rattle.scene_basics.specs.Columns.{part_id}
 
 -- numbers of which there is none stand at an id, and at each other id what was there
 pub record HasNumbers (id : ResourceId) (w later : Slots Value) : Type 0 where
@@ -16,8 +14,8 @@ pub record HasNumbers (id : ResourceId) (w later : Slots Value) : Type 0 where
   pub none : HasNone (whole_at numbers)
   pub put : later ≡ slots.insert w id (Some (NumbersValue numbers))
 
--- so it is of owners
-pub record HasOwners (w later : Slots Value) : Type 0 where
+-- so it is of references to owners
+pub record HasOwners (id : ResourceId) (w later : Slots Value) : Type 0 where
   pub owners : Owners
   pub none : HasNone (owner_at owners)
-  pub put : later ≡ slots.insert w (part_id owner_kind) (Some (OwnersValue owners))
+  pub put : later ≡ slots.insert w id (Some (OwnersValue owners))

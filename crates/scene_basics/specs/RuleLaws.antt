@@ -1,12 +1,12 @@
 -- Lemmas on what the rules read and write, and their laws.
-use Rattle.std.proofs.Common.{◌≡◌, ◌^◌, ℕ, ℤ, pos, negsuc, Bool, true, false, ◌&&◌, cond, eqb, [], ◌∷◌, Option, Some, None, option_map, option_and_then, is_some, refl, sym, ◌∙◌, ap, subst, below_none, FitsSigned, All}
+use Rattle.std.proofs.Common.{◌≡◌, ◌^◌, ℕ, ℤ, pos, negsuc, Bool, true, false, ◌&&◌, ◌||◌, ◌⊎◌, inl, inr, cond, eqb, [], ◌∷◌, Option, Some, None, option_map, option_and_then, is_some, refl, sym, ◌∙◌, ap, subst, below_none, FitsSigned, All}
 use Rattle.std.specs.Int.{w64}
 use Rattle.std.specs.Str.{bytes_eq}
 use Rattle.std.specs.Ordering.{nat_cmp}
 use Rattle.std.specs.Cmp.Lexicographic.{slice_cmp}
 use Rattle.std.specs.declared.cmp.Ordering.TheVariants.{Less}
 use Rattle.std.proofs.lemmas.Option.{none-some, same_Some}
-use Rattle.std.proofs.lemmas.Bool.{false≢true}
+use Rattle.std.proofs.lemmas.Bool.{false≢true, or_cases}
 use Rattle.std.proofs.lemmas.Bool.Decides.{Decides-ltb, Decides-eqb}
 use Rattle.std.proofs.lemmas.Slice.Eq.{bytes_eq-Decides}
 use Rattle.std.proofs.lemmas.List.Elements.{All-nil, All-cons}
@@ -21,7 +21,7 @@ use Rattle.scene_basics.specs.declared.data.Datum.{Datum}
 use Rattle.scene_basics.specs.declared.data.Datum.TheVariants.{Whole, Owner}
 use Rattle.scene_basics.specs.declared.data.BasicSystem.{BasicSystem}
 use Rattle.scene_basics.specs.declared.data.BasicSystem.TheVariants.{Drift, Pull, Decay, Reap, Bud}
-use Rattle.scene_basics.specs.Names.{hp_kind, owner_kind, pos_kind, vel_kind, g_name, drift_kind, pull_kind, decay_kind, reap_kind, bud_kind, part_kinds, number_kinds}
+use Rattle.scene_basics.specs.Names.{bond_kind, hp_kind, owner_kind, pos_kind, vel_kind, g_name, drift_kind, pull_kind, decay_kind, reap_kind, bud_kind, part_kinds, number_kinds, reference_kinds}
 use Rattle.scene_basics.specs.Numbers.{json_of, counting, referring, part_of, whole_in, is_signed, if_signed, signed_in, id_in, refers_once, refers_never, read_part, read_global, admits}
 use Rattle.scene_basics.specs.Systems.{kind_of, system_named, declared_access, facts_of, configured, basics}
 
@@ -56,13 +56,20 @@ pub refers_once-none : (id : Option ℕ) → refers_once id [] ≡ false
 refers_once-none None = refl
 refers_once-none (Some id) = refl
 
--- one of the kinds of numbers is not `owner`
-pub number_kind-owner : (kind : Name) → bytes_eq kind owner_kind ≡ true → is_among kind number_kinds ≡ false
-number_kind-owner kind is = subst (λ (other : Name). is_among other number_kinds ≡ false) (sym ((bytes_eq-Decides kind owner_kind).0 is)) refl
+-- a kind of references is none of numbers
+pub number_kind-reference : (kind : Name) → is_among kind reference_kinds ≡ true → is_among kind number_kinds ≡ false
+number_kind-reference kind is = by (or_cases (bytes_eq kind bond_kind) (bytes_eq kind owner_kind || false) is)
+  where
+    by : (bytes_eq kind bond_kind ≡ true) ⊎ ((bytes_eq kind owner_kind || false) ≡ true) → is_among kind number_kinds ≡ false
+    by (inl bond) = subst (λ (other : Name). is_among other number_kinds ≡ false) (sym ((bytes_eq-Decides kind bond_kind).0 bond)) refl
+    by (inr rest) = elim (or_cases (bytes_eq kind owner_kind) false rest) [
+      | inl owner ↦ subst (λ (other : Name). is_among other number_kinds ≡ false) (sym ((bytes_eq-Decides kind owner_kind).0 owner)) refl
+      | inr never ↦ absurd (false≢true never)
+    ]
 
 -- a number that fits is of the kinds of numbers
 pub admits-counting : (kind : Name) (z : ℤ) → FitsSigned w64 z → is_among kind number_kinds ≡ admits kind (counting z)
-admits-counting kind z fits = here (bytes_eq kind owner_kind) refl
+admits-counting kind z fits = here (is_among kind reference_kinds) refl
   where
     signed : (is_some (signed_in (json_of z)) && true) ≡ true
     signed = ap (λ o. is_some o && true) (signed_in-json_of z (is_signed-fits z fits))
@@ -71,13 +78,13 @@ admits-counting kind z fits = here (bytes_eq kind owner_kind) refl
     among true = sym signed
     among false = refl
 
-    here : (b : Bool) → bytes_eq kind owner_kind ≡ b → is_among kind number_kinds ≡ cond b (refers_once (id_in (json_of z)) []) (is_among kind number_kinds && (is_some (signed_in (json_of z)) && true))
-    here true is = number_kind-owner kind is ∙ sym (refers_once-none (id_in (json_of z)))
+    here : (b : Bool) → is_among kind reference_kinds ≡ b → is_among kind number_kinds ≡ cond b (refers_once (id_in (json_of z)) []) (is_among kind number_kinds && (is_some (signed_in (json_of z)) && true))
+    here true is = number_kind-reference kind is ∙ sym (refers_once-none (id_in (json_of z)))
     here false is = among (is_among kind number_kinds)
 
 -- what is read under a kind is of that kind
 pub law-reads_admitted : (kind : Name) (json : Json) (part : Part) → read_part kind json ≡ Some part → admits kind part ≡ true
-law-reads_admitted kind json part read = here (bytes_eq kind owner_kind) (is_among kind number_kinds) read
+law-reads_admitted kind json part read = here (is_among kind reference_kinds) (is_among kind number_kinds) read
   where
     owner : (o : Option ℕ) → option_map referring o ≡ Some part → refers_once (id_in part.json) part.refs ≡ true
     owner None e = absurd (none-some part e)
@@ -94,7 +101,7 @@ law-reads_admitted kind json part read = here (bytes_eq kind owner_kind) (is_amo
 
 -- what is written is read back under a kind that admits it
 pub law-reads_back : (kind : Name) (datum : Datum) → admits kind (part_of datum) ≡ true → read_part kind (part_of datum).json ≡ Some (part_of datum)
-law-reads_back kind (Whole z) admitted = here (bytes_eq kind owner_kind) (is_among kind number_kinds) admitted
+law-reads_back kind (Whole z) admitted = here (is_among kind reference_kinds) (is_among kind number_kinds) admitted
   where
     signed : (o : Option ℤ) → o ≡ signed_in (json_of z) → (is_some o && true) ≡ true → o ≡ Some z
     signed None is e = absurd (false≢true e)
@@ -107,7 +114,7 @@ law-reads_back kind (Whole z) admitted = here (bytes_eq kind owner_kind) (is_amo
     here true c e = absurd (false≢true (sym (refers_once-none (id_in (json_of z))) ∙ e))
     here false true e = ap (option_map counting) (signed (signed_in (json_of z)) refl e)
     here false false e = absurd (false≢true e)
-law-reads_back kind (Owner id) admitted = here (bytes_eq kind owner_kind) (is_among kind number_kinds) (is_some (signed_in (number (unsigned id)))) admitted
+law-reads_back kind (Owner id) admitted = here (is_among kind reference_kinds) (is_among kind number_kinds) (is_some (signed_in (number (unsigned id)))) admitted
   where
     here : (b c d : Bool) → cond b (eqb id id) (c && (d && false)) ≡ true → cond b (Some (referring id)) (cond c (option_map counting (signed_in (number (unsigned id)))) None) ≡ Some (referring id)
     here true c d e = refl
@@ -140,10 +147,12 @@ Below one other = slice_cmp nat_cmp one other ≡ Less
 
 pub law-kinds_ascend : Ascend part_kinds
 law-kinds_ascend =
-    AllPairs-cons Below hp_kind (owner_kind ∷ pos_kind ∷ vel_kind ∷ []) (All-cons (Below hp_kind) owner_kind (pos_kind ∷ vel_kind ∷ []) refl (All-cons (Below hp_kind) pos_kind (vel_kind ∷ []) refl (All-cons (Below hp_kind) vel_kind [] refl (All-nil (Below hp_kind)))))
+    AllPairs-cons Below bond_kind (hp_kind ∷ owner_kind ∷ pos_kind ∷ vel_kind ∷ [])
+    (All-cons (Below bond_kind) hp_kind (owner_kind ∷ pos_kind ∷ vel_kind ∷ []) refl (All-cons (Below bond_kind) owner_kind (pos_kind ∷ vel_kind ∷ []) refl (All-cons (Below bond_kind) pos_kind (vel_kind ∷ []) refl (All-cons (Below bond_kind) vel_kind [] refl (All-nil (Below bond_kind))))))
+    (AllPairs-cons Below hp_kind (owner_kind ∷ pos_kind ∷ vel_kind ∷ []) (All-cons (Below hp_kind) owner_kind (pos_kind ∷ vel_kind ∷ []) refl (All-cons (Below hp_kind) pos_kind (vel_kind ∷ []) refl (All-cons (Below hp_kind) vel_kind [] refl (All-nil (Below hp_kind)))))
     (AllPairs-cons Below owner_kind (pos_kind ∷ vel_kind ∷ []) (All-cons (Below owner_kind) pos_kind (vel_kind ∷ []) refl (All-cons (Below owner_kind) vel_kind [] refl (All-nil (Below owner_kind))))
     (AllPairs-cons Below pos_kind (vel_kind ∷ []) (All-cons (Below pos_kind) vel_kind [] refl (All-nil (Below pos_kind)))
-    (AllPairs-cons Below vel_kind [] (All-nil (Below vel_kind)) (λ i j d lt within. absurd (below_none (λ (k : ℕ). ⊥) j within)))))
+    (AllPairs-cons Below vel_kind [] (All-nil (Below vel_kind)) (λ i j d lt within. absurd (below_none (λ (k : ℕ). ⊥) j within))))))
 
 pub law-globals_ascend : Ascend (g_name ∷ [])
 law-globals_ascend = AllPairs-cons Below g_name [] (All-nil (Below g_name)) (λ i j d lt within. absurd (below_none (λ (k : ℕ). ⊥) j within))

@@ -7,7 +7,7 @@ use Rattle.scene_model.specs.Rulebook.{Access, Facts, Described, misshapen, unkn
 use Rattle.scene_basics.specs.declared.data.BasicSystem.{BasicSystem}
 use Rattle.scene_basics.specs.declared.data.BasicSystem.TheVariants.{Drift, Pull, Decay, Reap, Bud}
 use Rattle.scene_basics.specs.declared.data.Ask.TheVariants.{Deaths, Births}
-use Rattle.scene_basics.specs.Names.{hp_kind, pos_kind, vel_kind, g_name, drift_kind, pull_kind, decay_kind, reap_kind, bud_kind, part_kinds}
+use Rattle.scene_basics.specs.Names.{hp_kind, pos_kind, vel_kind, g_name, drift_kind, pull_kind, decay_kind, reap_kind, bud_kind, part_kinds, owns_holder}
 use Rattle.scene_basics.specs.Numbers.{read_part, read_global, admits}
 use Rattle.scene_basics.specs.Gains.{Gaining, number_at, global_number}
 use Rattle.scene_basics.specs.Asks.{Asking}
@@ -74,6 +74,7 @@ Makes (Some Bud) old outcome = Buds old outcome
 abbrev pub basics : Book
 basics = record {
   part_names = part_kinds;
+  owning = owns_holder;
   global_names = g_name ∷ [];
   read_part = read_part;
   read_global = read_global;

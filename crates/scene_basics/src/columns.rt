@@ -1,4 +1,4 @@
-//! The parts of the four kinds in the values of a world.
+//! The parts of the five kinds in the values of a world.
 ghost use Rattle.std.specs.Prelude.{◌≡◌, ◌<◌, ◌++◌, [], length, map, None, IfOk, OnOk, OnErr, option_map};
 ghost use Rattle.specs_layouts.specs.Masked.{Agrees};
 ghost use Rattle.specs_layouts.specs.Shows.{Shows};
@@ -11,7 +11,7 @@ ghost use Rattle.scene_basics.specs.Columns.{part_id, number_column, owner_colum
 ghost use Rattle.scene_basics.specs.Columns.{number_events, number_emits, owner_events, owner_emits};
 ghost use Rattle.scene_basics.specs.Registering.{HasNumbers, HasOwners};
 
-use crate::data::{Datum, HP, OWNER, POS, VEL};
+use crate::data::{BOND, Datum, HP, OWNER, POS, VEL};
 use crate::values::{Owner, Value, Whole};
 use hibitset::BitSet;
 use scene_world::{AnyStore, Store, catch_up_reader, gain_reader, scene_storage, told_indices};
@@ -33,6 +33,9 @@ pub(crate) fn part_id(kind: &str) -> ResourceId
     if kind == POS {
         return ResourceId::from_type_id(6);
     }
+    if kind == BOND {
+        return ResourceId::from_type_id(9);
+    }
     ResourceId::from_type_id(7)
 }
 
@@ -52,12 +55,17 @@ fn register_numbers(
     }
 }
 
-/// Puts owners of which there is none into a world. Errors: want of memory.
-fn register_owners(world: &mut World<Value>, store: Store, alloc: Global) -> Result<(), AllocError>
-    ensures { OnOk result (HasOwners world.old world.new) }
+/// Puts owners of a kind, of which there is none, into a world. Errors: want of memory.
+fn register_owners(
+    world: &mut World<Value>,
+    kind: &str,
+    store: Store,
+    alloc: Global,
+) -> Result<(), AllocError>
+    ensures { OnOk result (HasOwners (part_id kind.now) world.old world.new) }
 {
     let owners: MaskedStorage<Owner> = MaskedStorage::new(alloc, scene_storage(alloc, store));
-    match world.insert_raw(part_id(OWNER), Value::OwnersValue(owners)) {
+    match world.insert_raw(part_id(kind), Value::OwnersValue(owners)) {
         Ok(_) => Ok(()),
         Err(_) => Err(AllocError),
     }
@@ -71,8 +79,9 @@ pub(crate) fn register_all(
 ) -> Result<(), AllocError>
     ensures { OnOk result (Registers basic_columns world.old world.new) }
 {
+    register_owners(world, BOND, store, alloc)?;
     register_numbers(world, HP, store, alloc)?;
-    register_owners(world, store, alloc)?;
+    register_owners(world, OWNER, store, alloc)?;
     register_numbers(world, POS, store, alloc)?;
     register_numbers(world, VEL, store, alloc)
 }

@@ -1,5 +1,8 @@
 //! The parts, the systems and what a system adds.
 
+/// The kind of parts that are a reference to the entity with which the holder dies.
+pub const BOND: &str = "bond";
+
 /// The kind of parts that are an entity's health.
 pub const HP: &str = "hp";
 
@@ -20,7 +23,7 @@ pub const G: &str = "g";
 pub enum Datum {
     /// The number of a `hp`, a `pos` or a `vel`.
     Whole(i64),
-    /// The id that an `owner` refers to.
+    /// The id that a `bond` or an `owner` refers to.
     Owner(u64),
 }
 

@@ -30,12 +30,12 @@ pub fn a_turn_keeps_references()
 /// A document that can begin has one report and reaches one scene, but where a frame is refused for want of memory or of a thread, or
 /// at a limit of the world's entities.
 pub fn a_document_has_one_outcome()
-    ensures report { (limit : ℕ) (draft : Draft) (one other : Report) (scene after : PlainScene)
-        → CanBegin basics draft → HadMeans one → HadMeans other → Ran basics limit draft one scene
-        → Ran basics limit draft other after → one ≡ other }
-    ensures scene { (limit : ℕ) (draft : Draft) (one other : Report) (scene after : PlainScene)
-        → CanBegin basics draft → HadMeans one → HadMeans other → Ran basics limit draft one scene
-        → Ran basics limit draft other after → scene ≡ after }
+    ensures report { (bounds : Bounds) (draft : Draft) (one other : Report) (scene after : PlainScene)
+        → CanBegin basics draft → HadMeans one → HadMeans other → Ran basics bounds draft one scene
+        → Ran basics bounds draft other after → one ≡ other }
+    ensures scene { (bounds : Bounds) (draft : Draft) (one other : Report) (scene after : PlainScene)
+        → CanBegin basics draft → HadMeans one → HadMeans other → Ran basics bounds draft one scene
+        → Ran basics bounds draft other after → scene ≡ after }
 {
     one_outcome(&Basics);
 }

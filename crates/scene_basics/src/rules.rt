@@ -4,18 +4,18 @@ ghost use Rattle.std.proofs.Common.{rules};
 ghost use Rattle.serde_json.specs.View.{view};
 ghost use Rattle.scene_model.specs.Parts.{is_among};
 ghost use Rattle.scene_model.specs.Declaring.{access_of, texts};
-ghost use Rattle.scene_basics.specs.Names.{number_kinds};
+ghost use Rattle.scene_basics.specs.Names.{number_kinds, reference_kinds};
 ghost use Rattle.serde_json.specs.Data.{null};
 ghost use Rattle.scene_basics.specs.Numbers.{part_of, json_of, signed_in};
 ghost use Rattle.scene_basics.specs.Systems.{basics, facts_of, kind_of, system_named};
 
-use crate::data::{BasicSystem, Datum, G, HP, OWNER, POS, VEL};
+use crate::data::{BOND, BasicSystem, Datum, G, HP, OWNER, POS, VEL};
 use scene::{DocumentRules, ReadError, RunningTime, SystemAccess};
 use serde_json::Value;
 use std::alloc::{AllocError, Global};
 
-/// The rules of the program: the parts `hp`, `owner`, `pos` and `vel`, the global `g`, and the systems `drift`, `pull`,
-/// `decay`, `reap` and `bud`.
+/// The rules of the program: the parts `bond`, `hp`, `owner`, `pos` and `vel`, the global `g`, and the systems `drift`,
+/// `pull`, `decay`, `reap` and `bud`. An entity dies with the one to which its `bond` refers.
 #[derive(Clone, Copy, Debug)]
 pub struct Basics;
 
@@ -46,6 +46,13 @@ fn signed(value: &Value) -> Option<i64>
     ensures { result ≡ signed_in (view value.now) }
 {
     value.as_i64()
+}
+
+/// Whether the parts of a kind are references.
+pub(crate) fn is_reference_kind(kind: &str) -> bool
+    ensures { result ≡ is_among kind.now reference_kinds }
+{
+    kind == BOND || kind == OWNER
 }
 
 /// Whether the parts of a kind are numbers.
@@ -107,7 +114,7 @@ impl DocumentRules for Basics {
     ghost made_by = { λ _ _. Unit {0} };
 
     fn part_names(&self) -> &[&'static str] {
-        &[HP, OWNER, POS, VEL]
+        &[BOND, HP, OWNER, POS, VEL]
     }
 
     fn global_names(&self) -> &[&'static str] {
@@ -115,7 +122,7 @@ impl DocumentRules for Basics {
     }
 
     fn read_data(&self, _alloc: Global, kind: &str, value: &Value) -> Result<Datum, ReadError> {
-        if kind == OWNER {
+        if is_reference_kind(kind) {
             return value.as_u64().map(Datum::Owner).ok_or(ReadError::Shape);
         }
         signed(value).map(Datum::Whole).ok_or(ReadError::Shape)
@@ -131,7 +138,7 @@ impl DocumentRules for Basics {
     fn admits(&self, kind: &str, datum: &Datum) -> bool {
         match *datum {
             Datum::Whole(_whole) => is_number_kind(kind),
-            Datum::Owner(_) => kind == OWNER,
+            Datum::Owner(_) => is_reference_kind(kind),
         }
     }
 

@@ -13,8 +13,8 @@ use crate::columns::{
     owner_reader, part_id, push_owner, put_number, put_owner, register_all, take_number,
     take_owner, told_numbers, told_owners,
 };
-use crate::data::{Ask, BasicSystem, Datum, Gain, HP, OWNER, POS, VEL};
-use crate::rules::Basics;
+use crate::data::{Ask, BOND, BasicSystem, Datum, Gain, HP, POS, VEL};
+use crate::rules::{Basics, is_reference_kind};
 use crate::values::Value;
 use hibitset_sets::BitSet;
 use scene_model::Queue;
@@ -34,7 +34,7 @@ impl Rules for Basics {
 
     ghost does = { λ system. Makes (Some system) };
 
-    ghost named_so = { λ _. record { parts = refl; globals = refl } };
+    ghost named_so = { λ _. record { parts = refl; owning = refl; globals = refl } };
 
     ghost apart = { basic-apart };
 
@@ -42,6 +42,10 @@ impl Rules for Basics {
 
     fn part_id(kind: &str) -> ResourceId {
         part_id(kind)
+    }
+
+    fn owning(kind: &str) -> bool {
+        kind == BOND
     }
 
     fn global_id(_name: &str) -> ResourceId {
@@ -60,14 +64,14 @@ impl Rules for Basics {
         named: &[Entity],
     ) -> Result<(), AllocError> {
         match datum {
-            Datum::Owner(id) if kind == OWNER => put_owner(value, index, *id, named),
-            Datum::Whole(whole) if kind != OWNER => put_number(value, index, *whole),
+            Datum::Owner(id) if is_reference_kind(kind) => put_owner(value, index, *id, named),
+            Datum::Whole(whole) if !is_reference_kind(kind) => put_number(value, index, *whole),
             _ => Err(AllocError),
         }
     }
 
     fn take(value: &mut Value, kind: &str, index: u32) -> Result<(), AllocError> {
-        if kind == OWNER {
+        if is_reference_kind(kind) {
             take_owner(value, index)
         } else {
             take_number(value, index)
@@ -75,7 +79,7 @@ impl Rules for Basics {
     }
 
     fn reader(value: &mut Value, kind: &str) -> Result<ReaderId, AllocError> {
-        if kind == OWNER {
+        if is_reference_kind(kind) {
             owner_reader(value)
         } else {
             number_reader(value)
@@ -88,7 +92,7 @@ impl Rules for Basics {
         reader: &ReaderId,
         into: &mut BitSet,
     ) -> Result<(), AllocError> {
-        if kind == OWNER {
+        if is_reference_kind(kind) {
             told_owners(value, reader, into)
         } else {
             told_numbers(value, reader, into)
@@ -96,7 +100,7 @@ impl Rules for Basics {
     }
 
     fn catch_up(value: &mut Value, kind: &str, reader: &ReaderId) {
-        if kind == OWNER {
+        if is_reference_kind(kind) {
             catch_up_owners(value, reader);
         } else {
             catch_up_numbers(value, reader);
@@ -110,7 +114,7 @@ impl Rules for Basics {
         named: &mut Vec<Entity>,
     ) -> Result<(), AllocError> {
         match value {
-            Value::OwnersValue(_) if kind == OWNER => push_owner(value, index, named),
+            Value::OwnersValue(_) if is_reference_kind(kind) => push_owner(value, index, named),
             _ => Ok(()),
         }
     }
@@ -122,7 +126,7 @@ impl Rules for Basics {
         ids: &[u64],
         _alloc: Global,
     ) -> Result<Option<Datum>, AllocError> {
-        if kind == OWNER {
+        if is_reference_kind(kind) {
             Ok(owner_datum(value, index, ids))
         } else {
             Ok(number_datum(value, index, ids))
@@ -131,8 +135,15 @@ impl Rules for Basics {
 
     fn names_nobody(value: &Value, kind: &str) -> bool {
         match value {
-            Value::OwnersValue(owners) if kind == OWNER => owners.mask().is_empty(),
+            Value::OwnersValue(owners) if is_reference_kind(kind) => owners.mask().is_empty(),
             _ => true,
+        }
+    }
+
+    fn holders<'a>(value: &'a Value, kind: &str) -> Option<&'a BitSet> {
+        match value {
+            Value::OwnersValue(owners) if is_reference_kind(kind) => Some(owners.mask()),
+            _ => None,
         }
     }
 
@@ -143,11 +154,11 @@ impl Rules for Basics {
         alloc: Global,
     ) -> Result<Option<Vec<(u64, Option<Datum>)>>, AllocError> {
         match value {
-            Value::NumbersValue(numbers) if kind != OWNER => {
+            Value::NumbersValue(numbers) if !is_reference_kind(kind) => {
                 let data = numbers_each(numbers, entities, alloc)?;
                 Ok(Some(data))
             }
-            Value::OwnersValue(owners) if kind == OWNER && owners.mask().is_empty() => {
+            Value::OwnersValue(owners) if is_reference_kind(kind) && owners.mask().is_empty() => {
                 Ok(Some(Vec::new(alloc)))
             }
             _ => Ok(None),

@@ -21,7 +21,7 @@ impl Component for Whole {
     type Storage = SceneStorage<Whole>;
 }
 
-/// The entity that owns an entity.
+/// The entity that owns an entity, or to which it is bound.
 #[derive(Clone, Copy, Debug, PartialEq, Eq)]
 pub struct Owner(pub Entity);
 
@@ -31,7 +31,7 @@ impl Component for Owner {
 
 /// What a world of the program's scenes holds.
 ///
-/// Each of the kinds `hp`, `pos` and `vel` has numbers of its own, under an id of its own.
+/// Each of the kinds `hp`, `pos` and `vel` has numbers of its own, under an id of its own, and `bond` and `owner` have owners so.
 #[derive(Drop)]
 pub enum Value {
     /// The entities.
@@ -44,7 +44,7 @@ pub enum Value {
     QueueValue(Queue<Datum>),
     /// The numbers of one kind.
     NumbersValue(MaskedStorage<Whole>),
-    /// The owners.
+    /// The owners of one kind.
     OwnersValue(MaskedStorage<Owner>),
     /// The global.
     GlobalValue(i64),

@@ -16,7 +16,7 @@ use Rattle.scene_model.specs.Commands.{apply, changed, skipped, refs_live, ref_l
 use Rattle.scene_model.specs.Laws.{refs_to}
 use Rattle.scene_world.specs.Stored.{Stored}
 use Rattle.scene_world.specs.Rolls.{Roll, is_life, ids_in}
-use Rattle.scene_world.specs.Standing.{Kinds, roll_of, plain_of}
+use Rattle.scene_world.specs.Standing.{Kinds, roll_of, owning_in, plain_of}
 use Rattle.scene_world.specs.Lent.{StandApart}
 use Rattle.scene_world.proofs.CallerLemmas.{living-lives, life-is, life-there}
 use Rattle.scene_commands.specs.Acts.{seen_of, entity_under, AreUnder, WasBorn, MayAct, Acts, SetsColumn, PutsPart}
@@ -92,7 +92,7 @@ module _ {V : Type 0} (kinds : Kinds V) (apart : StandApart kinds) (kind : Name)
             live = ap (list_all (ref_lives (ids_in old))) (sym refs) ∙ all-live old ids named found
 
       -- it is skipped where one of its references isn't to one that lives
-      pub put-lacks : AreUnder old ids None → apply (put id kind part) (plain_of kinds (seen_of w)) ≡ skipped
+      pub put-lacks : AreUnder old ids None → apply (owning_in kinds) (put id kind part) (plain_of kinds (seen_of w)) ≡ skipped
       put-lacks lacks = by (lives id (ids_in old)) (refs_live (ids_in old) part) (ap (list_all (ref_lives (ids_in old))) (sym refs) ∙ sym (one-lacks old ids) ∙ lacks)
         where
           made : PlainScene
@@ -117,8 +117,8 @@ module _ {V : Type 0} (kinds : Kinds V) (apart : StandApart kinds) (kind : Name)
     nobody : lives id (ids_in old) ≡ false
     nobody = lives-under old id ∙ ap is_some none
 
-    pub put-skips : (part : Part) → apply (put id kind part) (plain_of kinds (seen_of w)) ≡ skipped
+    pub put-skips : (part : Part) → apply (owning_in kinds) (put id kind part) (plain_of kinds (seen_of w)) ≡ skipped
     put-skips part = ap (λ b. cond (b && refs_live (ids_in old) part) (changed (record (plain_of kinds (seen_of w)) { part = with_part id kind (Some part) (plain_of kinds (seen_of w)).part })) skipped) nobody
 
-    pub take-skips : apply (take id kind) (plain_of kinds (seen_of w)) ≡ skipped
+    pub take-skips : apply (owning_in kinds) (take id kind) (plain_of kinds (seen_of w)) ≡ skipped
     take-skips = ap (λ b. cond b (changed (record (plain_of kinds (seen_of w)) { part = with_part id kind None (plain_of kinds (seen_of w)).part })) skipped) nobody

@@ -4,21 +4,24 @@ use Rattle.std.specs.Prelude.{IsSome, option_and_then}
 use Rattle.shred_world.specs.declared.resource_id.ResourceId.{ResourceId}
 use Rattle.shred_world.specs.ResourceIds.{same_id}
 use Rattle.shred_world.specs.Worlds.{Slots}
-use Rattle.specs_entity.specs.Births.{Births, count, living, IsBorn, IsAlive, LivesOn, BringsToLife, Continues}
+use Rattle.specs_entity.specs.Births.{Births, count, living, IsBorn, IsAlive, LivesOn, BringsToLife, Continues, newborn, allocated as allocated_births}
 use Rattle.specs_entity.specs.Life.{LifeAt}
 use Rattle.specs_markers.specs.Simple.{Noting, Gives, allocated, given_id}
 use Rattle.scene_world.specs.Standing.{Kinds, roll_of}
 use Rattle.scene_commands.specs.Acts.{seen_of}
 use Rattle.scene_commands.specs.Elsewhere.{Notes}
 use Rattle.scene_commands.specs.Newborns.{ComesToLife}
+use Rattle.scene_commands.specs.Bounds.{Grows}
+use Rattle.scene_commands.proofs.BoundLemmas.{grows-by-birth}
 use Rattle.scene_commands.proofs.DeathLemmas.{births-read, noting-read}
 
 module _ {V : Type 0} (kinds : Kinds V) (w later : Slots V) (was back : V) where
   -- entities with one more
   pub comes-to-life : seen_of w kinds.entities_id ≡ Some was → seen_of later kinds.entities_id ≡ Some back → ((other : ResourceId) → same_id other kinds.entities_id ≡ false → seen_of later other ≡ seen_of w other)
       → (before after : Births) → kinds.births was ≡ Some before → kinds.births back ≡ Some after → (entity : LifeAt) → 0 < entity.generation.number → ¬ (IsBorn before entity) → IsAlive after entity → BringsToLife before entity after → LivesOn before after → Continues before after
+      → entity ≡ newborn before → after ≡ allocated_births before
       → ComesToLife kinds entity (seen_of w) (seen_of later)
-  comes-to-life stood stands others before after old new entity counts unborn alive brings live_on continues = record {
+  comes-to-life stood stands others before after old new entity counts unborn alive brings live_on continues next made = record {
     unborn = subst (λ b. ¬ (IsBorn b entity)) (sym was-is) unborn;
     counts = counts;
     alive = subst (λ b. living b entity.id ≡ Some entity.generation) (sym now-is) alive;
@@ -27,6 +30,8 @@ module _ {V : Type 0} (kinds : Kinds V) (w later : Slots V) (was back : V) where
     births = λ at. subst (λ b. count b at ≤ count (roll_of kinds (seen_of later)).births at) (sym was-is) (subst (λ b. count before at ≤ count b at) (sym now-is) (continues.births at));
     there = subst (λ o. IsSome o) (sym (ap (option_and_then kinds.births) stands ∙ new)) refl;
     others = others;
+    grows = subst (λ b. Grows b (roll_of kinds (seen_of later)).births 0 1) (sym was-is) (subst (λ b. Grows before b 0 1) (sym now-is)
+        (grows-by-birth before after made (subst (λ one. BringsToLife before one after) next brings)));
   }
     where
       was-is : (roll_of kinds (seen_of w)).births ≡ before

@@ -1,5 +1,5 @@
 -- The marker of an entity is taken out, its id is forgotten, and the entity dies.
-use Rattle.std.proofs.Common.{◌≡◌, ◌≤◌, ℕ, Bool, true, false, cond, eqb, ◌||◌, [], ◌∷◌, Option, Some, None, refl, ap, sym, ◌∙◌, subst}
+use Rattle.std.proofs.Common.{◌≡◌, ◌≤◌, ℕ, Bool, true, false, cond, eqb, ◌||◌, List, [], ◌∷◌, Option, Some, None, refl, ap, sym, ◌∙◌, subst}
 use Rattle.std.specs.Prelude.{IsSome, option_and_then}
 use Rattle.std.specs.Option.{option_flatten, option_map_or, unwrap_or}
 use Rattle.std.specs.FinMap as slots
@@ -9,7 +9,8 @@ use Rattle.shred_world.specs.ResourceIds.{same_id}
 use Rattle.shred_world.specs.Worlds.{Slots, value_at}
 use Rattle.shred_world.specs.Bundles.{readable, slot_of}
 use Rattle.shred_world.proofs.CallerLemmas.{ids_total, get-insert_here}
-use Rattle.specs_entity.specs.Births.{Births, count, living, none_born, is_named, LivesBut, Continues}
+use Rattle.specs_entity.specs.Births.{Births, count, living, none_born, is_named, LivesBut, Continues, all_buried}
+use Rattle.specs_entity.specs.Closures.{IsClosure}
 use Rattle.specs_entity.specs.Life.{LifeAt}
 use Rattle.specs_layouts.specs.Channels.{no_log}
 use Rattle.specs_layouts.specs.Parts.{Puts}
@@ -20,7 +21,10 @@ use Rattle.scene_world.specs.Changes.{but_at}
 use Rattle.scene_world.proofs.CallerLemmas.{noted-forgotten, shows-seen}
 use Rattle.scene_commands.specs.Acts.{seen_of}
 use Rattle.scene_commands.specs.Deaths.{Forgets, LetsDie}
+use Rattle.scene_commands.specs.Owning.{Falls}
 use Rattle.scene_commands.specs.Elsewhere.{SetsMark}
+use Rattle.scene_commands.specs.Bounds.{Grows}
+use Rattle.scene_commands.proofs.BoundLemmas.{grows-by-death}
 use Rattle.scene_commands.proofs.LookLemmas.{seen-value}
 
 -- a value that was taken out, and another that came back in its place
@@ -100,15 +104,16 @@ module _ {V : Type 0} (kinds : Kinds V) (w later : Slots V) (was back : V) where
 
   -- entities of which one died
   pub lets-die : seen_of w kinds.entities_id ≡ Some was → seen_of later kinds.entities_id ≡ Some back → ((other : ResourceId) → same_id other kinds.entities_id ≡ false → seen_of later other ≡ seen_of w other)
-      → (before after : Births) → kinds.births was ≡ Some before → kinds.births back ≡ Some after → (entity : LifeAt) → LivesBut (is_named (entity ∷ [])) before after → Continues before after
+      → (before after : Births) → kinds.births was ≡ Some before → kinds.births back ≡ Some after → (entity : LifeAt) → LivesBut (is_named (entity ∷ [])) before after → Continues before after → after ≡ all_buried before (entity.id ∷ [])
       → LetsDie kinds entity.id (seen_of w) (seen_of later)
-  lets-die stood stands others before after old new entity lives continues = record {
+  lets-die stood stands others before after old new entity lives continues buried = record {
     lives = λ at.
         ap (λ b. living b at) now-is ∙ lives at ∙ ap (λ b. cond b None (living before at)) (only (eqb at entity.id))
         ∙ ap (λ b. cond (eqb at entity.id) None (living b at)) (sym was-is);
     births = λ at. subst (λ b. count b at ≤ count (roll_of kinds (seen_of later)).births at) (sym was-is) (subst (λ b. count before at ≤ count b at) (sym now-is) (continues.births at));
     there = subst (λ o. IsSome o) (sym (ap (option_and_then kinds.births) stands ∙ new)) refl;
     others = others;
+    grows = subst (λ b. Grows b (roll_of kinds (seen_of later)).births 0 0) (sym was-is) (subst (λ b. Grows before b 0 0) (sym now-is) (grows-by-death before after entity.id buried));
   }
     where
       was-is : (roll_of kinds (seen_of w)).births ≡ before
@@ -120,3 +125,19 @@ module _ {V : Type 0} (kinds : Kinds V) (w later : Slots V) (was back : V) where
       only : (b : Bool) → (b || false) ≡ b
       only true = refl
       only false = refl
+
+  -- entities that were taken out to see who falls with one of them
+  pub falls : seen_of w kinds.entities_id ≡ Some was → seen_of later kinds.entities_id ≡ Some back → ((other : ResourceId) → same_id other kinds.entities_id ≡ false → seen_of later other ≡ seen_of w other)
+      → (before after : Births) → kinds.births was ≡ Some before → kinds.births back ≡ Some after → after ≡ before → (entity : LifeAt) (pairs : List (LifeAt × LifeAt)) (entities : List LifeAt) → IsClosure before (entity ∷ []) pairs entities
+      → Falls kinds entity pairs (seen_of w) (seen_of later) entities
+  falls stood stands others before after old new same entity pairs entities closure = record {
+    closure = subst (λ births. IsClosure births (entity ∷ []) pairs entities) (sym was-is) closure;
+    keeps = record {
+      births = births-read kinds later back after stands new ∙ same ∙ sym was-is;
+      there = subst (λ o. IsSome o) (sym (ap (option_and_then kinds.births) stands ∙ new)) refl;
+      others = others;
+    };
+  }
+    where
+      was-is : (roll_of kinds (seen_of w)).births ≡ before
+      was-is = births-read kinds w was before stood old

@@ -1,5 +1,5 @@
 -- An entity that begins to live in a world, under an id of its own.
-use Rattle.std.proofs.Common.{◌≡◌, ◌<◌, ◌≤◌, ◌+◌, ℕ, Bool, true, false, cond, eqb, max, [], ◌∷◌, Option, Some, None, refl, ap, sym, ◌∙◌, subst, arith, All}
+use Rattle.std.proofs.Common.{◌≡◌, ◌<◌, ◌≤◌, ◌+◌, ℕ, Bool, true, false, cond, eqb, max, length, [], ◌∷◌, Option, Some, None, refl, ap, sym, ◌∙◌, subst, arith, All}
 use Rattle.std.specs.Prelude.{IsSome, option_and_then}
 use Rattle.std.specs.Option.{option_map_or, unwrap_or}
 use Rattle.std.specs.FinMap as map
@@ -19,7 +19,7 @@ use Rattle.scene_world.specs.Rolls.{Roll, ids_in, part_in}
 use Rattle.scene_world.specs.Standing.{Sight, Kinds, roll_of, column_of, column_in, value_of}
 use Rattle.scene_world.specs.Lent.{StandApart, entities, markers, allocator, parts, value, queue}
 use Rattle.scene_world.specs.Changes.{but_at, IsAnother, IsUnnamed}
-use Rattle.scene_world.proofs.CallerLemmas.{living-lives}
+use Rattle.scene_world.proofs.CallerLemmas.{living-lives, ids-ascend}
 use Rattle.scene_commands.specs.Acts.{seen_of, WasBorn, MayAct}
 use Rattle.scene_commands.specs.Newborns.{ComesToLife, Marks}
 use Rattle.scene_commands.proofs.ActLemmas.{life-counted}
@@ -27,6 +27,8 @@ use Rattle.scene_commands.proofs.SpawnLemmas.{born-another}
 use Rattle.scene_commands.specs.Entries.{with_entities}
 use Rattle.scene_commands.specs.Becoming.{Becomes}
 use Rattle.scene_commands.specs.Notes.{NotesUnder}
+use Rattle.scene_commands.specs.Bounds.{Grows}
+use Rattle.scene_commands.proofs.BoundLemmas.{grows-as, longer-with}
 use Rattle.scene_commands.proofs.RollLemmas.{apart-turned, all-ascending, roll-entered, ids-entered, part-stays}
 
 -- what is noted where an id was asked for
@@ -108,6 +110,10 @@ module _ {V : Type 0} (kinds : Kinds V) (apart : StandApart kinds) (w : Slots V)
       (all-ascending (λ one. one < max old.noting.next (id + 1)) (id ∷ ids_in old) (All-cons (λ one. one < max old.noting.next (id + 1)) id (ids_in old) (omega arith)
       (All-weaker (λ one. one < old.noting.next) (λ one. one < max old.noting.next (id + 1)) (λ one lower. omega (arith, lower)) (ids_in old) may.below))))
 
+  -- more live than before
+  more-live : length (ids_in old) + 1 ≤ length (ids_in new)
+  more-live = subst (λ ids. length (ids_in old) + 1 ≤ length ids) (sym ids-last) (longer-with (ids_in old) id (ids-ascend old) absent)
+
   -- no part stands at its index, and none names it
   none-there : (kind : Name) → is_among kind kinds.part_names ≡ true → column_of kinds (seen_of w) kind entity.id ≡ None
   none-there kind known = by (column_of kinds (seen_of w) kind entity.id) refl
@@ -135,6 +141,8 @@ module _ {V : Type 0} (kinds : Kinds V) (apart : StandApart kinds) (w : Slots V)
     queues = λ position. ap (λ held. option_map_or kinds.queued held [])
         (marks.others (kinds.queue_id position) (apart (queue position) markers refl refl) ∙ notes.others (kinds.queue_id position) (apart (queue position) allocator refl refl)
         ∙ comes.others (kinds.queue_id position) (apart (queue position) entities refl refl));
+    grows = subst (λ b. Grows old.births b (length (ids_in old)) (length (ids_in new))) (sym births-last)
+        (grows-as old.births (roll_of kinds alive).births 0 1 (length (ids_in old)) (length (ids_in new)) (omega (arith, more-live)) comes.grows);
   }
     where
       there : (kind : Name) → is_among kind kinds.part_names ≡ true → (index : ℕ) (b : Bool) → IsSome (column_of kinds (seen_of w) kind index) → IsSome (cond b (Some entity.generation) (living old.births index))

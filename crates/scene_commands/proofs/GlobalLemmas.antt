@@ -1,5 +1,5 @@
 -- A global that is put into a world.
-use Rattle.std.proofs.Common.{◌≡◌, ◌<◌, ℕ, Bool, true, false, cond, [], Some, None, refl, ap, sym, ◌∙◌, subst, All}
+use Rattle.std.proofs.Common.{◌≡◌, ◌<◌, ℕ, Bool, true, false, cond, length, [], Some, None, refl, ap, sym, ◌∙◌, subst, All}
 use Rattle.std.specs.Prelude.{IsSome, option_and_then}
 use Rattle.std.specs.FinMap as slots
 use Rattle.std.specs.Option.{option_flatten, option_map_or}
@@ -19,6 +19,8 @@ use Rattle.scene_world.specs.Lent.{StandApart, entities, markers, allocator, par
 use Rattle.scene_world.proofs.CallerLemmas.{same-roll}
 use Rattle.scene_commands.specs.Acts.{seen_of, WasBorn, MayAct}
 use Rattle.scene_commands.proofs.LookLemmas.{seen-value}
+use Rattle.scene_commands.specs.Bounds.{GrowsByLiving}
+use Rattle.scene_commands.proofs.BoundLemmas.{grows-none}
 use Rattle.scene_commands.specs.Becoming.{Becomes}
 use Rattle.scene_commands.specs.Entries.{with_value}
 
@@ -63,6 +65,7 @@ module _ {V : Type 0} (kinds : Kinds V) (apart : StandApart kinds) (name : Name)
     };
     scene = same_scene _ _ (ap (λ r. r.noting.next) roll-stays) (ap ids_in roll-stays) (λ id kind. part id kind (is_among kind kinds.part_names) refl) (λ other. global other (bytes_eq other name) refl);
     queues = λ position. ap (λ held. option_map_or kinds.queued held []) (stays (kinds.queue_id position) (apart (queue position) (value name) refl known));
+    grows = subst (λ roll. GrowsByLiving (roll_of kinds (seen_of w)) roll) (sym roll-stays) (grows-none (roll_of kinds (seen_of w)).births (length (ids_in (roll_of kinds (seen_of w)))));
   }
     where
       part : (id : ℕ) (kind : Name) (b : Bool) → is_among kind kinds.part_names ≡ b

@@ -1,5 +1,5 @@
 -- Who holds a reference that is gone, and the least of them.
-use Rattle.std.proofs.Common.{◌≡◌, ◌<◌, ◌≤◌, ◌+◌, ℕ, suc, Bool, true, false, cond, eqb, ◌||◌, ◌⊎◌, inl, inr, ⊎_elim, List, [], ◌∷◌, ◌++◌, length, get_or, map, take, Option, Some, None, is_some, refl, ap, sym, ◌∙◌, subst, arith}
+use Rattle.std.proofs.Common.{◌≡◌, ◌<◌, ◌≤◌, ◌+◌, ℕ, suc, Bool, true, false, cond, eqb, ◌||◌, ◌⊎◌, inl, inr, ⊎_elim, List, [], ◌∷◌, ◌++◌, All, length, get_or, map, take, Option, Some, None, is_some, refl, ap, sym, ◌∙◌, subst, arith}
 use Rattle.std.specs.Prelude.{IsSome, option_and_then, option_map}
 use Rattle.std.specs.List.{list_any, find}
 use Rattle.std.proofs.lemmas.Bool.{true≢false, false≢true, eqb-true, eq-eqb, or_right}
@@ -23,7 +23,8 @@ use Rattle.scene_world.specs.Rolls.{Roll, IsRoll, is_life, reference, id_at, ind
 use Rattle.scene_world.proofs.CallerLemmas.{life-is, living-lives, lives-index, ids-ascend, index-of-id}
 use Rattle.scene_world.specs.Putting.{named_in}
 use Rattle.scene_commands.specs.Acts.{entity_under}
-use Rattle.scene_commands.specs.Gone.{AreLiving, IsAtMost, IsLesser, IsLesserIf}
+use Rattle.scene_world.specs.Standing.{Kinds, Sight, roll_of, column_of}
+use Rattle.scene_commands.specs.Gone.{AreLiving, IsAtMost, IsLesser, IsLesserIf, any_gone, names_some, refers_among}
 use Rattle.scene_commands.proofs.LookLemmas.{lives-under, under-is, index-under}
 
 -- the entities that live, as they are listed, are those
@@ -97,6 +98,19 @@ pub holds-named : (ref : LifeAt → Ref) (stored : Option Stored) → holds_gone
 holds-named ref None = refl
 holds-named ref (Some one) = refl
 
+-- whoever holds a reference that is gone under one of some kinds refers to somebody under one of them
+pub refers-gone : {V : Type 0} (kinds : Kinds V) (w : Sight V) (names : List Name) (index : ℕ) → any_gone kinds w names index ≡ true → refers_among kinds w names index ≡ true
+refers-gone kinds w [] index held = held
+refers-gone kinds w (kind ∷ names) index held = here (named_in (column_of kinds w kind index)) refl (refers-gone kinds w names index)
+  where
+    here : (named : List LifeAt) → named_in (column_of kinds w kind index) ≡ named → (any_gone kinds w names index ≡ true → refers_among kinds w names index ≡ true) → refers_among kinds w (kind ∷ names) index ≡ true
+    here [] is later =
+        let clear : holds_gone (option_map (part_under (ref_to (roll_of kinds w))) (column_of kinds w kind index)) ≡ false =
+        holds-named (ref_to (roll_of kinds w)) (column_of kinds w kind index) ∙ ap (λ list. list_any is_gone (map (ref_to (roll_of kinds w)) list)) is in
+        or_right (names_some (named_in (column_of kinds w kind index))) (refers_among kinds w names index)
+        (later (sym (ap (λ b. b || any_gone kinds w names index) clear) ∙ held))
+    here (one ∷ more) is later = ap (λ list. names_some list || refers_among kinds w names index) is
+
 module _ (roll : Roll) where
   -- who isn't alive is gone
   pub dead-gone : (entity : LifeAt) → is_life entity.generation (living roll.births entity.id) ≡ false → is_gone (ref_to roll entity) ≡ true
@@ -125,8 +139,8 @@ module _ (roll : Roll) where
   alive-there is entity alive = ap (λ b. is_gone (reference (cond b (id_at roll entity.id) None))) alive ∙ ap (λ o. is_gone (reference o)) (alive-marked is entity alive).1
 
   -- each of the entities that live does
-  pub living-at : (items : List LifeAt) (k : ℕ) (entity : LifeAt) → k < length items → entity ≡ get_or items k entity → AreLiving roll.births items → IsAlive roll.births entity
-  living-at items k entity inside is are = subst (λ one. IsAlive roll.births one) (sym is) (are.alive k entity inside)
+  pub living-at : (items : List LifeAt) (k : ℕ) (entity : LifeAt) → k < length items → entity ≡ get_or items k entity → All (IsAlive roll.births) items → IsAlive roll.births entity
+  living-at items k entity inside is alive = subst (λ one. IsAlive roll.births one) (sym is) (alive k entity inside)
 
   -- whether somebody at an index holds a reference that is gone
   module _ (holds : ℕ → Bool) where
@@ -178,8 +192,9 @@ module _ (roll : Roll) where
       least-next rolls true least result id alive marked held lesser so = least-more rolls least result id alive marked (sym held) lesser so
       least-next rolls false least result id alive marked clear same so = subst (λ o. IsLeast (take (k + 1) items) o) (sym same) (least-same least (sym clear) so)
 
-    -- the least id among all who live is the first that is found
-    pub least-found : (test : ℕ → Bool) → ((id index : ℕ) → index_of roll id ≡ Some index → test id ≡ holds index) → (entities : List LifeAt) (least : Option ℕ) → AreLiving roll.births entities → IsLeast entities least
+    -- the least id among all who live and hold one is the first that is found
+    pub least-found : (test : ℕ → Bool) → ((id index : ℕ) → index_of roll id ≡ Some index → test id ≡ holds index) → (entities : List LifeAt) (least : Option ℕ)
+        → ((entity : LifeAt) → IsAlive roll.births entity → holds entity.id ≡ true → list_any (λ one. eqb one.id entity.id) entities ≡ true) → IsLeast entities least
         → least ≡ find test (ids_in roll)
     least-found test tests entities least are so =
         find-least test (ids_in roll) least (ids-ascend roll)
@@ -191,7 +206,8 @@ module _ (roll : Roll) where
         by id (Some entity) e there ok =
             let known = under-is roll id entity e in
             let placed : index_of roll id ≡ Some entity.id = index-under roll id ∙ ap (option_map (λ one. one.id)) e in
-            so.below entity.id id (are.all entity (alive-is entity known.alive)) known.marked (sym (tests id entity.id placed) ∙ ok)
+            let held : holds entity.id ≡ true = sym (tests id entity.id placed) ∙ ok in
+            so.below entity.id id (are entity (alive-is entity known.alive) held) known.marked held
 
 -- whether an id has a part that refers to somebody who is gone, by the index at which it stands
 pub test-at : (roll : Roll) (names : List Name) (column : Name → ℕ → Option Stored) (id index : ℕ) → index_of roll id ≡ Some index

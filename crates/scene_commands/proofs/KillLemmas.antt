@@ -1,8 +1,8 @@
 -- An entity whose parts, marker, note and life were taken, one after the other, was killed.
-use Rattle.std.proofs.Common.{◌≡◌, ◌<◌, ◌≤◌, ℕ, Bool, true, false, cond, eqb, not, Some, None, filter, is_some, refl, ap, sym, ◌∙◌, subst, arith, All}
-use Rattle.std.specs.Prelude.{IsSome, option_and_then, option_map}
+use Rattle.std.proofs.Common.{◌≡◌, ◌<◌, ◌≤◌, ℕ, Bool, true, false, cond, eqb, not, [], ◌∷◌, inl, inr, Option, Some, None, filter, is_some, refl, ap, sym, ◌∙◌, subst, arith, All}
+use Rattle.std.specs.Prelude.{IsSome, option_and_then}
 use Rattle.std.specs.Option.{unwrap_or}
-use Rattle.std.proofs.lemmas.Bool.{eq-eqb}
+use Rattle.std.proofs.lemmas.Bool.{false≢true, eqb-true, eq-eqb, or_cases}
 use Rattle.std.proofs.lemmas.List.Elements.{All-filter, All-weaker}
 use Rattle.shred_world.specs.Worlds.{Slots}
 use Rattle.specs_entity.specs.Births.{count, living, none_born}
@@ -10,17 +10,21 @@ use Rattle.specs_entity.specs.Life.{LifeAt}
 use Rattle.specs_markers.specs.Simple.{noted_under}
 use Rattle.scene_model.specs.Parts.{Name, is_among}
 use Rattle.scene_model.specs.Rulebook.{kill}
-use Rattle.scene_model.specs.Scenes.{PlainScene}
-use Rattle.scene_model.specs.Commands.{apply, changed, skipped, part_without}
+use Rattle.scene_model.specs.Scenes.{lives}
+use Rattle.scene_model.specs.Deaths.{dies_with, without}
+use Rattle.scene_model.specs.Commands.{apply, changed, skipped}
 use Rattle.scene_world.specs.Stored.{Stored}
 use Rattle.scene_world.specs.Rolls.{id_at, ids_in}
-use Rattle.scene_world.specs.Standing.{Kinds, roll_of, column_of, column_in, plain_of}
+use Rattle.scene_world.specs.Standing.{Kinds, roll_of, column_of, column_in, owning_in, plain_of}
 use Rattle.scene_world.specs.Lent.{StandApart, entities, markers, allocator, parts, value}
 use Rattle.scene_world.specs.Changes.{but_at, Buries}
 use Rattle.scene_world.proofs.CallerLemmas.{buried-roll, buried-scene, buried-within}
-use Rattle.scene_commands.specs.Acts.{seen_of, entity_under, WasBorn, MayAct, Acts}
+use Rattle.scene_commands.specs.Acts.{seen_of, entity_under, WasBorn, MayAct}
 use Rattle.scene_commands.specs.Deaths.{DropsParts, Unmarks, Forgets, LetsDie}
+use Rattle.scene_commands.specs.Owning.{HaveDied}
 use Rattle.scene_commands.proofs.LookLemmas.{under-at, lives-under}
+use Rattle.scene_commands.proofs.ElsewhereLemmas.{death-elsewhere}
+use Rattle.scene_commands.proofs.GoingLemmas.{goes-by-death}
 
 module _ {V : Type 0} (kinds : Kinds V) (apart : StandApart kinds) (w w1 w2 w3 w4 : Slots V) (id index : ℕ)
     (drops : DropsParts kinds index kinds.part_names (seen_of w) (seen_of w1)) (unmarks : Unmarks kinds index (seen_of w1) (seen_of w2))
@@ -80,36 +84,17 @@ module _ {V : Type 0} (kinds : Kinds V) (apart : StandApart kinds) (w w1 w2 w3 w
         ∙ drops.others (kinds.global_id name) (λ kind known. apart (value name) (parts kind) is known));
   }
 
-  -- nothing is noted under its id any more
-  pub kill-forgets : noted_under (roll_of kinds (seen_of w4)).noting id ≡ None
-  kill-forgets = buries.noted id ∙ ap (λ b. cond b None (noted_under (roll_of kinds (seen_of w)).noting id)) (eq-eqb id id refl)
-
   module _ (may : MayAct kinds w) (entity : LifeAt) (under : entity_under (roll_of kinds (seen_of w)) id ≡ Some entity) (at_index : entity.id ≡ index) where
     there : id_at (roll_of kinds (seen_of w)) index ≡ Some id
     there = subst (λ i. id_at (roll_of kinds (seen_of w)) i ≡ Some id) at_index (under-at (roll_of kinds (seen_of w)) id entity under)
 
-    -- and the command does that
-    pub kill-acts : Acts kinds (kill id) true w w4
-    kill-acts = buried-scene kinds (seen_of w) (seen_of w4) may.roll id index there buries
+    scene-now : plain_of kinds (seen_of w4) ≡ without (λ one. eqb one id) (plain_of kinds (seen_of w))
+    scene-now = buried-scene kinds (seen_of w) (seen_of w4) may.roll id index there buries
 
     ids-now : ids_in (roll_of kinds (seen_of w4)) ≡ filter (λ other. not (eqb other id)) (ids_in (roll_of kinds (seen_of w)))
-    ids-now = sym (ap (λ scene. scene.ids) same)
-      where
-        made : PlainScene
-        made = record {
-          next = (plain_of kinds (seen_of w)).next;
-          ids = filter (λ other. not (eqb other id)) (ids_in (roll_of kinds (seen_of w)));
-          part = λ other kind. cond (eqb other id) None (option_map (part_without id) ((plain_of kinds (seen_of w)).part other kind));
-          global = (plain_of kinds (seen_of w)).global;
-        }
+    ids-now = ap (λ scene. scene.ids) scene-now
 
-        same : made ≡ plain_of kinds (seen_of w4)
-        same =
-            let told : changed made ≡ changed (plain_of kinds (seen_of w4)) =
-            sym (ap (λ b. cond b (changed made) skipped) (lives-under (roll_of kinds (seen_of w)) id ∙ ap is_some under)) ∙ kill-acts in
-            cc
-
-    pub kill-may : MayAct kinds w4
+    kill-may : MayAct kinds w4
     kill-may = record {
       entities = dies.there;
       markers = subst (λ held. IsSome held) (sym markers-after) unmarks.there;
@@ -130,14 +115,30 @@ module _ {V : Type 0} (kinds : Kinds V) (apart : StandApart kinds) (w w1 w2 w3 w
         still kind known at one false e =
             All-weaker (WasBorn (roll_of kinds (seen_of w)).births) (WasBorn (roll_of kinds (seen_of w4)).births) (λ named born. omega (arith, born, more named.id)) one.named (may.born kind known at one e)
 
--- it is skipped where nobody lives under the id
-pub kill-skips : {V : Type 0} (kinds : Kinds V) (w : Slots V) (id : ℕ) → entity_under (roll_of kinds (seen_of w)) id ≡ None → apply (kill id) (plain_of kinds (seen_of w)) ≡ skipped
-kill-skips kinds w id none = ap (λ b. cond b (changed made) skipped) (lives-under (roll_of kinds (seen_of w)) id ∙ ap is_some none)
-  where
-    made : PlainScene
-    made = record {
-      next = (plain_of kinds (seen_of w)).next;
-      ids = filter (λ other. not (eqb other id)) (ids_in (roll_of kinds (seen_of w)));
-      part = λ other kind. cond (eqb other id) None (option_map (part_without id) ((plain_of kinds (seen_of w)).part other kind));
-      global = (plain_of kinds (seen_of w)).global;
+    -- so it has died
+    pub one-died : HaveDied kinds (id ∷ []) w w4
+    one-died = record {
+      scene = scene-now;
+      forgotten = λ other is_in. elim (or_cases (eqb id other) false is_in) [
+        | inl same ↦ buries.noted other ∙ ap (λ b. cond b None (noted_under (roll_of kinds (seen_of w)).noting other)) (eq-eqb other id (sym (eqb-true id other same)))
+        | inr never ↦ absurd (false≢true never)
+      ];
+      unnoted = λ other none. buries.noted other ∙ stays (eqb other id) none;
+      may = kill-may;
+      elsewhere = death-elsewhere kinds id index w w1 w2 w3 w4 drops unmarks forgets dies;
+      goes_on = goes-by-death kinds apart w w1 w2 w3 w4 id index drops unmarks forgets dies;
     }
+      where
+        stays : {X : Type 0} {o : Option X} (b : Bool) → o ≡ None → cond b None o ≡ None
+        stays true none = refl
+        stays false none = none
+
+-- an id under which an entity is known lives
+pub under-lives : {V : Type 0} (kinds : Kinds V) (w : Slots V) (id : ℕ) (entity : LifeAt) → entity_under (roll_of kinds (seen_of w)) id ≡ Some entity → lives id (plain_of kinds (seen_of w)).ids ≡ true
+under-lives kinds w id entity under = lives-under (roll_of kinds (seen_of w)) id ∙ ap is_some under
+
+-- it is skipped where nobody lives under the id
+pub kill-skips : {V : Type 0} (kinds : Kinds V) (w : Slots V) (id : ℕ) → entity_under (roll_of kinds (seen_of w)) id ≡ None → apply (owning_in kinds) (kill id) (plain_of kinds (seen_of w)) ≡ skipped
+kill-skips kinds w id none =
+    ap (λ b. cond b (changed (without (dies_with (owning_in kinds) (plain_of kinds (seen_of w)) id) (plain_of kinds (seen_of w)))) skipped)
+    (lives-under (roll_of kinds (seen_of w)) id ∙ ap is_some none)

@@ -18,14 +18,15 @@ use Rattle.scene_world.specs.Standing.{Kinds, column_in, events_in, emits_in}
 use Rattle.specs_layouts.specs.Channels.{no_log}
 use Rattle.specs_layouts.specs.Shows.{Shows}
 use Rattle.scene_world.proofs.CallerLemmas.{shows-seen}
+use Rattle.scene_world.specs.Telling.{CatchesUp}
 use Rattle.scene_world.specs.Changes.{but_at}
 use Rattle.scene_world.specs.Putting.{PutsIn}
 use Rattle.scene_commands.specs.Acts.{seen_of, SetsColumn, PutsPart}
-use Rattle.scene_commands.specs.Watching.{GainsWatcher, WatchesKind, ReadsAll, ReadsKind}
+use Rattle.scene_commands.specs.Watching.{GainsWatcher, WatchesKind, ReadsKind}
 use Rattle.scene_commands.specs.declared.watching.Watcher.{Watcher}
 use Rattle.scene_commands.proofs.LookLemmas.{seen-value}
 use Rattle.scene_commands.proofs.WatchLemmas.{watcher-seen}
-use Rattle.scene_commands.proofs.CatchLemmas.{reads-seen}
+use Rattle.scene_commands.proofs.CatchLemmas.{catches-seen}
 
 module _ {V : Type 0} (w later : Slots V) (id : ResourceId) (was left : V) (stood : value_at w id ≡ Some was) (leaves : later ≡ slots.insert w id (Some left)) where
   -- what was there, and what is there now
@@ -94,10 +95,10 @@ module _ {V : Type 0} (kinds : Kinds V) (w later : Slots V) (kind : Name) (id : 
     others = sees-other w later (kinds.part_id kind) was left stood leaves;
   }
 
-  -- two readers have read all of its events
-  pub lent-reads : (watcher : Watcher) → ReadsAll (kinds.stored kind) (kinds.events kind) (kinds.emits kind) watcher was left → ReadsKind kinds kind watcher (seen_of w) (seen_of later)
-  lent-reads watcher reads = record {
-    reads = reads-seen (kinds.stored kind) (kinds.events kind) (kinds.emits kind) (column_in kinds kind) (events_in kinds kind) (emits_in kinds kind) was left
+  -- a reader has read all of its events
+  pub lent-reads : (reader : ℕ) → CatchesUp (kinds.stored kind) (kinds.events kind) (kinds.emits kind) reader was left → ReadsKind kinds kind reader (seen_of w) (seen_of later)
+  lent-reads reader reads = record {
+    reads = catches-seen (kinds.stored kind) (kinds.events kind) (kinds.emits kind) (column_in kinds kind) (events_in kinds kind) (emits_in kinds kind) was left
         (seen_of w (kinds.part_id kind)) (seen_of later (kinds.part_id kind))
         (λ index same. ap (λ held. option_and_then (λ v. kinds.stored kind v index) held) (sees w later (kinds.part_id kind) was left stood leaves) ∙ same
         ∙ sym (ap (λ held. option_and_then (λ v. kinds.stored kind v index) held) (saw w later (kinds.part_id kind) was left stood leaves)))
@@ -105,6 +106,6 @@ module _ {V : Type 0} (kinds : Kinds V) (w later : Slots V) (kind : Name) (id : 
         (ap (λ held. option_map_or (kinds.events kind) held no_log) (sees w later (kinds.part_id kind) was left stood leaves))
         (ap (λ held. option_map_or (kinds.emits kind) held false) (saw w later (kinds.part_id kind) was left stood leaves))
         (ap (λ held. option_map_or (kinds.emits kind) held false) (sees w later (kinds.part_id kind) was left stood leaves))
-        watcher reads;
+        reader reads;
     others = sees-other w later (kinds.part_id kind) was left stood leaves;
   }

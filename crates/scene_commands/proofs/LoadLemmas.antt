@@ -1,6 +1,7 @@
 -- A world into which a document was put is one in which its scene stands.
-use Rattle.std.proofs.Common.{◌≡◌, map, None, ap, sym, ◌∙◌, subst}
-use Rattle.std.specs.Prelude.{ℕ}
+use Rattle.std.proofs.Common.{◌≡◌, ◌≤◌, ℕ, List, length, map, None, ap, sym, ◌∙◌, subst, arith}
+use Rattle.std.proofs.lemmas.List.{length-map}
+use Rattle.specs_entity.specs.Births.{Births, none_born, count}
 use Rattle.shred_world.specs.Worlds.{Slots}
 use Rattle.scene_model.specs.Ids.{ascending}
 use Rattle.scene_model.specs.Parts.{Json, Name, Part}
@@ -16,7 +17,10 @@ use Rattle.scene_document.proofs.CallerLemmas.{ids-plain, no_past, no_double, no
 use Rattle.scene_world.specs.Standing.{Kinds, roll_of, plain_of, StandsFor}
 use Rattle.scene_world.proofs.CallerLemmas.{ids-ascend}
 use Rattle.scene_world.proofs.CallerLemmas.{owned-plain}
+use Rattle.scene_world.specs.Rolls.{ids_in}
 use Rattle.scene_commands.specs.Acts.{seen_of, MayAct}
+use Rattle.scene_commands.specs.Bounds.{AreInUse, GrowsByLiving, IsBounded, unlisted_in}
+use Rattle.scene_commands.proofs.BoundLemmas.{fewer-in-order, fewer-below, none-counted}
 use Rattle.scene_commands.specs.Entries.{next_above, parts_put, values_put}
 use Rattle.scene_commands.specs.Openings.{without_entities}
 use Rattle.scene_commands.specs.Fills.{filled_with}
@@ -55,3 +59,33 @@ module _ {V D G S : Type 0} (kinds : Kinds V) (part_of : D → Part) (global_of 
     };
     same = same;
   }
+
+  -- an index had at most as many births as entities were listed, where nobody was born before
+  pub loaded-bounded : (opened : Slots V) (most_indices most_births : ℕ) → (roll_of kinds (seen_of opened)).births ≡ none_born most_indices most_births
+      → GrowsByLiving (roll_of kinds (seen_of opened)) (roll_of kinds (seen_of w)) → IsBounded most_indices most_births (unlisted_in plain) (roll_of kinds (seen_of w))
+  loaded-bounded opened most_indices most_births none grows = record {
+    indices = grows.indices ∙ ap (λ (b : Births). b.indices) none;
+    generations = grows.generations ∙ ap (λ (b : Births). b.generations) none;
+    in_use = grows.in_use (subst AreInUse (sym none) (λ index below dead. absurd (omega (arith, below))));
+    counts = λ index.
+        let before : count (roll_of kinds (seen_of opened)).births index ≡ 0 = ap (λ b. count b index) none ∙ none-counted most_indices most_births index in
+        let after = grows.counts index in
+        omega (arith, before, after, few, lower, next);
+  }
+    where
+      ids : List ℕ
+      ids = ids_in (roll_of kinds (seen_of w))
+
+      few : length ids ≤ length plain.entities
+      few =
+          let in_order : ids ≡ ascending (listed_ids plain) = ap (λ scene. scene.ids) same in
+          let long : length ids ≡ length (ascending (listed_ids plain)) = ap length in_order in
+          let fewer = fewer-in-order (listed_ids plain) in
+          let many : length (listed_ids plain) ≡ length plain.entities = length-map plain.entities (λ entity. entity.id) in
+          omega (arith, long, fewer, many)
+
+      next : (roll_of kinds (seen_of w)).noting.next ≡ plain.next
+      next = ap (λ scene. scene.next) same
+
+      lower : length ids ≤ (roll_of kinds (seen_of w)).noting.next
+      lower = fewer-below (roll_of kinds (seen_of w)).noting.next ids (ids-ascend (roll_of kinds (seen_of w))) may.below

@@ -16,8 +16,8 @@ use Rattle.scene_commands.specs.Entries.{Parts, ids_with, next_above, list_put, 
 use Rattle.scene_commands.proofs.RollLemmas.{apart-turned}
 
 -- a put that was done left the scene with that part
-pub put-done : (scene after : PlainScene) (id : ℕ) (kind : Name) (part : Part) → apply (put id kind part) scene ≡ changed after → after ≡ record scene { part = with_part id kind (Some part) scene.part }
-put-done scene after id kind part = by (lives id scene.ids && refs_live scene.ids part)
+pub put-done : (owning : List Name) (scene after : PlainScene) (id : ℕ) (kind : Name) (part : Part) → apply owning (put id kind part) scene ≡ changed after → after ≡ record scene { part = with_part id kind (Some part) scene.part }
+put-done owning scene after id kind part = by (lives id scene.ids && refs_live scene.ids part)
   where
     made : PlainScene
     made = record scene { part = with_part id kind (Some part) scene.part }

@@ -18,7 +18,7 @@ use Rattle.scene_model.specs.Commands.{changed, skipped, ids_spent, ref_lives, r
 use Rattle.scene_model.specs.Laws.{refs_to}
 use Rattle.scene_world.specs.Stored.{Stored, part_under}
 use Rattle.scene_world.specs.Rolls.{Roll, is_life, ids_in, ref_to}
-use Rattle.scene_world.specs.Standing.{Sight, Kinds, roll_of, column_of, column_in, plain_of}
+use Rattle.scene_world.specs.Standing.{Sight, Kinds, roll_of, column_of, column_in, owning_in, plain_of}
 use Rattle.scene_world.specs.Lent.{StandApart, entities, markers, allocator, parts, value}
 use Rattle.scene_world.specs.Changes.{IsAnother, Bears}
 use Rattle.scene_world.proofs.CallerLemmas.{living-lives, lives-below, next-noted, next-after, born-roll, born-within, born-scene}
@@ -221,7 +221,7 @@ module _ {V : Type 0} (kinds : Kinds V) (apart : StandApart kinds) (w : Slots V)
     module _ (all_known : All (λ entry. is_among entry.0 kinds.part_names ≡ true) given) (left : eqb old.noting.next last_next ≡ false) where
       -- and the command does that
       pub spawn-acts : Acts kinds (spawn given) true w later
-      spawn-acts = born-scene kinds (seen_of w) (seen_of later) may.roll may.below entity (λ kind. column_of kinds (seen_of later) kind entity.id) bears given live left
+      spawn-acts = born-scene kinds (seen_of w) (seen_of later) may.roll may.below entity (λ kind. column_of kinds (seen_of later) kind entity.id) bears (owning_in kinds) given live left
           (λ kind. same kind (is_among kind kinds.part_names) refl (under kind given) refl)
         where
           strange : (kind : Name) (entries : List (Name × Part)) → is_among kind kinds.part_names ≡ false → All (λ entry. is_among entry.0 kinds.part_names ≡ true) entries → under kind entries ≡ None

@@ -13,11 +13,12 @@ use Rattle.scene_model.specs.Rulebook.{Command}
 use Rattle.scene_model.specs.Commands.{apply, changed, skipped}
 use Rattle.scene_world.specs.Stored.{Stored}
 use Rattle.scene_world.specs.Rolls.{Roll, IsRoll, is_life, is_id, ids_in}
-use Rattle.scene_world.specs.Standing.{Sight, Kinds, seen_in, roll_of, column_of, plain_of, IsWithin}
+use Rattle.scene_world.specs.Standing.{Sight, Kinds, seen_in, roll_of, column_of, owning_in, plain_of, IsWithin}
 use Rattle.scene_world.specs.Changes.{but_at}
 use Rattle.scene_world.specs.Telling.{ShowsKind, ShowsWorld}
 use Rattle.scene_world.specs.Ages.{Ages}
 use Rattle.scene_world.specs.Putting.{StoresAs}
+use Rattle.scene_commands.specs.Bounds.{GrowsByIds}
 
 -- an entity was born: its life is one of those that its index has had
 abbrev pub WasBorn : Births → LifeAt → Type 0
@@ -71,10 +72,11 @@ module _ {V : Type 0} (kinds : Kinds V) where
 
   -- a command was carried out: the scene that stands in the world is the one that it makes; or it was skipped, and the world is as it was
   abbrev pub Acts : Command → Bool → (w later : Slots V) → Type 0
-  Acts command true w later = apply command (plain_of kinds (seen_of w)) ≡ changed (plain_of kinds (seen_of later))
-  Acts command false w later = (apply command (plain_of kinds (seen_of w)) ≡ skipped) × (later ≡ w)
+  Acts command true w later = apply (owning_in kinds) command (plain_of kinds (seen_of w)) ≡ changed (plain_of kinds (seen_of later))
+  Acts command false w later = (apply (owning_in kinds) command (plain_of kinds (seen_of w)) ≡ skipped) × (later ≡ w)
 
-  -- the events of a world show what became of its markers and parts, and time went on
+  -- the events of a world show what became of its markers and parts, time went on, and the entities stay under their bounds
   pub record GoesOn (w later : Slots V) : Type 0 where
     pub shown : ShowsWorld kinds (seen_of w) (seen_of later)
     pub ages : Ages (roll_of kinds (seen_of w)) (roll_of kinds (seen_of later))
+    pub grows : GrowsByIds (roll_of kinds (seen_of w)) (roll_of kinds (seen_of later))

@@ -6,6 +6,7 @@ use Rattle.scene_model.specs.Parts.{Name, is_among}
 use Rattle.scene_world.specs.Standing.{Sight, Kinds, roll_of, column_of}
 use Rattle.scene_world.specs.Changes.{but_at}
 use Rattle.scene_world.specs.Telling.{ShowsKind}
+use Rattle.scene_commands.specs.Bounds.{Grows}
 use Rattle.scene_commands.specs.Elsewhere.{StaysBut, StaysButParts, SetsMark}
 
 module _ {V : Type 0} (kinds : Kinds V) where
@@ -33,3 +34,4 @@ module _ {V : Type 0} (kinds : Kinds V) where
     pub births : (at : ℕ) → count (roll_of kinds w).births at ≤ count (roll_of kinds later).births at
     pub there : IsSome (option_and_then kinds.births (later kinds.entities_id))
     pub others : StaysBut kinds.entities_id w later
+    pub grows : Grows (roll_of kinds w).births (roll_of kinds later).births 0 0

@@ -2,6 +2,7 @@
 pub use Rattle.scene_world.specs.Standing
 pub use Rattle.scene_world.specs.Changes
 pub use Rattle.scene_world.specs.Places
+pub mod Bounds
 pub mod Acts
 pub mod Elsewhere
 pub mod Watching
@@ -9,6 +10,9 @@ pub mod Deaths
 pub mod Newborns
 pub mod Lists
 pub mod Gone
+pub mod Links
+pub mod Owning
+pub mod Reaching
 pub mod Members
 pub use Rattle.scene_document.specs.Drafts
 pub use Rattle.scene_document.specs.DraftViews

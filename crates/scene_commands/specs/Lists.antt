@@ -6,8 +6,8 @@ use Rattle.scene_model.specs.declared.refusals.FrameRefusal.TheVariants.{Memory}
 use Rattle.scene_model.specs.declared.refusals.Skip.{Skip}
 use Rattle.scene_model.specs.Rulebook.{Command, spawn, kill, put, take}
 use Rattle.scene_model.specs.Leads.{CommandsLead}
-use Rattle.scene_world.specs.Standing.{Kinds, plain_of}
-use Rattle.scene_commands.specs.Acts.{seen_of}
+use Rattle.scene_world.specs.Standing.{Kinds, owning_in, plain_of}
+use Rattle.scene_commands.specs.Acts.{seen_of, MayAct, GoesOn}
 use Rattle.scene_commands.specs.Newborns.{RefusesSpawn}
 
 -- a command that was skipped is noted by its frame and place, and one that was done isn't
@@ -23,7 +23,8 @@ module _ {V : Type 0} (kinds : Kinds V) where
   RefusesAct (put id kind part) w cause = cause ≡ Memory
   RefusesAct (take id kind) w cause = cause ≡ Memory
 
-  -- why commands are refused, of which the first has a place: those before one of them lead to a scene that stands in a world where that one is refused
+  -- why commands are refused, of which the first has a place: those before one of them lead to a scene that stands in what became of the
+  -- world, where that one is refused
   pub record RefusesActs (place : ℕ) (commands : List Command) (w : Slots V) (cause : FrameRefusal) : Type 0 where
     pub before : List Command
     pub command : Command
@@ -31,5 +32,7 @@ module _ {V : Type 0} (kinds : Kinds V) where
     pub between : Slots V
     pub places : List ℕ
     pub are : commands ≡ before ++ command ∷ after
-    pub lead : CommandsLead place before (plain_of kinds (seen_of w)) (plain_of kinds (seen_of between)) places
+    pub lead : CommandsLead (owning_in kinds) place before (plain_of kinds (seen_of w)) (plain_of kinds (seen_of between)) places
     pub refuses : RefusesAct command between cause
+    pub may : MayAct kinds between
+    pub goes_on : GoesOn kinds w between

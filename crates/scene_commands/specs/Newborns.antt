@@ -12,23 +12,24 @@ use Rattle.scene_model.specs.Commands.{apply, changed, ids_spent}
 use Rattle.scene_model.specs.Laws.{refs_to}
 use Rattle.scene_world.specs.Stored.{Stored}
 use Rattle.scene_world.specs.Rolls.{Roll}
-use Rattle.scene_world.specs.Standing.{Sight, Kinds, roll_of, column_of, plain_of}
+use Rattle.scene_world.specs.Standing.{Sight, Kinds, roll_of, column_of, owning_in, plain_of}
 use Rattle.scene_world.specs.Changes.{but_at}
 use Rattle.scene_world.specs.Putting.{StoresAs}
 use Rattle.scene_world.specs.Telling.{ShowsKind}
+use Rattle.scene_commands.specs.Bounds.{Grows}
 use Rattle.scene_commands.specs.Acts.{seen_of, AreUnder, PutsPart}
 use Rattle.scene_commands.specs.Elsewhere.{StaysBut, StaysButParts, SetsMark, Notes}
 
 -- a spawn is to be done: an id is left for it, and its references live
 pub record IsToBeDone {V : Type 0} (kinds : Kinds V) (parts : List (Name × Part)) (w : Slots V) : Type 0 where
   pub after : PlainScene
-  pub is : apply (spawn parts) (plain_of kinds (seen_of w)) ≡ changed after
+  pub is : apply (owning_in kinds) (spawn parts) (plain_of kinds (seen_of w)) ≡ changed after
 
 -- why a spawn is refused: no id is left, and then the definition says so too; it is to be done, but no index is left, or the index that comes next has had its births; want of memory says nothing
 abbrev pub RefusesSpawn : {V : Type 0} → Kinds V → List (Name × Part) → Slots V → FrameRefusal → Type 0
 RefusesSpawn kinds parts w (System position text) = ⊥
 RefusesSpawn kinds parts w (GoneReference id) = ⊥
-RefusesSpawn kinds parts w IdsSpent = apply (spawn parts) (plain_of kinds (seen_of w)) ≡ ids_spent
+RefusesSpawn kinds parts w IdsSpent = apply (owning_in kinds) (spawn parts) (plain_of kinds (seen_of w)) ≡ ids_spent
 RefusesSpawn kinds parts w IndicesSpent = IndicesAreSpent (roll_of kinds (seen_of w)).births × IsToBeDone kinds parts w
 RefusesSpawn kinds parts w GenerationsSpent = GenerationsAreSpent (roll_of kinds (seen_of w)).births × IsToBeDone kinds parts w
 RefusesSpawn kinds parts w TooManyCommands = ⊥
@@ -67,6 +68,7 @@ module _ {V : Type 0} (kinds : Kinds V) where
     pub births : (at : ℕ) → count (roll_of kinds w).births at ≤ count (roll_of kinds later).births at
     pub there : IsSome (option_and_then kinds.births (later kinds.entities_id))
     pub others : StaysBut kinds.entities_id w later
+    pub grows : Grows (roll_of kinds w).births (roll_of kinds later).births 0 1
 
   -- an entity is noted under the id that comes next, and all else is as it was
   abbrev pub GetsId : LifeAt → ℕ → Sight V → Sight V → Type 0

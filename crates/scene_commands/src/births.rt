@@ -58,7 +58,7 @@ fn all_live<R: Rules>(
 }
 
 /// The id that comes next, if there is an allocator of ids.
-fn next_id<R: Rules>(world: &World<R::Value>) -> Option<u64>
+pub(crate) fn next_id<R: Rules>(world: &World<R::Value>) -> Option<u64>
     ensures { IfSome result
         (λ next. next ≡ (roll_of (kinds_by R.Rules R.Value.SceneValue) (seen_of world.now)).noting.next) }
 {

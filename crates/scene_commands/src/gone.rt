@@ -11,6 +11,7 @@ ghost use Rattle.scene_commands.specs.Gone.{AreLiving, IsLesserIf, any_gone};
 ghost use Rattle.scene_commands.specs.Members.{scene_in};
 
 use crate::looking::is_living;
+use crate::naming::holders_in;
 use scene_model::DocumentRules;
 use scene_world::{Rules, SceneValue};
 use shred_world::World;
@@ -146,8 +147,8 @@ fn naming_kinds<R: Rules>(
 
 /// The least id whose parts refer to somebody who is gone, if there is one.
 ///
-/// It looks at the parts of each entity under the kinds whose parts may refer to one, and at none where there are no such kinds.
-/// Errors: want of memory.
+/// It looks at the parts of those under the kinds whose parts may refer to one, at the indices that the rules tell, and at
+/// none where there are no such kinds. Errors: want of memory.
 pub fn find_gone<R: Rules>(
     rules: &R,
     world: &World<R::Value>,
@@ -161,14 +162,15 @@ pub fn find_gone<R: Rules>(
     if names.is_empty() {
         return Ok(None);
     }
-    let entities = living_in::<R>(world)?;
+    let kinds = names.as_slice();
+    let entities = holders_in::<R>(world, kinds, alloc)?;
     let mut named = Vec::new(alloc);
     let mut least = None;
     for entity in entities.as_slice() {
         let Some(id) = id_marked::<R>(world, entity.id()) else {
             return Err(AllocError);
         };
-        let gone = any_holds_gone::<R>(world, names.as_slice(), entity.id(), &mut named)?;
+        let gone = any_holds_gone::<R>(world, kinds, entity.id(), &mut named)?;
         least = lesser(gone, least, id);
     }
     Ok(least)

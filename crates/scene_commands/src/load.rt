@@ -1,12 +1,13 @@
 //! The world in which the scene of a document stands.
-ghost use Rattle.std.specs.Prelude.{◌≡◌, ℕ, None, OnOk, IfOk};
+ghost use Rattle.std.specs.Prelude.{◌≡◌, ℕ, min, None, OnOk, IfOk};
 ghost use Rattle.scene_document.specs.Drafts.{Draft};
 ghost use Rattle.scene_document.specs.DraftViews.{IsDraft};
 ghost use Rattle.scene_document.specs.Documents.{refusal_of};
 ghost use Rattle.scene_document.specs.Openings.{first_scene};
-ghost use Rattle.scene_world.specs.Standing.{StandsFor};
+ghost use Rattle.scene_world.specs.Standing.{StandsFor, roll_of};
 ghost use Rattle.scene_world.specs.Members.{kinds_by};
 ghost use Rattle.scene_commands.specs.Acts.{seen_of, MayAct};
+ghost use Rattle.scene_commands.specs.Bounds.{IsBounded, unlisted_in};
 ghost use Rattle.scene_commands.specs.Fills.{filled_with};
 ghost use Rattle.scene_commands.specs.Becoming.{Becomes, IsQuiet};
 
@@ -46,7 +47,8 @@ where
 }
 
 /// The world in which the scene of a document stands, before any frame: with the parts in storages of this store, and
-/// these limits of its entities, which are those of `EntitiesRes::with_limits`.
+/// these limits of its entities, which are those of `EntitiesRes::with_limits`. An index had at most as many births as entities
+/// are listed.
 ///
 /// Errors: want of memory. So is told where the document is one that is refused, for an id that stands twice or a
 /// reference to no listed id, and where it has more entities than the limit of indices.
@@ -64,6 +66,10 @@ where
     ensures stands { IfOk result (λ world. (plain : Draft) → (indices : ℕ) → IsDraft R.part_of R.global_of
         R.kind_of R.config_of (R.book rules.now) plain draft.now → refusal_of indices plain ≡ None → StandsFor
         (kinds_by R.Rules R.Value.SceneValue) (R.book rules.now) (seen_of world) (first_scene plain)) }
+    ensures bounded { IfOk result (λ world. (plain : Draft) → (indices : ℕ) → IsDraft R.part_of R.global_of
+        R.kind_of R.config_of (R.book rules.now) plain draft.now → refusal_of indices plain ≡ None → IsBounded
+        (min limits.0 16777216) (min limits.1 2147483647) (unlisted_in plain)
+        (roll_of (kinds_by R.Rules R.Value.SceneValue) (seen_of world))) }
 {
     let mut world = open_world::<R>(store, limits, draft.next, alloc)?;
     fill_world(rules, &mut world, draft, alloc)?;

@@ -6,7 +6,7 @@ ghost use Rattle.scene_world.specs.Markers.{marker_at, marker_log, marker_tells}
 ghost use Rattle.scene_world.specs.Telling.{TellsAll};
 ghost use Rattle.scene_commands.specs.Acts.{seen_of};
 ghost use Rattle.scene_commands.specs.Watching.{GainsWatcher, WatchesKind, WatchesMarkers, AreWatched, WatchesKinds};
-ghost use Rattle.scene_commands.specs.Watching.{StaysButEvents};
+ghost use Rattle.scene_commands.specs.Watching.{StaysButEvents, reader_at};
 
 use scene_model::DocumentRules;
 use scene_world::{Rules, SceneMarker, SceneValue, gain_reader};
@@ -21,6 +21,27 @@ pub struct Watcher {
     pub frame: ReaderId,
     /// Reads as the next frame begins.
     pub next: ReaderId,
+}
+
+/// Which of two readers reads.
+#[derive(Clone, Copy)]
+pub enum ReaderTurn {
+    /// The one who reads as a frame ends.
+    Frame,
+    /// The one who reads as the next frame begins.
+    Next,
+}
+
+impl Watcher {
+    /// The reader who reads at a turn.
+    pub fn reader(&self, turn: ReaderTurn) -> &ReaderId
+        ensures { result.now ≡ reader_at turn self.now }
+    {
+        match turn {
+            ReaderTurn::Frame => &self.frame,
+            ReaderTurn::Next => &self.next,
+        }
+    }
 }
 
 /// Two readers of the events of the markers, and two of those of each kind of the rules, in the order of their names.

@@ -18,6 +18,7 @@ use Rattle.scene_dispatch.specs.Told.{told_entries}
 abbrev kinds : Kinds (Unit {0})
 kinds = record {
   part_names = codes "p" ∷ codes "q" ∷ [];
+  owning = λ kind. false;
   global_names = [];
   entities_id = id_of 0 0;
   markers_id = id_of 1 0;

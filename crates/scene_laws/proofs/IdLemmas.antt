@@ -9,11 +9,12 @@ use Rattle.std.proofs.lemmas.List.Quantifiers.{all_pairs_push}
 use Rattle.std.proofs.lemmas.List.Folds.{list_any-append}
 use Rattle.scene_model.specs.declared.refusals.Skip.{Skip}
 use Rattle.scene_model.specs.Parts.{Name, Part}
-use Rattle.scene_model.specs.Rulebook.{Book, Command, spawn, kill, put, take}
+use Rattle.scene_model.specs.Rulebook.{Book, owning_kinds, Command, spawn, kill, put, take}
 use Rattle.scene_model.specs.Scenes.{PlainScene, PlainSystem, PlainFrame, IdsFit, lives}
+use Rattle.scene_model.specs.Deaths.{dies_with}
 use Rattle.scene_model.specs.Commands.{changed, apply, Played, played, spent, play}
 use Rattle.scene_model.specs.Frames.{Queues, SystemsRun, all_commands, Accepts, Reaches}
-use Rattle.scene_model.proofs.CallerLemmas.{spawned, spawn-makes, tested-makes, play-keeps}
+use Rattle.scene_model.proofs.CallerLemmas.{spawned, spawn-makes, tested-makes, play-keeps, dying-live}
 use Rattle.scene_laws.specs.Ids.{IdsGoOn, Gives, TakesAway}
 
 -- the places that were skipped
@@ -86,23 +87,23 @@ spawned-goes-on parts scene fit = record {
     here id false same found = absurd (false≢true (sym (ap (λ b. b || false) same) ∙ found))
 
 -- the scene after a kill
-killed-goes-on : (id : ℕ) (scene after : PlainScene) → IdsFit scene.next scene.ids → after.next ≡ scene.next → after.ids ≡ filter (λ other. not (eqb other id)) scene.ids → IdsGoOn scene after
-killed-goes-on id scene after fit next ids = record {
+killed-goes-on : (dead : ℕ → Bool) (scene after : PlainScene) → IdsFit scene.next scene.ids → after.next ≡ scene.next → after.ids ≡ filter (λ other. not (dead other)) scene.ids → IdsGoOn scene after
+killed-goes-on dead_ones scene after fit next ids = record {
   next = omega (arith, next);
   fit = subst (λ n. IdsFit n after.ids) (sym next) (subst (λ all. IdsFit scene.next all) (sym ids) (record {
-    ascend = AllPairs-filter (λ one other. one < other) (λ other. not (eqb other id)) scene.ids fit.ascend;
-    below = All-filter (λ other. not (eqb other id)) (λ one. one < scene.next) scene.ids fit.below;
+    ascend = AllPairs-filter (λ one other. one < other) (λ other. not (dead_ones other)) scene.ids fit.ascend;
+    below = All-filter (λ other. not (dead_ones other)) (λ one. one < scene.next) scene.ids fit.below;
   }));
-  no_return = λ one below dead. ap (lives one) ids ∙ lives-filter (λ other. not (eqb other id)) one scene.ids dead;
-  fresh = λ one alive dead. absurd (false≢true (sym (lives-filter (λ other. not (eqb other id)) one scene.ids dead) ∙ (sym (ap (lives one) ids) ∙ alive)));
+  no_return = λ one below dead. ap (lives one) ids ∙ lives-filter (λ other. not (dead_ones other)) one scene.ids dead;
+  fresh = λ one alive dead. absurd (false≢true (sym (lives-filter (λ other. not (dead_ones other)) one scene.ids dead) ∙ (sym (ap (lives one) ids) ∙ alive)));
 }
 
 -- ids go on over a command
-pub apply-goes-on : (command : Command) (scene after : PlainScene) → IdsFit scene.next scene.ids → apply command scene ≡ changed after → IdsGoOn scene after
-apply-goes-on (spawn parts) scene after fit e = subst (λ s. IdsGoOn scene s) (spawn-makes parts scene after e).1 (spawned-goes-on parts scene fit)
-apply-goes-on (kill id) scene after fit e = subst (λ s. IdsGoOn scene s) (tested-makes (lives id scene.ids) scene _ after e).1 (killed-goes-on id scene _ fit refl refl)
-apply-goes-on (put id kind part) scene after fit e = subst (λ s. IdsGoOn scene s) (tested-makes _ scene _ after e).1 (stays scene _ fit refl refl)
-apply-goes-on (take id kind) scene after fit e = subst (λ s. IdsGoOn scene s) (tested-makes (lives id scene.ids) scene _ after e).1 (stays scene _ fit refl refl)
+pub apply-goes-on : (owning : List Name) (command : Command) (scene after : PlainScene) → IdsFit scene.next scene.ids → apply owning command scene ≡ changed after → IdsGoOn scene after
+apply-goes-on owning (spawn parts) scene after fit e = subst (λ s. IdsGoOn scene s) (spawn-makes owning parts scene after e).1 (spawned-goes-on parts scene fit)
+apply-goes-on owning (kill id) scene after fit e = subst (λ s. IdsGoOn scene s) (tested-makes (lives id scene.ids) scene _ after e).1 (killed-goes-on (dies_with owning scene id) scene _ fit refl refl)
+apply-goes-on owning (put id kind part) scene after fit e = subst (λ s. IdsGoOn scene s) (tested-makes _ scene _ after e).1 (stays scene _ fit refl refl)
+apply-goes-on owning (take id kind) scene after fit e = subst (λ s. IdsGoOn scene s) (tested-makes (lives id scene.ids) scene _ after e).1 (stays scene _ fit refl refl)
 
 -- all commands are commands
 pub any-command : (commands : List Command) → All (λ command. Unit {0}) commands
@@ -120,12 +121,12 @@ accepts-goes-on book limit frame scene after places fit accepts =
     let early : IdsGoOn scene accepts.0 = stays scene accepts.0 fit same.0 same.1 in
     go_on-then scene accepts.0 after early (over accepts.0 (all_commands frame accepts.1) early.fit accepts.3.played_on)
   where
-    over : (mid : PlainScene) (commands : List Command) → IdsFit mid.next mid.ids → play 1 commands mid ≡ played after places → IdsGoOn mid after
-    over mid commands good e = (play-keeps (λ one other. IdsFit one.next one.ids → IdsGoOn one other)
+    over : (mid : PlainScene) (commands : List Command) → IdsFit mid.next mid.ids → play (owning_kinds book) 1 commands mid ≡ played after places → IdsGoOn mid after
+    over mid commands good e = (play-keeps (owning_kinds book) (λ one other. IdsFit one.next one.ids → IdsGoOn one other)
         (λ s f. stays s s f refl refl)
         (λ one two three first second f. go_on-then one two three (first f) (second (first f).fit))
         (λ command. Unit {0}) (λ s. IdsFit s.next s.ids)
-        (λ command s t kind f made_it. ((λ g. apply-goes-on command s t g made_it), (apply-goes-on command s t f made_it).fit))
+        (λ command s t kind f made_it. ((λ g. apply-goes-on (owning_kinds book) command s t g made_it), (apply-goes-on (owning_kinds book) command s t f made_it).fit))
         1 commands mid after places (any-command commands) good e).0 good
 
 -- ids go on over frames
@@ -136,8 +137,8 @@ reaches-goes-on book limit frames (suc count) scene after skips fit reached =
     go_on-then scene reached.0 after early (accepts-goes-on book limit (frames (suc count)) reached.0 after reached.2 early.fit reached.4)
 
 -- a spawn gives the next id
-pub spawn-gives : (parts : List (Name × Part)) (scene after : PlainScene) → IdsFit scene.next scene.ids → apply (spawn parts) scene ≡ changed after → Gives scene.next scene after
-spawn-gives parts scene after fit e = subst (λ s. Gives scene.next scene s) (spawn-makes parts scene after e).1 (record {
+pub spawn-gives : (owning : List Name) (parts : List (Name × Part)) (scene after : PlainScene) → IdsFit scene.next scene.ids → apply owning (spawn parts) scene ≡ changed after → Gives scene.next scene after
+spawn-gives owning parts scene after fit e = subst (λ s. Gives scene.next scene s) (spawn-makes owning parts scene after e).1 (record {
   is_next = refl;
   unused = ⊎_elim (λ t. absurd (let low : scene.next < scene.next = lives-below scene.ids scene.next scene.next fit.below t in omega (arith, low))) (λ f. f) (cases_Bool (lives scene.next scene.ids));
   lives_now = lives-push scene.next scene.next scene.ids ∙ here (lives scene.next scene.ids) (eqb scene.next scene.next) ((Decides-eqb scene.next scene.next).1 refl);
@@ -150,18 +151,22 @@ spawn-gives parts scene after fit e = subst (λ s. Gives scene.next scene s) (sp
     here false false same = absurd (false≢true same)
 
 -- an id that was taken out does not live
-taken-out : (id : ℕ) (ids : List ℕ) → lives id (filter (λ other. not (eqb other id)) ids) ≡ false
-taken-out id [] = refl
-taken-out id (x ∷ ids) = here (taken-out id ids) (eqb x id) refl
+taken-out : (dead : ℕ → Bool) (id : ℕ) → dead id ≡ true → (ids : List ℕ) → lives id (filter (λ other. not (dead other)) ids) ≡ false
+taken-out dead id dies [] = refl
+taken-out dead id dies (x ∷ ids) = here (taken-out dead id dies ids) (dead x) refl (eqb x id) refl
   where
-    here : lives id (filter (λ other. not (eqb other id)) ids) ≡ false → (b : Bool) → eqb x id ≡ b → lives id (cond (not b) (x ∷ filter (λ other. not (eqb other id)) ids) (filter (λ other. not (eqb other id)) ids)) ≡ false
-    here later true same = later
-    here later false same = ap (λ b. b || lives id (filter (λ other. not (eqb other id)) ids)) same ∙ later
+    here : lives id (filter (λ other. not (dead other)) ids) ≡ false → (b : Bool) → dead x ≡ b → (c : Bool) → eqb x id ≡ c → lives id (cond (not b) (x ∷ filter (λ other. not (dead other)) ids) (filter (λ other. not (dead other)) ids)) ≡ false
+    here later true is c same = later
+    here later false is true same = absurd (false≢true (sym is ∙ (ap dead ((Decides-eqb x id).0 same) ∙ dies)))
+    here later false is false differ = ap (λ b. b || lives id (filter (λ other. not (dead other)) ids)) differ ∙ later
 
--- a kill takes an id away
-pub kill-takes : (id : ℕ) (scene after : PlainScene) → IdsFit scene.next scene.ids → apply (kill id) scene ≡ changed after → TakesAway id scene after
-kill-takes id scene after fit e = let made_it = tested-makes (lives id scene.ids) scene _ after e in subst (λ s. TakesAway id scene s) made_it.1 (record {
-  lived = made_it.0;
-  dead_now = taken-out id scene.ids;
-  below = lives-below scene.ids scene.next id fit.below made_it.0;
-})
+-- a kill takes an id away, and each that dies with it
+pub kill-takes : (owning : List Name) (id one : ℕ) (scene after : PlainScene) → IdsFit scene.next scene.ids → apply owning (kill id) scene ≡ changed after → dies_with owning scene id one ≡ true → TakesAway one scene after
+kill-takes owning id one scene after fit e dies =
+    let made_it = tested-makes (lives id scene.ids) scene _ after e in
+    let lived : lives one scene.ids ≡ true = dying-live owning scene id made_it.0 one dies in
+    subst (λ s. TakesAway one scene s) made_it.1 (record {
+      lived = lived;
+      dead_now = taken-out (dies_with owning scene id) one dies scene.ids;
+      below = lives-below scene.ids scene.next one fit.below lived;
+    })

@@ -13,11 +13,13 @@ use Rattle.scene_model.specs.Commands.{skips_of}
 use Rattle.scene_document.specs.Drafts.{Draft}
 use Rattle.scene_document.specs.Openings.{first_scene, frames_of, commands_in}
 use Rattle.scene_model.specs.Frames.{Accepts, Refuses, Reaches, Ended}
+use Rattle.scene_model.specs.Bounds.{commands_only}
+use Rattle.scene.specs.Limits.{Bounds, limit_of}
 use Rattle.scene.specs.Runs.{CanBegin, Ran}
 use Rattle.scene_laws.specs.OneOutcome.{OneOutcome, HadMeans}
 use Rattle.scene_laws.specs.Parts.{frames_behind, later_skip, later_skips, later_refused, joined, IsInTwoParts}
-use Rattle.scene_laws.proofs.TurnLemmas.{HadMeansFor}
-use Rattle.scene_laws.proofs.OutcomeLemmas.{ran-one}
+use Rattle.scene_laws.proofs.TurnLemmas.{HadMeansFor, ended-means}
+use Rattle.scene_laws.proofs.OutcomeLemmas.{reached-one, ran-means}
 
 -- later skips of both of two lists
 later-both : (count : ℕ) (one other : List Skip) → later_skips count (one ++ other) ≡ later_skips count one ++ later_skips count other
@@ -77,11 +79,11 @@ rest-frames whole first second parts number =
     sym order ∙ ((λ i. record { order = (frames_of whole (suc number)).order; commands = commands i }) ∙ ap (frames_of whole) (sym next))
 
 -- the end of the rest is the end of the whole
-joined-ended : (book : Book) (limit : ℕ) (frames others : ℕ → PlainFrame) (count asked more : ℕ) (report : ℕ) (scene : PlainScene) (refused : Option (ℕ × FrameRefusal)) → ((number : ℕ) → others (suc number) ≡ frames_behind count frames (suc number)) → asked ≡ count + more → MatchOption refused (report ≡ more) (λ told. (report < more) × (told.0 ≡ suc report) × Refuses book limit (others (suc report)) scene told.1) → MatchOption (option_map (later_refused count) refused) (count + report ≡ asked) (λ told. (count + report < asked) × (told.0 ≡ suc (count + report)) × Refuses book limit (frames (suc (count + report))) scene told.1)
+joined-ended : (book : Book) (limit : ℕ) (frames others : ℕ → PlainFrame) (count asked more : ℕ) (report : ℕ) (scene : PlainScene) (refused : Option (ℕ × FrameRefusal)) → ((number : ℕ) → others (suc number) ≡ frames_behind count frames (suc number)) → asked ≡ count + more → MatchOption refused (report ≡ more) (λ told. (report < more) × (told.0 ≡ suc report) × Refuses book (commands_only limit) (others (suc report)) scene told.1) → MatchOption (option_map (later_refused count) refused) (count + report ≡ asked) (λ told. (count + report < asked) × (told.0 ≡ suc (count + report)) × Refuses book (commands_only limit) (frames (suc (count + report))) scene told.1)
 joined-ended book limit frames others count asked more report scene None same total ended = omega (arith, total, ended)
 joined-ended book limit frames others count asked more report scene (Some told) same total ended =
     let next : count + suc report ≡ suc (count + report) = omega arith in
-    (omega (arith, total, ended.0), ap (λ n. count + n) ended.1 ∙ next, subst (λ frame. Refuses book limit frame scene told.1) (same report ∙ ap frames next) ended.2)
+    (omega (arith, total, ended.0), ap (λ n. count + n) ended.1 ∙ next, subst (λ frame. Refuses book (commands_only limit) frame scene told.1) (same report ∙ ap frames next) ended.2)
 
 -- a report of two parts had means where the later had
 joined-means : (count : ℕ) (refused : Option (ℕ × FrameRefusal)) → HadMeansFor refused → HadMeansFor (option_map (later_refused count) refused)
@@ -89,14 +91,14 @@ joined-means count None means = tt
 joined-means count (Some told) means = means
 
 -- the whole leads where its two parts lead, with the report of both
-pub parts-one : (book : Book) → ((kind : Name) (config : Json) (facts : Facts) → book.system kind config ≡ known facts → DeclaresKnown book facts.access) → (limit : ℕ) (whole first second : Draft) (all one other : Report) (mid after end : PlainScene) → OneOutcome book → CanBegin book whole → HadMeans all → HadMeans other → IsInTwoParts whole first second → Ran book limit first one mid → one.refused ≡ None → first_scene second ≡ mid → Ran book limit second other after → Ran book limit whole all end → (all ≡ joined one other) × (end ≡ after)
-parts-one book declares limit whole first second all one other mid after end lone begins_whole all_means means parts ran none begins rest ran_all =
-    let count : one.frames ≡ first.frames = MatchOption-at_none (one.frames ≡ first.frames) (λ refused. (one.frames < first.frames) × (refused.0 ≡ suc one.frames) × Refuses book limit (frames_of first (suc one.frames)) mid refused.1) none ran.1 in
+pub parts-one : (book : Book) → ((kind : Name) (config : Json) (facts : Facts) → book.system kind config ≡ known facts → DeclaresKnown book facts.access) → (bounds : Bounds) (whole first second : Draft) (all one other : Report) (mid after end : PlainScene) → OneOutcome book → CanBegin book whole → HadMeans all → HadMeans other → IsInTwoParts whole first second → Ran book bounds first one mid → one.refused ≡ None → first_scene second ≡ mid → Ran book bounds second other after → Ran book bounds whole all end → (all ≡ joined one other) × (end ≡ after)
+parts-one book declares bounds whole first second all one other mid after end lone begins_whole all_means means parts ran none begins rest ran_all =
+    let count : one.frames ≡ first.frames = MatchOption-at_none (one.frames ≡ first.frames) (λ refused. (one.frames < first.frames) × (refused.0 ≡ suc one.frames) × Refuses book (limit_of bounds first) (frames_of first (suc one.frames)) mid refused.1) none ran.1 in
     let frames : frames_of whole ≡ frames_of first = same-frames whole first parts.entries parts.commands in
     let start : first_scene whole ≡ first_scene first = same-scene whole first parts.next parts.entities parts.globals in
-    let early : Reaches book limit (frames_of whole) one.frames (first_scene whole) mid one.skips = subst (λ s. Reaches book limit (frames_of whole) one.frames s mid one.skips) (sym start) (subst (λ f. Reaches book limit f one.frames (first_scene first) mid one.skips) (sym frames) ran.0) in
+    let early : Reaches book bounds.commands (frames_of whole) one.frames (first_scene whole) mid one.skips = subst (λ s. Reaches book bounds.commands (frames_of whole) one.frames s mid one.skips) (sym start) (subst (λ f. Reaches book bounds.commands f one.frames (first_scene first) mid one.skips) (sym frames) ran.0) in
     let behind : (number : ℕ) → frames_of second (suc number) ≡ frames_behind one.frames (frames_of whole) (suc number) = λ number. subst (λ n. frames_of second (suc number) ≡ frames_behind n (frames_of whole) (suc number)) (sym count) (rest-frames whole first second parts number) in
-    let late : Reaches book limit (frames_behind one.frames (frames_of whole)) other.frames mid after other.skips = reaches-same book limit (frames_of second) (frames_behind one.frames (frames_of whole)) other.frames mid after other.skips behind (subst (λ s. Reaches book limit (frames_of second) other.frames s after other.skips) begins rest.0) in
-    let reached : Reaches book limit (frames_of whole) (one.frames + other.frames) (first_scene whole) after (one.skips ++ later_skips one.frames other.skips) = reaches-then book limit (frames_of whole) one.frames other.frames (first_scene whole) mid after one.skips other.skips early late in
-    let ended : Ended book limit (frames_of whole) whole.frames (joined one other) after = joined-ended book limit (frames_of whole) (frames_of second) one.frames whole.frames second.frames other.frames after other.refused behind (parts.frames ∙ ap (λ n. n + second.frames) (sym count)) rest.1 in
-    ran-one book declares limit whole all (joined one other) end after lone begins_whole all_means (joined-means one.frames other.refused means) ran_all (reached, ended)
+    let late : Reaches book bounds.commands (frames_behind one.frames (frames_of whole)) other.frames mid after other.skips = reaches-same book bounds.commands (frames_of second) (frames_behind one.frames (frames_of whole)) other.frames mid after other.skips behind (subst (λ s. Reaches book bounds.commands (frames_of second) other.frames s after other.skips) begins rest.0) in
+    let reached : Reaches book bounds.commands (frames_of whole) (one.frames + other.frames) (first_scene whole) after (one.skips ++ later_skips one.frames other.skips) = reaches-then book bounds.commands (frames_of whole) one.frames other.frames (first_scene whole) mid after one.skips other.skips early late in
+    let ended : Ended book (commands_only bounds.commands) (frames_of whole) whole.frames (joined one other) after = joined-ended book bounds.commands (frames_of whole) (frames_of second) one.frames whole.frames second.frames other.frames after other.refused behind (parts.frames ∙ ap (λ n. n + second.frames) (sym count)) (ended-means book (limit_of bounds second) (frames_of second) second.frames other after means rest.1) in
+    reached-one book declares bounds.commands whole all (joined one other) end after lone begins_whole all_means (joined-means one.frames other.refused means) (ran-means book bounds whole all end all_means ran_all) (reached, ended)

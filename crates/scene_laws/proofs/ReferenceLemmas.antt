@@ -9,9 +9,10 @@ use Rattle.std.proofs.lemmas.List.Elements.{All-cons}
 use Rattle.std.proofs.lemmas.List.Folds.{list_any-append}
 use Rattle.scene_model.specs.declared.refusals.Skip.{Skip}
 use Rattle.scene_model.specs.Parts.{Name, Ref, living, gone, Part, is_among, under}
-use Rattle.scene_model.specs.Rulebook.{Book, Command, spawn, kill, put, take}
+use Rattle.scene_model.specs.Rulebook.{Book, owning_kinds, Command, spawn, kill, put, take}
 use Rattle.scene_model.specs.Scenes.{PlainScene, PlainSystem, PlainFrame, RefLives, with_left, lives}
-use Rattle.scene_model.specs.Commands.{apply, changed, ref_lives, refs_live, without_ref, part_without, is_gone, holds_gone, first_gone}
+use Rattle.scene_model.specs.Deaths.{without_ref, part_without, without, dies_with}
+use Rattle.scene_model.specs.Commands.{apply, changed, ref_lives, refs_live, is_gone, holds_gone, first_gone}
 use Rattle.scene_model.specs.Frames.{Queues, SystemsRun, all_commands, Accepts, Reaches}
 use Rattle.scene_laws.specs.References.{RefsLiveUnder}
 use Rattle.scene_model.proofs.CallerLemmas.{spawn-makes, tested-makes, play-keeps, lives-longer, lives-passed, find-none, none-of-ids, none-of-names}
@@ -72,10 +73,30 @@ lives-shorter ids next id apart alive = here (lives id ids) (eqb next id) refl (
 lives-back : (test : ℕ → Bool) (id : ℕ) (ids : List ℕ) → lives id (filter test ids) ≡ true → lives id ids ≡ true
 lives-back test id ids alive = ⊎_elim (λ t. t) (λ f. absurd (false≢true (sym (lives-filter test id ids f) ∙ alive))) (cases_Bool (lives id ids))
 
-module _ (names : List Name) where
+module _ (owning : List Name) (names : List Name) where
+  -- so they do once the dead are taken out
+  without-live : (dead : ℕ → Bool) (scene : PlainScene) → LiveOrGoneUnder names scene.ids scene.part → LiveOrGoneUnder names (without dead scene).ids (without dead scene).part
+  without-live dead scene good = λ other kind held known alive found. here other kind held known (lives-back (λ one. not (dead one)) other scene.ids alive) (dead other) found
+    where
+      ref-stays : (ref : Ref) → LivesOrGone scene.ids ref → LivesOrGone (filter (λ other. not (dead other)) scene.ids) (without_ref dead ref)
+      ref-stays gone alive = tt
+      ref-stays (living x) alive = one (dead x) refl
+        where
+          one : (b : Bool) → dead x ≡ b → LivesOrGone (filter (λ other. not (dead other)) scene.ids) (cond b gone (living x))
+          one true same = tt
+          one false same = lives-passed (λ other. not (dead other)) x scene.ids (ap not same) alive
+
+      part-stays : (other : ℕ) (kind : Name) (held : Part) → is_among kind names ≡ true → lives other scene.ids ≡ true → (o : Option Part) → scene.part other kind ≡ o → option_map (part_without dead) o ≡ Some held → All (LivesOrGone (filter (λ other. not (dead other)) scene.ids)) held.refs
+      part-stays other kind held known alive None is found = absurd (none-some held found)
+      part-stays other kind held known alive (Some old) is found = subst (λ part. All (LivesOrGone (filter (λ other. not (dead other)) scene.ids)) part.refs) (same_Some _ _ found) (All-over (LivesOrGone scene.ids) (LivesOrGone (filter (λ other. not (dead other)) scene.ids)) (without_ref dead) old.refs ref-stays (good other kind old known alive is))
+
+      here : (other : ℕ) (kind : Name) (held : Part) → is_among kind names ≡ true → lives other scene.ids ≡ true → (b : Bool) → cond b None (option_map (part_without dead) (scene.part other kind)) ≡ Some held → All (LivesOrGone (filter (λ other. not (dead other)) scene.ids)) held.refs
+      here other kind held known alive true found = absurd (none-some held found)
+      here other kind held known alive false found = part-stays other kind held known alive (scene.part other kind) refl found
+
   -- references live or are gone after a command
-  pub apply-live : (command : Command) (scene after : PlainScene) → LiveOrGoneUnder names scene.ids scene.part → apply command scene ≡ changed after → LiveOrGoneUnder names after.ids after.part
-  apply-live (spawn parts) scene after good e = let made = spawn-makes parts scene after e in subst (λ s. LiveOrGoneUnder names s.ids s.part) made.1 (λ id kind held known alive found. here id kind held known alive made.0 (eqb id scene.next) refl found)
+  pub apply-live : (command : Command) (scene after : PlainScene) → LiveOrGoneUnder names scene.ids scene.part → apply owning command scene ≡ changed after → LiveOrGoneUnder names after.ids after.part
+  apply-live (spawn parts) scene after good e = let made = spawn-makes owning parts scene after e in subst (λ s. LiveOrGoneUnder names s.ids s.part) made.1 (λ id kind held known alive found. here id kind held known alive made.0 (eqb id scene.next) refl found)
     where
       here : (id : ℕ) (kind : Name) (held : Part) → is_among kind names ≡ true → lives id (scene.ids ++ scene.next ∷ []) ≡ true → list_all (λ entry. refs_live scene.ids entry.1) parts ≡ true → (b : Bool) → eqb id scene.next ≡ b → cond b (under kind parts) (scene.part id kind) ≡ Some held → All (LivesOrGone (scene.ids ++ scene.next ∷ [])) held.refs
       here id kind held known alive tested true is found = tested-live scene.ids (scene.ids ++ scene.next ∷ []) held.refs (lives-longer scene.ids scene.next) (under-live scene.ids parts kind held tested found)
@@ -84,23 +105,7 @@ module _ (names : List Name) where
           one : (ref : Ref) → LivesOrGone scene.ids ref → LivesOrGone (scene.ids ++ scene.next ∷ []) ref
           one (living other) lives_now = lives-longer scene.ids scene.next other lives_now
           one gone lives_now = tt
-  apply-live (kill id) scene after good e = subst (λ s. LiveOrGoneUnder names s.ids s.part) (tested-makes (lives id scene.ids) scene _ after e).1 (λ other kind held known alive found. here other kind held known (lives-back (λ one. not (eqb one id)) other scene.ids alive) (eqb other id) found)
-    where
-      ref-stays : (ref : Ref) → LivesOrGone scene.ids ref → LivesOrGone (filter (λ other. not (eqb other id)) scene.ids) (without_ref id ref)
-      ref-stays gone alive = tt
-      ref-stays (living x) alive = one (eqb x id) refl
-        where
-          one : (b : Bool) → eqb x id ≡ b → LivesOrGone (filter (λ other. not (eqb other id)) scene.ids) (cond b gone (living x))
-          one true same = tt
-          one false same = lives-passed (λ other. not (eqb other id)) x scene.ids (ap not same) alive
-
-      part-stays : (other : ℕ) (kind : Name) (held : Part) → is_among kind names ≡ true → lives other scene.ids ≡ true → (o : Option Part) → scene.part other kind ≡ o → option_map (part_without id) o ≡ Some held → All (LivesOrGone (filter (λ other. not (eqb other id)) scene.ids)) held.refs
-      part-stays other kind held known alive None is found = absurd (none-some held found)
-      part-stays other kind held known alive (Some old) is found = subst (λ part. All (LivesOrGone (filter (λ other. not (eqb other id)) scene.ids)) part.refs) (same_Some _ _ found) (All-over (LivesOrGone scene.ids) (LivesOrGone (filter (λ other. not (eqb other id)) scene.ids)) (without_ref id) old.refs ref-stays (good other kind old known alive is))
-
-      here : (other : ℕ) (kind : Name) (held : Part) → is_among kind names ≡ true → lives other scene.ids ≡ true → (b : Bool) → cond b None (option_map (part_without id) (scene.part other kind)) ≡ Some held → All (LivesOrGone (filter (λ other. not (eqb other id)) scene.ids)) held.refs
-      here other kind held known alive true found = absurd (none-some held found)
-      here other kind held known alive false found = part-stays other kind held known alive (scene.part other kind) refl found
+  apply-live (kill id) scene after good e = subst (λ s. LiveOrGoneUnder names s.ids s.part) (tested-makes (lives id scene.ids) scene _ after e).1 (without-live (dies_with owning scene id) scene good)
   apply-live (put id kind part) scene after good e = let made = tested-makes (lives id scene.ids && refs_live scene.ids part) scene _ after e in subst (λ s. LiveOrGoneUnder names s.ids s.part) made.1 (λ other name held known alive found. here other name held known alive (and_parts (lives id scene.ids) (refs_live scene.ids part) made.0).1 (eqb other id && bytes_eq name kind) found)
     where
       here : (other : ℕ) (name : Name) (held : Part) → is_among name names ≡ true → lives other scene.ids ≡ true → refs_live scene.ids part ≡ true → (b : Bool) → cond b (Some part) (scene.part other name) ≡ Some held → All (LivesOrGone scene.ids) held.refs
@@ -146,7 +151,7 @@ pub accepts-live : (book : Book) (limit : ℕ) (frame : PlainFrame) (scene after
 accepts-live book limit frame scene after places good accepts =
     let lived : RefsLiveUnder book.part_names accepts.0.ids accepts.0.part = systems-live book frame.order scene accepts.0 accepts.1 good accepts.2 in
     let either : LiveOrGoneUnder book.part_names accepts.0.ids accepts.0.part = λ id kind held known alive found. All-more (RefLives accepts.0.ids) (LivesOrGone accepts.0.ids) held.refs (lives-either accepts.0.ids) (lived id kind held known alive found) in
-    all-live book after accepts.3.none_gone (play-keeps (λ one other. Unit {0}) (λ s. tt) (λ one two three first second. tt) (λ command. Unit {0}) (λ s. LiveOrGoneUnder book.part_names s.ids s.part) (λ command s t kind g made. (tt, apply-live book.part_names command s t g made)) 1 (all_commands frame accepts.1) accepts.0 after places (any-command (all_commands frame accepts.1)) either accepts.3.played_on).1
+    all-live book after accepts.3.none_gone (play-keeps (owning_kinds book) (λ one other. Unit {0}) (λ s. tt) (λ one two three first second. tt) (λ command. Unit {0}) (λ s. LiveOrGoneUnder book.part_names s.ids s.part) (λ command s t kind g made. (tt, apply-live (owning_kinds book) book.part_names command s t g made)) 1 (all_commands frame accepts.1) accepts.0 after places (any-command (all_commands frame accepts.1)) either accepts.3.played_on).1
 
 -- references live after frames
 pub reaches-live : (book : Book) (limit : ℕ) (frames : ℕ → PlainFrame) (count : ℕ) (scene after : PlainScene) (skips : List Skip) → RefsLiveUnder book.part_names scene.ids scene.part → Reaches book limit frames count scene after skips → RefsLiveUnder book.part_names after.ids after.part

@@ -8,6 +8,7 @@ use Rattle.scene_model.specs.Rulebook.{Book, Facts, known}
 use Rattle.scene_model.specs.Laws.{Ascend, DeclaresKnown}
 use Rattle.scene_document.specs.Drafts.{Draft, draft_from}
 use Rattle.scene_document.specs.Texts.{json_of, scene_json, text_of}
+use Rattle.scene.specs.Limits.{bounds_of}
 use Rattle.scene.specs.Runs.{CanBegin, Ran}
 use Rattle.scene_laws.specs.OneOutcome.{OneOutcome}
 use Rattle.scene_laws.specs.Parts.{IsInTwoParts}
@@ -43,10 +44,10 @@ parts-text book declares kinds names limits whole first systems frames commands 
       rest = goes.rest;
       frames = goes.total;
     } in
-    let end = parts-one book declares limits.commands goes.all goes.begin third at_once early late two.scene three.scene one.scene lone
+    let end = parts-one book declares (bounds_of limits) goes.all goes.begin third at_once early late two.scene three.scene one.scene lone
     (subst (CanBegin book) all one.begins) one.means three.means parts
-    (subst (λ some. Ran book limits.commands some early two.scene) begin two.ran) none
+    (subst (λ some. Ran book (bounds_of limits) some early two.scene) begin two.ran) none
     (scene-back book two.scene kinds names two.readable)
-    (subst (λ some. Ran book limits.commands some late three.scene) draft three.ran)
-    (subst (λ some. Ran book limits.commands some at_once one.scene) all one.ran) in
+    (subst (λ some. Ran book (bounds_of limits) some late three.scene) draft three.ran)
+    (subst (λ some. Ran book (bounds_of limits) some at_once one.scene) all one.ran) in
     one.written ∙ (ap (text_of book) end.1 ∙ sym three.written)

@@ -8,7 +8,7 @@ use Rattle.std.proofs.lemmas.List.Elements.{All-head, All-tail, All-nil, All-con
 use Rattle.std.specs.Ordering.{nat_cmp, match_ordering}
 use Rattle.std.specs.BTreeMap.{insert_entry}
 use Rattle.scene_model.specs.Parts.{Json, Name, is_among}
-use Rattle.scene_model.specs.Rulebook.{Book, Access, Facts, known, Outcome, Command}
+use Rattle.scene_model.specs.Rulebook.{Book, owning_kinds, Access, Facts, known, Outcome, Command}
 use Rattle.scene_model.specs.Laws.{DeclaresKnown}
 use Rattle.scene_model.specs.Lawful.{IsLawful}
 use Rattle.scene_model.specs.Scenes.{PlainScene, PlainSystem, PlainFrame, Steps, IsProper, IsDescribed, PartsStand, PartsOwned, RefsLive, fragment, with_left, lives}
@@ -130,7 +130,7 @@ module _ (book : Book) (declares : (kind : Name) (config : Json) (facts : Facts)
   frame-good limit frame scene after places described lawful good accepts =
       let turned = systems-good book declares frame.order scene accepts.0 accepts.1 described good accepts.2 in
       let mid : IsBetween book accepts.0 = proper-between book accepts.0 turned.0.stand turned.0.proper in
-      let end : IsBetween book after = (play-keeps (λ one other. Unit {0}) (λ s. tt) (λ one two three first second. tt) (IsLawful book) (IsBetween book) (λ command s t one between made. (tt, apply-between book command s t one between made)) 1 (all_commands frame accepts.1) accepts.0 after places (lawful-commands book frame accepts.1 lawful turned.1) mid accepts.3.played_on).1 in
+      let end : IsBetween book after = (play-keeps (owning_kinds book) (λ one other. Unit {0}) (λ s. tt) (λ one two three first second. tt) (IsLawful book) (IsBetween book) (λ command s t one between made. (tt, apply-between (owning_kinds book) book command s t one between made)) 1 (all_commands frame accepts.1) accepts.0 after places (lawful-commands book frame accepts.1 lawful turned.1) mid accepts.3.played_on).1 in
       record {
         proper = record {
           ids = (accepts-goes-on book limit frame scene after places good.proper.ids accepts).fit;

@@ -11,7 +11,8 @@ use Rattle.scene_model.specs.declared.refusals.Report.{Report}
 use Rattle.scene_model.specs.declared.refusals.Skip.{Skip}
 use Rattle.std.proofs.lemmas.List.Elements.{All-head, All-tail}
 use Rattle.scene_model.specs.Parts.{Name, is_among}
-use Rattle.scene_model.specs.Rulebook.{Book, Access, Fragment, Outcome, Command, leaves, refuses, fills}
+use Rattle.scene_model.specs.Bounds.{FrameLimit, commands_only}
+use Rattle.scene_model.specs.Rulebook.{Book, owning_kinds, Access, Fragment, Outcome, Command, leaves, refuses, fills}
 use Rattle.scene_model.specs.Scenes.{PlainScene, PlainSystem, PlainFrame, Steps, fragment, with_left}
 use Rattle.scene_model.specs.Commands.{Played, played, spent, play, first_gone, CommandsAccepted, CommandsRefused, skips_of}
 use Rattle.scene_model.specs.Frames.{Queues, SystemsRun, SystemsRefuse, SystemsFill, all_commands, Accepts, Refuses, Reaches, Ended}
@@ -46,7 +47,7 @@ cause_in false book (played after places) = gone_cause (first_gone book after)
 cause_in false book spent = Some IdsSpent
 
 abbrev pub cause_of : Book → ℕ → List Command → PlainScene → Option FrameRefusal
-cause_of book limit commands scene = cause_in (nat_lt limit (length commands)) book (play 1 commands scene)
+cause_of book limit commands scene = cause_in (nat_lt limit (length commands)) book (play (owning_kinds book) 1 commands scene)
 
 -- no number within a limit is past it, and each other is
 not-past : (limit n : ℕ) → n ≤ limit → nat_lt limit n ≡ false
@@ -61,16 +62,16 @@ same-cause book b c one other e f = ap (λ x. cause_in x book one) e ∙ ap (cau
 
 -- commands that are accepted have no cause of refusal
 accepted-cause : (book : Book) (limit : ℕ) (commands : List Command) (scene after : PlainScene) (places : List ℕ) → CommandsAccepted book limit commands scene after places → cause_of book limit commands scene ≡ None
-accepted-cause book limit commands scene after places done = same-cause book (nat_lt limit (length commands)) false (play 1 commands scene) (played after places) (not-past limit (length commands) done.within) done.played_on ∙ ap gone_cause done.none_gone
+accepted-cause book limit commands scene after places done = same-cause book (nat_lt limit (length commands)) false (play (owning_kinds book) 1 commands scene) (played after places) (not-past limit (length commands) done.within) done.played_on ∙ ap gone_cause done.none_gone
 
 -- commands that are refused for a cause of the scene have that cause
-refused-cause : (book : Book) (limit : ℕ) (commands : List Command) (scene : PlainScene) (cause : FrameRefusal) → IsOfScene cause → CommandsRefused book limit commands scene cause → cause_of book limit commands scene ≡ Some cause
+refused-cause : (book : Book) (limit : ℕ) (commands : List Command) (scene : PlainScene) (cause : FrameRefusal) → IsOfScene cause → CommandsRefused book (commands_only limit) commands scene cause → cause_of book limit commands scene ≡ Some cause
 refused-cause book limit commands scene (System position text) other told = absurd told
-refused-cause book limit commands scene (GoneReference id) other told = same-cause book (nat_lt limit (length commands)) false (play 1 commands scene) (played told.0 told.1) (not-past limit (length commands) told.2) told.3 ∙ ap gone_cause told.4
-refused-cause book limit commands scene IdsSpent other told = same-cause book (nat_lt limit (length commands)) false (play 1 commands scene) spent (not-past limit (length commands) told.0) told.1
+refused-cause book limit commands scene (GoneReference id) other told = same-cause book (nat_lt limit (length commands)) false (play (owning_kinds book) 1 commands scene) (played told.0 told.1) (not-past limit (length commands) told.2) told.3 ∙ ap gone_cause told.4
+refused-cause book limit commands scene IdsSpent other told = same-cause book (nat_lt limit (length commands)) false (play (owning_kinds book) 1 commands scene) spent (not-past limit (length commands) told.0) told.1
 refused-cause book limit commands scene IndicesSpent other told = absurd other
 refused-cause book limit commands scene GenerationsSpent other told = absurd other
-refused-cause book limit commands scene TooManyCommands other told = ap (λ x. cause_in x book (play 1 commands scene)) (is-past limit (length commands) told)
+refused-cause book limit commands scene TooManyCommands other told = ap (λ x. cause_in x book (play (owning_kinds book) 1 commands scene)) (is-past limit (length commands) told)
 refused-cause book limit commands scene Memory other told = absurd other
 refused-cause book limit commands scene Threads other told = absurd other
 
@@ -83,7 +84,7 @@ abbrev pub Why : Book → ℕ → PlainFrame → PlainScene → FrameRefusal →
 Why book limit frame scene cause = ((position : ℕ) × (text : List ℕ) × SystemsRefuse book frame.order scene position text × (cause ≡ System position text)) ⊎ ((SystemsFill book frame.order scene × (cause ≡ TooManyCommands)) ⊎ ((mid : PlainScene) × (queues : Queues) × SystemsRun book frame.order scene mid queues × (cause_of book limit (all_commands frame queues) mid ≡ Some cause)))
 
 -- a frame that is refused for a cause of the scene is refused for one of these reasons
-why : (book : Book) (limit : ℕ) (frame : PlainFrame) (scene : PlainScene) (cause : FrameRefusal) → IsOfScene cause → Refuses book limit frame scene cause → Why book limit frame scene cause
+why : (book : Book) (limit : ℕ) (frame : PlainFrame) (scene : PlainScene) (cause : FrameRefusal) → IsOfScene cause → Refuses book (commands_only limit) frame scene cause → Why book limit frame scene cause
 why book limit frame scene (System position text) other told = inl (position, text, told, refl)
 why book limit frame scene (GoneReference id) other told = inr (inr (told.0, told.1, told.2, refused-cause book limit (all_commands frame told.1) told.0 (GoneReference id) other told.3))
 why book limit frame scene IdsSpent other told = inr (inr (told.0, told.1, told.2, refused-cause book limit (all_commands frame told.1) told.0 IdsSpent other told.3))
@@ -93,6 +94,26 @@ why book limit frame scene TooManyCommands other (inl told) = inr (inl (told, re
 why book limit frame scene TooManyCommands other (inr told) = inr (inr (told.0, told.1, told.2, refused-cause book limit (all_commands frame told.1) told.0 TooManyCommands other told.3))
 why book limit frame scene Memory other told = absurd other
 why book limit frame scene Threads other told = absurd other
+
+-- a refusal for a cause of the scene says nothing of other limits than that on commands
+means-refuse : (book : Book) (limit : FrameLimit) (frame : PlainFrame) (scene : PlainScene) (cause : FrameRefusal) → IsOfScene cause → Refuses book limit frame scene cause → Refuses book (commands_only limit.commands) frame scene cause
+means-refuse book limit frame scene (System position text) means told = told
+means-refuse book limit frame scene (GoneReference id) means told = told
+means-refuse book limit frame scene IdsSpent means told = told
+means-refuse book limit frame scene IndicesSpent means told = absurd means
+means-refuse book limit frame scene GenerationsSpent means told = absurd means
+means-refuse book limit frame scene TooManyCommands means told = told
+means-refuse book limit frame scene Memory means told = absurd means
+means-refuse book limit frame scene Threads means told = absurd means
+
+-- nor does the end of a run that had means
+pub ended-means : (book : Book) (limit : FrameLimit) (frames : ℕ → PlainFrame) (asked : ℕ) (report : Report) (scene : PlainScene) → HadMeans report → Ended book limit frames asked report scene → Ended book (commands_only limit.commands) frames asked report scene
+ended-means book limit frames asked report scene = here report.refused
+  where
+    here : (o : Option (ℕ × FrameRefusal)) → HadMeansFor o → MatchOption o (report.frames ≡ asked) (λ refused. (report.frames < asked) × (refused.0 ≡ suc report.frames) × Refuses book limit (frames (suc report.frames)) scene refused.1)
+        → MatchOption o (report.frames ≡ asked) (λ refused. (report.frames < asked) × (refused.0 ≡ suc report.frames) × Refuses book (commands_only limit.commands) (frames (suc report.frames)) scene refused.1)
+    here None means all = all
+    here (Some refused) means told = (told.0, told.1, means-refuse book limit (frames (suc report.frames)) scene refused.1 means told.2)
 
 -- Where good scenes stay good, and what is asked of a known system on a good scene is one outcome, runs are one.
 module _ (book : Book) (Good : PlainScene → Type 0) (Known : PlainSystem → Type 0)
@@ -176,7 +197,7 @@ module _ (book : Book) (Good : PlainScene → Type 0) (Known : PlainSystem → T
   accepts-one : (limit : ℕ) (frame : PlainFrame) (scene one other : PlainScene) (places more : List ℕ) → All Known frame.order → Good scene → Accepts book limit frame scene one places → Accepts book limit frame scene other more → (one ≡ other) × (places ≡ more)
   accepts-one limit frame scene one other places more known good first second =
       let same = systems-one frame.order scene first.0 second.0 first.1 second.1 known good first.2 second.2 in
-      let end : played one places ≡ played other more = sym first.3.played_on ∙ (ap (λ queues. play 1 (all_commands frame queues) first.0) same.1 ∙ (ap (play 1 (all_commands frame second.1)) same.0 ∙ second.3.played_on)) in
+      let end : played one places ≡ played other more = sym first.3.played_on ∙ (ap (λ queues. play (owning_kinds book) 1 (all_commands frame queues) first.0) same.1 ∙ (ap (play (owning_kinds book) 1 (all_commands frame second.1)) same.0 ∙ second.3.played_on)) in
       (ap (led_to one) end, ap skipped_in end)
 
   -- So are frames that keep good scenes good.
@@ -204,30 +225,30 @@ module _ (book : Book) (Good : PlainScene → Type 0) (Known : PlainSystem → T
         (cases_eq count less)
 
     -- no run ends before another that goes on
-    ends-first : (count more : ℕ) (start one other : PlainScene) (skips some : List Skip) (cause : FrameRefusal) → Good start → IsOfScene cause → count < more → Reaches book limit frames count start one skips → Refuses book limit (frames (suc count)) one cause → Reaches book limit frames more start other some → ⊥
+    ends-first : (count more : ℕ) (start one other : PlainScene) (skips some : List Skip) (cause : FrameRefusal) → Good start → IsOfScene cause → count < more → Reaches book limit frames count start one skips → Refuses book (commands_only limit) (frames (suc count)) one cause → Reaches book limit frames more start other some → ⊥
     ends-first count more start one other skips some cause good known below reached refused longer =
         let through = reaches-through more count start other some below longer in
         let same : one ≡ through.0 = (reaches-one count start one through.0 skips through.2 good reached through.4).0 in
         accepts-why limit (frames (suc count)) one through.1 through.3 cause (each (suc count)) (reaches-good count start one skips good reached) (subst (λ s. Accepts book limit (frames (suc count)) s through.1 through.3) (sym same) through.5) (why book limit (frames (suc count)) one cause known refused)
 
     -- a run's end is at most the last frame asked for
-    ended-within : (asked : ℕ) (report : Report) (scene : PlainScene) → Ended book limit frames asked report scene → report.frames ≤ asked
+    ended-within : (asked : ℕ) (report : Report) (scene : PlainScene) → Ended book (commands_only limit) frames asked report scene → report.frames ≤ asked
     ended-within asked report scene ended = here report.refused ended
       where
-        here : (o : Option (ℕ × FrameRefusal)) → MatchOption o (report.frames ≡ asked) (λ refused. (report.frames < asked) × (refused.0 ≡ suc report.frames) × Refuses book limit (frames (suc report.frames)) scene refused.1) → report.frames ≤ asked
+        here : (o : Option (ℕ × FrameRefusal)) → MatchOption o (report.frames ≡ asked) (λ refused. (report.frames < asked) × (refused.0 ≡ suc report.frames) × Refuses book (commands_only limit) (frames (suc report.frames)) scene refused.1) → report.frames ≤ asked
         here None all = omega (arith, all)
         here (Some refused) told = omega (arith, told.0)
 
     -- of two runs that had means none ends first
-    not-less : (asked : ℕ) (start scene after : PlainScene) (one other : Report) → Good start → HadMeans one → Reaches book limit frames one.frames start scene one.skips → Ended book limit frames asked one scene → Reaches book limit frames other.frames start after other.skips → other.frames ≤ asked → one.frames < other.frames → ⊥
+    not-less : (asked : ℕ) (start scene after : PlainScene) (one other : Report) → Good start → HadMeans one → Reaches book limit frames one.frames start scene one.skips → Ended book (commands_only limit) frames asked one scene → Reaches book limit frames other.frames start after other.skips → other.frames ≤ asked → one.frames < other.frames → ⊥
     not-less asked start scene after one other good means reached ended longer within below = here one.refused means ended
       where
-        here : (o : Option (ℕ × FrameRefusal)) → HadMeansFor o → MatchOption o (one.frames ≡ asked) (λ refused. (one.frames < asked) × (refused.0 ≡ suc one.frames) × Refuses book limit (frames (suc one.frames)) scene refused.1) → ⊥
+        here : (o : Option (ℕ × FrameRefusal)) → HadMeansFor o → MatchOption o (one.frames ≡ asked) (λ refused. (one.frames < asked) × (refused.0 ≡ suc one.frames) × Refuses book (commands_only limit) (frames (suc one.frames)) scene refused.1) → ⊥
         here None known all = omega (arith, all, within, below)
         here (Some refused) known told = ends-first one.frames other.frames start scene after one.skips other.skips refused.1 good known below reached told.2 longer
 
     -- two ends of one run are the same
-    ended-one : (asked count : ℕ) (scene : PlainScene) (one other : Option (ℕ × FrameRefusal)) → Good scene → HadMeansFor one → HadMeansFor other → MatchOption one (count ≡ asked) (λ refused. (count < asked) × (refused.0 ≡ suc count) × Refuses book limit (frames (suc count)) scene refused.1) → MatchOption other (count ≡ asked) (λ refused. (count < asked) × (refused.0 ≡ suc count) × Refuses book limit (frames (suc count)) scene refused.1) → one ≡ other
+    ended-one : (asked count : ℕ) (scene : PlainScene) (one other : Option (ℕ × FrameRefusal)) → Good scene → HadMeansFor one → HadMeansFor other → MatchOption one (count ≡ asked) (λ refused. (count < asked) × (refused.0 ≡ suc count) × Refuses book (commands_only limit) (frames (suc count)) scene refused.1) → MatchOption other (count ≡ asked) (λ refused. (count < asked) × (refused.0 ≡ suc count) × Refuses book (commands_only limit) (frames (suc count)) scene refused.1) → one ≡ other
     ended-one asked count scene None None good first_means second_means first second = refl
     ended-one asked count scene None (Some other) good first_means second_means first second = absurd (omega (arith, first, second.0))
     ended-one asked count scene (Some one) None good first_means second_means first second = absurd (omega (arith, first.0, second))
@@ -238,13 +259,13 @@ module _ (book : Book) (Good : PlainScene → Type 0) (Known : PlainSystem → T
         ap (λ number. Some (number, one.1)) (first.1 ∙ sym second.1) ∙ ap (λ c. Some (other.0, c)) cause
 
     -- two runs of the same frames that had means have one report, and reach one scene
-    pub runs-one : (asked : ℕ) (start scene after : PlainScene) (one other : Report) → Good start → HadMeans one → HadMeans other → Reaches book limit frames one.frames start scene one.skips → Ended book limit frames asked one scene → Reaches book limit frames other.frames start after other.skips → Ended book limit frames asked other after → (one ≡ other) × (scene ≡ after)
+    pub runs-one : (asked : ℕ) (start scene after : PlainScene) (one other : Report) → Good start → HadMeans one → HadMeans other → Reaches book limit frames one.frames start scene one.skips → Ended book (commands_only limit) frames asked one scene → Reaches book limit frames other.frames start after other.skips → Ended book (commands_only limit) frames asked other after → (one ≡ other) × (scene ≡ after)
     runs-one asked start scene after one other good first_means second_means reached ended reached_too ended_too =
         let not_below : one.frames < other.frames → ⊥ = not-less asked start scene after one other good first_means reached ended reached_too (ended-within asked other after ended_too) in
         let not_above : other.frames < one.frames → ⊥ = not-less asked start after scene other one good second_means reached_too ended_too reached (ended-within asked one scene ended) in
         let count : one.frames ≡ other.frames = ⊎_elim (λ below. absurd (not_below below)) (λ above. ⊎_elim (λ past. absurd (not_above past)) (λ within. omega (arith, above, within)) (cases_lt other.frames one.frames)) (cases_lt one.frames other.frames) in
         let end = reaches-one one.frames start scene after one.skips other.skips good reached (subst (λ n. Reaches book limit frames n start after other.skips) (sym count) reached_too) in
         let refused : one.refused ≡ other.refused = ended-one asked one.frames scene one.refused other.refused (reaches-good one.frames start scene one.skips good reached) first_means second_means ended
-        (subst (λ s. MatchOption other.refused (one.frames ≡ asked) (λ told. (one.frames < asked) × (told.0 ≡ suc one.frames) × Refuses book limit (frames (suc one.frames)) s told.1)) (sym end.0)
-        (subst (λ n. MatchOption other.refused (n ≡ asked) (λ told. (n < asked) × (told.0 ≡ suc n) × Refuses book limit (frames (suc n)) after told.1)) (sym count) ended_too)) in
+        (subst (λ s. MatchOption other.refused (one.frames ≡ asked) (λ told. (one.frames < asked) × (told.0 ≡ suc one.frames) × Refuses book (commands_only limit) (frames (suc one.frames)) s told.1)) (sym end.0)
+        (subst (λ n. MatchOption other.refused (n ≡ asked) (λ told. (n < asked) × (told.0 ≡ suc n) × Refuses book (commands_only limit) (frames (suc n)) after told.1)) (sym count) ended_too)) in
         ((λ i. record { frames = count i; skips = end.1 i; refused = refused i }), end.0)

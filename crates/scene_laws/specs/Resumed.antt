@@ -8,6 +8,7 @@ use Rattle.scene_model.specs.Scenes.{PlainScene}
 use Rattle.scene_document.specs.Drafts.{Draft, DraftEntry, DraftCommand, whole_32, entries_from, commands_from}
 use Rattle.scene_document.specs.Texts.{scene_json, text_of, ReadsBack}
 use Rattle.scene_document.specs.Documents.{document_from}
+use Rattle.scene.specs.Limits.{bounds_of}
 use Rattle.scene.specs.Runs.{CanBegin, Ran}
 use Rattle.scene_laws.specs.OneOutcome.{HadMeans}
 use Rattle.scene_laws.specs.Printed.{CanBeRead}
@@ -19,7 +20,7 @@ pub record IsFinished (book : Book) (limits : Limits) (json : Json) (report : Re
   pub scene : PlainScene
   pub document : document_from book limits.indices json ≡ Ok draft
   pub begins : CanBegin book draft
-  pub ran : Ran book limits.commands draft report scene
+  pub ran : Ran book (bounds_of limits) draft report scene
   pub means : HadMeans report
   pub readable : CanBeRead book scene
   pub written : text ≡ text_of book scene

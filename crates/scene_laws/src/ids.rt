@@ -1,8 +1,9 @@
 //! An id is given once.
-ghost use Rattle.std.specs.Prelude.{◌≡◌, ℕ, List, Ok};
+ghost use Rattle.std.specs.Prelude.{◌≡◌, ℕ, true, List, Ok};
 ghost use Rattle.scene_model.specs.Scenes.{PlainScene, PlainFrame, IdsFit};
 ghost use Rattle.scene_model.specs.Rulebook.{spawn, kill};
 ghost use Rattle.scene_model.specs.Parts.{Name, Part};
+ghost use Rattle.scene_model.specs.Deaths.{dies_with};
 ghost use Rattle.scene_model.specs.Commands.{apply, changed};
 ghost use Rattle.scene_model.specs.declared.refusals.Skip.{Skip};
 ghost use Rattle.scene_model.specs.declared.refusals.Report.{Report};
@@ -16,8 +17,8 @@ ghost use Rattle.scene_laws.specs.Ids.{IdsGoOn, Gives, TakesAway, ReachesBehind}
 use scene_model::DocumentRules;
 
 /// No id is given twice: over any number of frames the next id does not fall, an id that was given and does not live
-/// stays dead, and each id that came is new; a spawn gives the next id, which no entity had; and a killed id
-/// is dead and below the next one, so that it stays dead. So it is from the scene of each document on, over its frames,
+/// stays dead, and each id that came is new; a spawn gives the next id, which no entity had; and each id that a kill
+/// takes is dead and below the next one, so that it stays dead. So it is from the scene of each document on, over its frames,
 /// between any two of the scenes that they reach, and for each run.
 pub fn an_id_is_given_once<R: DocumentRules>(rules: &R)
     ensures go_on { (limit : ℕ) (frames : ℕ → PlainFrame) (count : ℕ) (scene after : PlainScene)
@@ -30,8 +31,10 @@ pub fn an_id_is_given_once<R: DocumentRules>(rules: &R)
         × IdsGoOn mid end }
     ensures run { (bounds : Bounds) (input : List ℕ) (report : Report) (text : List ℕ)
         → (ran : IsRunOf (R.book rules.now) bounds input report text) → IdsGoOn (first_scene ran.draft) ran.scene }
-    ensures spawned { (parts : List (Name × Part)) (scene after : PlainScene) → IdsFit scene.next scene.ids
-        → apply (spawn parts) scene ≡ changed after → Gives scene.next scene after }
-    ensures killed { (id : ℕ) (scene after : PlainScene) → IdsFit scene.next scene.ids
-        → apply (kill id) scene ≡ changed after → TakesAway id scene after }
+    ensures spawned { (owning : List Name) (parts : List (Name × Part)) (scene after : PlainScene)
+        → IdsFit scene.next scene.ids → apply owning (spawn parts) scene ≡ changed after
+        → Gives scene.next scene after }
+    ensures killed { (owning : List Name) (id one : ℕ) (scene after : PlainScene) → IdsFit scene.next scene.ids
+        → apply owning (kill id) scene ≡ changed after → dies_with owning scene id one ≡ true
+        → TakesAway one scene after }
 {}

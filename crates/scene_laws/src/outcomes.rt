@@ -3,8 +3,9 @@ ghost use Rattle.std.specs.Prelude.{◌≡◌, ℕ, List};
 ghost use Rattle.scene_model.specs.Scenes.{PlainScene};
 ghost use Rattle.scene_model.specs.declared.refusals.Report.{Report};
 ghost use Rattle.scene_document.specs.Drafts.{Draft};
+ghost use Rattle.scene.specs.Limits.{Bounds};
 ghost use Rattle.scene.specs.Runs.{CanBegin, Ran};
-ghost use Rattle.scene.specs.Outcomes.{Bounds, IsRunOf};
+ghost use Rattle.scene.specs.Outcomes.{IsRunOf};
 ghost use Rattle.scene_laws.specs.OneOutcome.{OneOutcome, HadMeans, SameButPlace, GivesDraft};
 
 use scene_model::DocumentRules;
@@ -13,13 +14,13 @@ use scene_model::DocumentRules;
 /// runs of it, in which no frame is refused for want of memory or of a thread or at a limit of the world's entities, have the same
 /// report and reach the same scene.
 pub fn one_outcome<R: DocumentRules>(rules: &R)
-    ensures report { (limit : ℕ) (draft : Draft) (one other : Report) (scene after : PlainScene)
+    ensures report { (bounds : Bounds) (draft : Draft) (one other : Report) (scene after : PlainScene)
         → OneOutcome (R.book rules.now) → CanBegin (R.book rules.now) draft → HadMeans one → HadMeans other
-        → Ran (R.book rules.now) limit draft one scene → Ran (R.book rules.now) limit draft other after
+        → Ran (R.book rules.now) bounds draft one scene → Ran (R.book rules.now) bounds draft other after
         → one ≡ other }
-    ensures scene { (limit : ℕ) (draft : Draft) (one other : Report) (scene after : PlainScene)
+    ensures scene { (bounds : Bounds) (draft : Draft) (one other : Report) (scene after : PlainScene)
         → OneOutcome (R.book rules.now) → CanBegin (R.book rules.now) draft → HadMeans one → HadMeans other
-        → Ran (R.book rules.now) limit draft one scene → Ran (R.book rules.now) limit draft other after
+        → Ran (R.book rules.now) bounds draft one scene → Ran (R.book rules.now) bounds draft other after
         → scene ≡ after }
 {}
 

@@ -6,6 +6,7 @@ ghost use Rattle.scene_model.specs.declared.refusals.Skip.{Skip};
 ghost use Rattle.scene_document.specs.Drafts.{Draft};
 ghost use Rattle.scene_document.specs.Texts.{text_of};
 ghost use Rattle.scene_model.specs.Frames.{Reaches};
+ghost use Rattle.scene.specs.Limits.{Bounds};
 ghost use Rattle.scene.specs.Runs.{CanBegin, Ran};
 ghost use Rattle.scene_laws.specs.OneOutcome.{OneOutcome, HadMeans};
 ghost use Rattle.scene_laws.specs.Parts.{frames_behind, later_skips, joined, IsInTwoParts, BeginsAt};
@@ -20,12 +21,12 @@ pub fn frames_in_two_parts<R: DocumentRules>(rules: &R)
         (skips rest : List Skip) → Reaches (R.book rules.now) limit frames count scene mid skips
         → Reaches (R.book rules.now) limit (frames_behind count frames) more mid after rest
         → Reaches (R.book rules.now) limit frames (count + more) scene after (skips ++ later_skips count rest) }
-    ensures report { (limit : ℕ) (all head rest : Draft) (sum one two : Report) (mid now end : PlainScene)
+    ensures report { (bounds : Bounds) (all head rest : Draft) (sum one two : Report) (mid now end : PlainScene)
         → let book = R.book rules.now in OneOutcome book → CanBegin book all → HadMeans sum → HadMeans two
-        → IsInTwoParts all head rest → Ran book limit head one mid → one.refused ≡ None → BeginsAt rest mid
-        → Ran book limit rest two now → Ran book limit all sum end → sum ≡ joined one two }
-    ensures text { (limit : ℕ) (all head rest : Draft) (sum one two : Report) (mid now end : PlainScene)
+        → IsInTwoParts all head rest → Ran book bounds head one mid → one.refused ≡ None → BeginsAt rest mid
+        → Ran book bounds rest two now → Ran book bounds all sum end → sum ≡ joined one two }
+    ensures text { (bounds : Bounds) (all head rest : Draft) (sum one two : Report) (mid now end : PlainScene)
         → let book = R.book rules.now in OneOutcome book → CanBegin book all → HadMeans sum → HadMeans two
-        → IsInTwoParts all head rest → Ran book limit head one mid → one.refused ≡ None → BeginsAt rest mid
-        → Ran book limit rest two now → Ran book limit all sum end → text_of book end ≡ text_of book now }
+        → IsInTwoParts all head rest → Ran book bounds head one mid → one.refused ≡ None → BeginsAt rest mid
+        → Ran book bounds rest two now → Ran book bounds all sum end → text_of book end ≡ text_of book now }
 {}

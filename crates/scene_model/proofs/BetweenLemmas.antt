@@ -12,7 +12,8 @@ use Rattle.scene_model.specs.Parts.{Name, Ref, living, gone, Part, is_among, und
 use Rattle.scene_model.specs.Rulebook.{Book, Command, spawn, kill, put, take}
 use Rattle.scene_model.specs.Lawful.{IsKnownPart, IsLawful}
 use Rattle.scene_model.specs.Scenes.{PlainScene, IsProper, PartsStand, PartsOwned, PartsAdmitted, GlobalsReadable, lives}
-use Rattle.scene_model.specs.Commands.{apply, changed, is_to, without_ref, part_without, is_gone, holds_gone, first_gone, refs_live}
+use Rattle.scene_model.specs.Deaths.{is_to, without_ref, part_without, without, dies_with}
+use Rattle.scene_model.specs.Commands.{apply, changed, is_gone, holds_gone, first_gone, refs_live}
 use Rattle.scene_model.proofs.MadeLemmas.{spawn-makes, tested-makes, lives-last, lives-longer, lives-passed}
 
 -- what no element passes, none of them passes
@@ -61,43 +62,73 @@ under-known book (entry ∷ parts) kind held all found = here (under-known book 
         subst (λ (name : Name). IsKnownPart book (name, held)) (sym equal) (subst (λ (part : Part). IsKnownPart book (entry.0, part)) one (All-head (IsKnownPart book) entry parts all))
     here later false same e = later e
 
--- a reference to an id that goes is gone, one that is gone stays so, and others stay as they are
-pub now-gone : (id : ℕ) (refs : List Ref) → list_any (is_to id) refs ≡ true → list_any is_gone (map (without_ref id) refs) ≡ true
-now-gone id [] e = absurd (false≢true e)
-now-gone id (gone ∷ refs) e = refl
-now-gone id (living other ∷ refs) e = here (eqb other id) e (now-gone id refs)
+-- a reference to one of the dead is gone, one that is gone stays so, and others stay as they are
+pub now-gone : (dead : ℕ → Bool) (refs : List Ref) → list_any (is_to dead) refs ≡ true → list_any is_gone (map (without_ref dead) refs) ≡ true
+now-gone dead [] e = absurd (false≢true e)
+now-gone dead (gone ∷ refs) e = refl
+now-gone dead (living other ∷ refs) e = here (dead other) e (now-gone dead refs)
   where
-    here : (b : Bool) → (b || list_any (is_to id) refs) ≡ true → (list_any (is_to id) refs ≡ true → list_any is_gone (map (without_ref id) refs) ≡ true) → (is_gone (cond b gone (living other)) || list_any is_gone (map (without_ref id) refs)) ≡ true
+    here : (b : Bool) → (b || list_any (is_to dead) refs) ≡ true → (list_any (is_to dead) refs ≡ true → list_any is_gone (map (without_ref dead) refs) ≡ true) → (is_gone (cond b gone (living other)) || list_any is_gone (map (without_ref dead) refs)) ≡ true
     here true found later = refl
     here false found later = later found
 
-stays-gone : (id : ℕ) (refs : List Ref) → list_any is_gone refs ≡ true → list_any is_gone (map (without_ref id) refs) ≡ true
-stays-gone id [] e = absurd (false≢true e)
-stays-gone id (gone ∷ refs) e = refl
-stays-gone id (living other ∷ refs) e = here (eqb other id) (stays-gone id refs e)
+stays-gone : (dead : ℕ → Bool) (refs : List Ref) → list_any is_gone refs ≡ true → list_any is_gone (map (without_ref dead) refs) ≡ true
+stays-gone dead [] e = absurd (false≢true e)
+stays-gone dead (gone ∷ refs) e = refl
+stays-gone dead (living other ∷ refs) e = here (dead other) (stays-gone dead refs e)
   where
-    here : (b : Bool) → list_any is_gone (map (without_ref id) refs) ≡ true → (is_gone (cond b gone (living other)) || list_any is_gone (map (without_ref id) refs)) ≡ true
+    here : (b : Bool) → list_any is_gone (map (without_ref dead) refs) ≡ true → (is_gone (cond b gone (living other)) || list_any is_gone (map (without_ref dead) refs)) ≡ true
     here true later = refl
     here false later = later
 
-pub not-there : (id : ℕ) (refs : List Ref) → list_any (is_to id) refs ≡ false → map (without_ref id) refs ≡ refs
-not-there id [] e = refl
-not-there id (gone ∷ refs) e = ap (λ rest. gone ∷ rest) (not-there id refs e)
-not-there id (living other ∷ refs) e = let parts = or_parts (eqb other id) (list_any (is_to id) refs) e in ap (λ b. cond b gone (living other) ∷ map (without_ref id) refs) parts.0 ∙ ap (λ rest. living other ∷ rest) (not-there id refs parts.1)
+pub not-there : (dead : ℕ → Bool) (refs : List Ref) → list_any (is_to dead) refs ≡ false → map (without_ref dead) refs ≡ refs
+not-there dead [] e = refl
+not-there dead (gone ∷ refs) e = ap (λ rest. gone ∷ rest) (not-there dead refs e)
+not-there dead (living other ∷ refs) e = let parts = or_parts (dead other) (list_any (is_to dead) refs) e in ap (λ b. cond b gone (living other) ∷ map (without_ref dead) refs) parts.0 ∙ ap (λ rest. living other ∷ rest) (not-there dead refs parts.1)
 
 -- a part that loses a reference holds one that is gone, and another is as it was
-lost-or-same : (id : ℕ) (part : Part) → (list_any is_gone (part_without id part).refs ≡ true) ⊎ (part_without id part ≡ part)
-lost-or-same id part = here (list_any (is_to id) part.refs) refl
+lost-or-same : (dead : ℕ → Bool) (part : Part) → (list_any is_gone (part_without dead part).refs ≡ true) ⊎ (part_without dead part ≡ part)
+lost-or-same dead part = here (list_any (is_to dead) part.refs) refl
   where
-    here : (b : Bool) → list_any (is_to id) part.refs ≡ b → (list_any is_gone (map (without_ref id) part.refs) ≡ true) ⊎ (part_without id part ≡ part)
-    here true is = inl (now-gone id part.refs is)
-    here false is = inr (ap (λ b. record { json = cond b null part.json; refs = map (without_ref id) part.refs }) is ∙ ap (λ refs. record { json = part.json; refs = refs }) (not-there id part.refs is))
+    here : (b : Bool) → list_any (is_to dead) part.refs ≡ b → (list_any is_gone (map (without_ref dead) part.refs) ≡ true) ⊎ (part_without dead part ≡ part)
+    here true is = inl (now-gone dead part.refs is)
+    here false is = inr (ap (λ b. record { json = cond b null part.json; refs = map (without_ref dead) part.refs }) is ∙ ap (λ refs. record { json = part.json; refs = refs }) (not-there dead part.refs is))
 
 module _ (book : Book) where
+  -- a scene without its dead has them so
+  pub without-between : (dead : ℕ → Bool) (scene : PlainScene) → IsBetween book scene → IsBetween book (without dead scene)
+  without-between dead scene between = record {
+    owned = λ other kind held found. owned other kind held (dead other) refl found;
+    stand = λ other kind held found. let old = before other kind held (dead other) found in between.stand other kind old.0 old.1;
+    either = λ other kind held found. let old = before other kind held (dead other) found in either kind old.0 held old.2 (between.either other kind old.0 old.1);
+    readable = between.readable;
+  }
+    where
+      before : (other : ℕ) (kind : Name) (held : Part) (b : Bool) → cond b None (option_map (part_without dead) (scene.part other kind)) ≡ Some held → (old : Part) × (scene.part other kind ≡ Some old) × (part_without dead old ≡ held)
+      before other kind held true found = absurd (none-some held found)
+      before other kind held false found = of (scene.part other kind) refl found
+        where
+          of : (o : Option Part) → scene.part other kind ≡ o → option_map (part_without dead) o ≡ Some held → (old : Part) × (scene.part other kind ≡ Some old) × (part_without dead old ≡ held)
+          of None is e = absurd (none-some held e)
+          of (Some old) is e = (old, is, same_Some (part_without dead old) held e)
+
+      owned : (other : ℕ) (kind : Name) (held : Part) (b : Bool) → dead other ≡ b → cond b None (option_map (part_without dead) (scene.part other kind)) ≡ Some held → lives other (filter (λ one. not (dead one)) scene.ids) ≡ true
+      owned other kind held true is found = absurd (none-some held found)
+      owned other kind held false is found = let old = before other kind held false found in lives-passed (λ one. not (dead one)) other scene.ids (ap not is) (between.owned other kind old.0 old.1)
+
+      either : (kind : Name) (old held : Part) → part_without dead old ≡ held → (book.admits kind old ≡ true) ⊎ (list_any is_gone old.refs ≡ true) → (book.admits kind held ≡ true) ⊎ (list_any is_gone held.refs ≡ true)
+      either kind old held is (inr was) = inr (subst (λ (part : Part). list_any is_gone part.refs ≡ true) is (stays-gone dead old.refs was))
+      either kind old held is (inl admitted) = of (lost-or-same dead old)
+        where
+          of : (list_any is_gone (part_without dead old).refs ≡ true) ⊎ (part_without dead old ≡ old) → (book.admits kind held ≡ true) ⊎ (list_any is_gone held.refs ≡ true)
+          of (inl lost) = inr (subst (λ (part : Part). list_any is_gone part.refs ≡ true) is lost)
+          of (inr same) = inl (subst (λ (part : Part). book.admits kind part ≡ true) (sym same ∙ is) admitted)
+
+module _ (owning : List Name) (book : Book) where
   -- a lawful command leaves parts so
-  pub apply-between : (command : Command) (scene after : PlainScene) → IsLawful book command → IsBetween book scene → apply command scene ≡ changed after → IsBetween book after
+  pub apply-between : (command : Command) (scene after : PlainScene) → IsLawful book command → IsBetween book scene → apply owning command scene ≡ changed after → IsBetween book after
   apply-between (spawn parts) scene after lawful between e =
-      let made = spawn-makes parts scene after e in
+      let made = spawn-makes owning parts scene after e in
       subst (IsBetween book) made.1 (record {
         owned = λ id kind held found. owned id kind held (eqb id scene.next) refl found;
         stand = λ id kind held found. stand id kind held (eqb id scene.next) found;
@@ -119,32 +150,7 @@ module _ (book : Book) where
       either : (id : ℕ) (kind : Name) (held : Part) (b : Bool) → cond b (under kind parts) (scene.part id kind) ≡ Some held → (book.admits kind held ≡ true) ⊎ (list_any is_gone held.refs ≡ true)
       either id kind held true found = inl (under-known book parts kind held lawful.0 found).1
       either id kind held false found = between.either id kind held found
-  apply-between (kill id) scene after lawful between e = subst (IsBetween book) (tested-makes (lives id scene.ids) scene _ after e).1 (record {
-    owned = λ other kind held found. owned other kind held (eqb other id) refl found;
-    stand = λ other kind held found. let old = before other kind held (eqb other id) found in between.stand other kind old.0 old.1;
-    either = λ other kind held found. let old = before other kind held (eqb other id) found in either kind old.0 held old.2 (between.either other kind old.0 old.1);
-    readable = between.readable;
-  })
-    where
-      before : (other : ℕ) (kind : Name) (held : Part) (b : Bool) → cond b None (option_map (part_without id) (scene.part other kind)) ≡ Some held → (old : Part) × (scene.part other kind ≡ Some old) × (part_without id old ≡ held)
-      before other kind held true found = absurd (none-some held found)
-      before other kind held false found = of (scene.part other kind) refl found
-        where
-          of : (o : Option Part) → scene.part other kind ≡ o → option_map (part_without id) o ≡ Some held → (old : Part) × (scene.part other kind ≡ Some old) × (part_without id old ≡ held)
-          of None is e = absurd (none-some held e)
-          of (Some old) is e = (old, is, same_Some (part_without id old) held e)
-
-      owned : (other : ℕ) (kind : Name) (held : Part) (b : Bool) → eqb other id ≡ b → cond b None (option_map (part_without id) (scene.part other kind)) ≡ Some held → lives other (filter (λ one. not (eqb one id)) scene.ids) ≡ true
-      owned other kind held true is found = absurd (none-some held found)
-      owned other kind held false is found = let old = before other kind held false found in lives-passed (λ one. not (eqb one id)) other scene.ids (ap not is) (between.owned other kind old.0 old.1)
-
-      either : (kind : Name) (old held : Part) → part_without id old ≡ held → (book.admits kind old ≡ true) ⊎ (list_any is_gone old.refs ≡ true) → (book.admits kind held ≡ true) ⊎ (list_any is_gone held.refs ≡ true)
-      either kind old held is (inr was) = inr (subst (λ (part : Part). list_any is_gone part.refs ≡ true) is (stays-gone id old.refs was))
-      either kind old held is (inl admitted) = of (lost-or-same id old)
-        where
-          of : (list_any is_gone (part_without id old).refs ≡ true) ⊎ (part_without id old ≡ old) → (book.admits kind held ≡ true) ⊎ (list_any is_gone held.refs ≡ true)
-          of (inl lost) = inr (subst (λ (part : Part). list_any is_gone part.refs ≡ true) is lost)
-          of (inr same) = inl (subst (λ (part : Part). book.admits kind part ≡ true) (sym same ∙ is) admitted)
+  apply-between (kill id) scene after lawful between e = subst (IsBetween book) (tested-makes (lives id scene.ids) scene _ after e).1 (without-between book (dies_with owning scene id) scene between)
   apply-between (put id kind part) scene after lawful between e =
       let made = tested-makes (lives id scene.ids && refs_live scene.ids part) scene _ after e in
       subst (IsBetween book) made.1 (record {
@@ -176,6 +182,7 @@ module _ (book : Book) where
       was other name held true found = absurd (none-some held found)
       was other name held false found = found
 
+module _ (book : Book) where
   -- where no reference is gone, all parts are ones that the rules admit
   pub admitted-again : (scene : PlainScene) → first_gone book scene ≡ None → IsBetween book scene → PartsAdmitted book scene.part
   admitted-again scene none between id kind held found = of (between.either id kind held found)

@@ -1,6 +1,8 @@
 pub mod NameLemmas
 pub mod FragmentLemmas
 pub mod OrderLemmas
+pub mod DeathLemmas
+pub mod DeathRows
 pub mod LeadLemmas
 pub mod WalkLemmas
 pub mod MadeLemmas

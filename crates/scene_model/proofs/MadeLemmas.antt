@@ -66,8 +66,8 @@ spawned parts scene = record {
 }
 
 -- what a spawn that is carried out makes of a scene
-pub spawn-makes : (parts : List (Name × Part)) (scene after : PlainScene) → apply (spawn parts) scene ≡ changed after → (list_all (λ entry. refs_live scene.ids entry.1) parts ≡ true) × (spawned parts scene ≡ after)
-spawn-makes parts scene after made_it = here (list_all (λ entry. refs_live scene.ids entry.1) parts) (eqb scene.next last_next) made_it
+pub spawn-makes : (owning : List Name) (parts : List (Name × Part)) (scene after : PlainScene) → apply owning (spawn parts) scene ≡ changed after → (list_all (λ entry. refs_live scene.ids entry.1) parts ≡ true) × (spawned parts scene ≡ after)
+spawn-makes owning parts scene after made_it = here (list_all (λ entry. refs_live scene.ids entry.1) parts) (eqb scene.next last_next) made_it
   where
     here : (b c : Bool) → cond b (cond c ids_spent (changed (spawned parts scene))) skipped ≡ changed after → (b ≡ true) × (spawned parts scene ≡ after)
     here true true e = absurd (false≢true (ap is_changed e))
@@ -80,15 +80,15 @@ tested-makes true scene made_one after e = (refl, ap (made scene) e)
 tested-makes false scene made_one after e = absurd (false≢true (ap is_changed e))
 
 -- what holds of a scene and goes on over each command of a kind goes on over all
-pub play-keeps : (R : PlainScene → PlainScene → Type 0) → ((scene : PlainScene) → R scene scene) → ((scene mid after : PlainScene) → R scene mid → R mid after → R scene after) → (Kind : Command → Type 0) (Good : PlainScene → Type 0) → ((command : Command) (scene after : PlainScene) → Kind command → Good scene → apply command scene ≡ changed after → R scene after × Good after) → (place : ℕ) (commands : List Command) (scene after : PlainScene) (places : List ℕ) → All Kind commands → Good scene → play place commands scene ≡ played after places → R scene after × Good after
-play-keeps R same then Kind Good step place [] scene after places kinds good e = subst (λ s. R scene s × Good s) (ap (led_to scene) e) (same scene, good)
-play-keeps R same then Kind Good step place (command ∷ commands) scene after places kinds good e = here (λ mid some. play-keeps R same then Kind Good step (place + 1) commands mid after some (All-tail Kind command commands kinds)) (apply command scene) refl e
+pub play-keeps : (owning : List Name) (R : PlainScene → PlainScene → Type 0) → ((scene : PlainScene) → R scene scene) → ((scene mid after : PlainScene) → R scene mid → R mid after → R scene after) → (Kind : Command → Type 0) (Good : PlainScene → Type 0) → ((command : Command) (scene after : PlainScene) → Kind command → Good scene → apply owning command scene ≡ changed after → R scene after × Good after) → (place : ℕ) (commands : List Command) (scene after : PlainScene) (places : List ℕ) → All Kind commands → Good scene → play owning place commands scene ≡ played after places → R scene after × Good after
+play-keeps owning R same then Kind Good step place [] scene after places kinds good e = subst (λ s. R scene s × Good s) (ap (led_to scene) e) (same scene, good)
+play-keeps owning R same then Kind Good step place (command ∷ commands) scene after places kinds good e = here (λ mid some. play-keeps owning R same then Kind Good step (place + 1) commands mid after some (All-tail Kind command commands kinds)) (apply owning command scene) refl e
   where
-    behind-one : ((mid : PlainScene) (some : List ℕ) → Good mid → play (place + 1) commands mid ≡ played after some → R mid after × Good after) → (p : Played) → play (place + 1) commands scene ≡ p → behind place p ≡ played after places → R scene after × Good after
+    behind-one : ((mid : PlainScene) (some : List ℕ) → Good mid → play owning (place + 1) commands mid ≡ played after some → R mid after × Good after) → (p : Played) → play owning (place + 1) commands scene ≡ p → behind place p ≡ played after places → R scene after × Good after
     behind-one later (played s some) is e = later scene some good (is ∙ ap (λ end. played end some) (ap (led_to scene) e))
     behind-one later spent is e = absurd (false≢true (ap is_played e))
 
-    here : ((mid : PlainScene) (some : List ℕ) → Good mid → play (place + 1) commands mid ≡ played after some → R mid after × Good after) → (a : Applied) → apply command scene ≡ a → go_on place (play (place + 1) commands) scene a ≡ played after places → R scene after × Good after
+    here : ((mid : PlainScene) (some : List ℕ) → Good mid → play owning (place + 1) commands mid ≡ played after some → R mid after × Good after) → (a : Applied) → apply owning command scene ≡ a → go_on place (play owning (place + 1) commands) scene a ≡ played after places → R scene after × Good after
     here later (changed mid) is e = let one = step command scene mid (All-head Kind command commands kinds) good is in let rest = later mid places one.1 e in (then scene mid after one.0 rest.0, rest.1)
-    here later skipped is e = behind-one later (play (place + 1) commands scene) refl e
+    here later skipped is e = behind-one later (play owning (place + 1) commands scene) refl e
     here later ids_spent is e = absurd (false≢true (ap is_played e))

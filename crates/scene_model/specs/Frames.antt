@@ -1,6 +1,6 @@
--- A frame: each system in its turn, then the commands, then a look for references that are gone. The limit is that on the
--- commands of a frame.
-use Rattle.std.specs.Prelude.{◌≡◌, ◌<◌, ℕ, zero, suc, ◌⊎◌, List, [], ◌∷◌, ◌++◌, MatchOption}
+-- A frame: each system in its turn, then the commands, then a look for references that are gone. Where a frame is accepted, the limit
+-- is that on its commands.
+use Rattle.std.specs.Prelude.{◌≡◌, ◌<◌, ◌≤◌, ℕ, zero, suc, ◌⊎◌, List, [], ◌∷◌, ◌++◌, MatchOption}
 use Rattle.std.specs.List.{fold, flat_map}
 use Rattle.std.specs.Ordering.{nat_cmp}
 use Rattle.std.specs.BTreeMap.{insert_entry}
@@ -8,6 +8,7 @@ use Rattle.scene_model.specs.declared.refusals.FrameRefusal.{FrameRefusal}
 use Rattle.scene_model.specs.declared.refusals.FrameRefusal.TheVariants.{GoneReference, IdsSpent, IndicesSpent, GenerationsSpent, TooManyCommands}
 use Rattle.scene_model.specs.declared.refusals.Report.{Report}
 use Rattle.scene_model.specs.declared.refusals.Skip.{Skip}
+use Rattle.scene_model.specs.Bounds.{FrameLimit}
 use Rattle.scene_model.specs.Rulebook.{Book, Command}
 use Rattle.scene_model.specs.Scenes.{PlainScene, PlainSystem, PlainFrame, Steps, StepRefuses, StepFills}
 use Rattle.scene_model.specs.Causes.{Says}
@@ -49,18 +50,19 @@ abbrev pub Accepts : Book → ℕ → PlainFrame → PlainScene → PlainScene �
 Accepts book limit frame scene after places = (mid : PlainScene) × (queues : Queues) × SystemsRun book frame.order scene mid queues × CommandsAccepted book limit (all_commands frame queues) mid after places
 
 -- the systems of a frame run, and then its commands are refused with this cause
-abbrev pub RefusesCommands : Book → ℕ → PlainFrame → PlainScene → FrameRefusal → Type 0
+abbrev pub RefusesCommands : Book → FrameLimit → PlainFrame → PlainScene → FrameRefusal → Type 0
 RefusesCommands book limit frame scene cause = (mid : PlainScene) × (queues : Queues) × SystemsRun book frame.order scene mid queues × CommandsRefused book limit (all_commands frame queues) mid cause
 
--- a frame is refused with this cause: a system's, or one of the commands; want of memory or of a thread says nothing of the scene
-abbrev pub Refuses : Book → ℕ → PlainFrame → PlainScene → FrameRefusal → Type 0
+-- a frame is refused with this cause: a system's, or one of the commands; only with two workers or more a thread is wanting, which says
+-- nothing of the scene, and neither does want of memory
+abbrev pub Refuses : Book → FrameLimit → PlainFrame → PlainScene → FrameRefusal → Type 0
 Refuses book limit frame scene cause = Says (record {
   system = λ position text. SystemsRefuse book frame.order scene position text;
   gone = λ id. RefusesCommands book limit frame scene (GoneReference id);
   ids = RefusesCommands book limit frame scene IdsSpent;
   indices = RefusesCommands book limit frame scene IndicesSpent;
   generations = RefusesCommands book limit frame scene GenerationsSpent;
-  threads = Unit {0};
+  threads = 2 ≤ limit.workers;
   commands = SystemsFill book frame.order scene ⊎ RefusesCommands book limit frame scene TooManyCommands;
 }) cause
 
@@ -70,5 +72,5 @@ Reaches book limit frames zero scene after skips = (after ≡ scene) × (skips �
 Reaches book limit frames (suc count) scene after skips = (mid : PlainScene) × (earlier : List Skip) × (places : List ℕ) × Reaches book limit frames count scene mid earlier × Accepts book limit (frames (suc count)) mid after places × (skips ≡ earlier ++ skips_of (suc count) places)
 
 -- a run has ended at a scene: all frames asked for were accepted, or the next one is refused
-abbrev pub Ended : Book → ℕ → (ℕ → PlainFrame) → ℕ → Report → PlainScene → Type 0
+abbrev pub Ended : Book → FrameLimit → (ℕ → PlainFrame) → ℕ → Report → PlainScene → Type 0
 Ended book limit frames asked report scene = MatchOption report.refused (report.frames ≡ asked) (λ refused. (report.frames < asked) × (refused.0 ≡ suc report.frames) × Refuses book limit (frames (suc report.frames)) scene refused.1)

@@ -5,6 +5,8 @@ pub mod Lawful
 pub mod Scenes
 pub mod Ids
 pub mod Causes
+pub mod Deaths
+pub mod Bounds
 pub mod Commands
 pub mod Leads
 pub mod Frames

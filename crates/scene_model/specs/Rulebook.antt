@@ -1,5 +1,6 @@
 -- What the rules of a scene mean: their names, what they read, and what their systems may do.
 use Rattle.std.specs.Prelude.{ℕ, Bool, ◌||◌, List, Option}
+use Rattle.std.specs.List.{filter}
 use Rattle.scene_model.specs.Parts.{Json, Name, Part, is_among}
 
 -- the kinds and globals that a system reads and writes, and whether it would write entities or markers
@@ -57,6 +58,8 @@ pub data Described : Type 0 where
 -- the meaning of an implementation of the rules
 pub record Book : Type 1 where
   pub part_names : List Name
+  -- whether references in parts of a kind own their holder, which dies with the one to whom they are
+  pub owning : Name → Bool
   pub global_names : List Name
   -- the part that the rules read under a kind, none where the data has not its shape
   pub read_part : Name → Json → Option Part
@@ -68,3 +71,7 @@ pub record Book : Type 1 where
   pub system : Name → Json → Described
   -- what a system of a kind with a configuration may make of what it is lent
   pub meets : Name → Json → Fragment → Outcome → Type 0
+
+-- the kinds whose references own their holder
+abbrev pub owning_kinds : Book → List Name
+owning_kinds book = filter book.owning book.part_names

@@ -7,6 +7,7 @@
 mod access;
 mod command;
 mod documents;
+pub mod laws;
 mod places;
 mod plain;
 mod reading;

@@ -246,10 +246,10 @@ module _ {V : Type 0} (kinds : Kinds V) (w w2 : Sight V) (was : IsRoll (roll_of 
       (parts kind) (column_of kinds w kind) (column_of kinds w2 kind) (bears.parts_so kind known) (bears.unnamed kind known) within
 
   -- the scene is what a spawn of these parts makes of the one before
-  pub born-scene : (given : List (Name × Part)) → list_all (λ entry. refs_live (plain_of kinds w).ids entry.1) given ≡ true → eqb next last_next ≡ false
+  pub born-scene : (owning : List Name) (given : List (Name × Part)) → list_all (λ entry. refs_live (plain_of kinds w).ids entry.1) given ≡ true → eqb next last_next ≡ false
       → ((kind : Name) → under kind given ≡ cond (is_among kind kinds.part_names) (option_map (part_under (ref_to (roll_of kinds w))) (parts kind)) None)
-      → apply (spawn given) (plain_of kinds w) ≡ changed (plain_of kinds w2)
-  born-scene given live left same =
+      → apply owning (spawn given) (plain_of kinds w) ≡ changed (plain_of kinds w2)
+  born-scene owning given live left same =
       ap (λ b. cond b (cond (eqb next last_next) ids_spent (changed with_it)) skipped) live
       ∙ ap (λ b. cond b ids_spent (changed with_it)) left ∙ ap changed (sym scene)
     where

@@ -2,16 +2,15 @@
 use Rattle.std.proofs.Common.{◌≡◌, ◌<◌, ℕ, Bool, true, false, not, cond, eqb, ◌&&◌, List, [], ◌∷◌, map, Option, Some, None, filter, refl, ap, sym, ◌∙◌, subst}
 use Rattle.std.specs.Prelude.{is_some, option_and_then, option_map, IsSome}
 use Rattle.std.specs.List.{list_any}
-use Rattle.std.proofs.lemmas.Bool.{true≢false, eqb-true, eq-eqb, or_parts}
+use Rattle.std.proofs.lemmas.Bool.{true≢false, eqb-true, eq-eqb}
 use Rattle.std.proofs.lemmas.List.Kept.{AllPairs-filter}
 use Rattle.serde_json.specs.Data.{null}
 use Rattle.specs_entity.specs.Births.{living}
 use Rattle.specs_entity.specs.Life.{Life, LifeAt}
 use Rattle.specs_markers.specs.Simple.{noted_under}
 use Rattle.scene_model.specs.Parts.{Json, Name, Ref, living as reaching, gone, Part, is_among}
-use Rattle.scene_model.specs.Rulebook.{kill}
-use Rattle.scene_model.specs.Scenes.{PlainScene}
-use Rattle.scene_model.specs.Commands.{is_to, without_ref, part_without, apply, changed, skipped}
+use Rattle.scene_model.specs.Scenes.{lives}
+use Rattle.scene_model.specs.Deaths.{is_to, without_ref, part_without, without}
 use Rattle.scene_model.proofs.CallerLemmas.{same_scene, same-ids, lives-kept, now-gone, not-there}
 use Rattle.scene_world.specs.Stored.{Stored, ids_reached, part_with, part_under}
 use Rattle.scene_world.specs.Rolls.{Roll, is_life, reference, id_at, ids_in, index_of, ref_to, part_in, IsMarked, IsRoll}
@@ -22,18 +21,22 @@ use Rattle.scene_world.proofs.PartLemmas.{at-one, at-other, one-id}
 
 -- ---- references
 
--- a part whose references to an id are gone is one that lost it
-pub lost-part : (written : List ℕ → Json) (id : ℕ) (refs : List Ref) → part_with written (map (without_ref id) refs) ≡ part_without id (part_with written refs)
-lost-part written id refs = by (list_any (is_to id) refs) refl
+-- one id
+abbrev only : ℕ → ℕ → Bool
+only id other = eqb other id
+
+-- a part whose references to the dead are gone is one that lost them
+pub lost-part : (written : List ℕ → Json) (dead : ℕ → Bool) (refs : List Ref) → part_with written (map (without_ref dead) refs) ≡ part_without dead (part_with written refs)
+lost-part written dead refs = by (list_any (is_to dead) refs) refl
   where
-    by : (b : Bool) → list_any (is_to id) refs ≡ b → part_with written (map (without_ref id) refs) ≡ part_without id (part_with written refs)
+    by : (b : Bool) → list_any (is_to dead) refs ≡ b → part_with written (map (without_ref dead) refs) ≡ part_without dead (part_with written refs)
     by true e =
-        ap (λ b. let x : Part = record { json = cond b null (written (ids_reached (map (without_ref id) refs))); refs = map (without_ref id) refs } in x) (now-gone id refs e)
-        ∙ ap (λ b. let x : Part = record { json = cond b null (part_with written refs).json; refs = map (without_ref id) refs } in x) (sym e)
+        ap (λ b. let x : Part = record { json = cond b null (written (ids_reached (map (without_ref dead) refs))); refs = map (without_ref dead) refs } in x) (now-gone dead refs e)
+        ∙ ap (λ b. let x : Part = record { json = cond b null (part_with written refs).json; refs = map (without_ref dead) refs } in x) (sym e)
     by false e =
-        ap (part_with written) (not-there id refs e)
-        ∙ ap (λ l. let x : Part = record { json = (part_with written refs).json; refs = l } in x) (sym (not-there id refs e))
-        ∙ ap (λ b. let x : Part = record { json = cond b null (part_with written refs).json; refs = map (without_ref id) refs } in x) (sym e)
+        ap (part_with written) (not-there dead refs e)
+        ∙ ap (λ l. let x : Part = record { json = (part_with written refs).json; refs = l } in x) (sym (not-there dead refs e))
+        ∙ ap (λ b. let x : Part = record { json = cond b null (part_with written refs).json; refs = map (without_ref dead) refs } in x) (sym e)
 
 map-map : {A B C : Type 0} (f : B → C) (g : A → B) (h : A → C) → ((a : A) → h a ≡ f (g a)) → (xs : List A) → map h xs ≡ map f (map g xs)
 map-map f g h same [] = refl
@@ -130,14 +133,14 @@ module _ (old new : Roll) (was : IsRoll old) (id index : ℕ) (there : id_at old
       by false (Some at) = refl
 
   -- references to it are gone, and the others stay
-  pub ref-left : (entity : LifeAt) → ref_to new entity ≡ without_ref id (ref_to old entity)
+  pub ref-left : (entity : LifeAt) → ref_to new entity ≡ without_ref (only id) (ref_to old entity)
   ref-left entity = by (eqb entity.id index) refl
     where
-      to-it : (b : Bool) (o : Option ℕ) → o ≡ Some id → gone ≡ without_ref id (reference (cond b o None))
-      to-it true o e = subst (λ x. gone ≡ without_ref id (reference x)) (sym e) (ap (λ b. cond b gone (reaching id)) (sym (eq-eqb id id refl)))
+      to-it : (b : Bool) (o : Option ℕ) → o ≡ Some id → gone ≡ without_ref (only id) (reference (cond b o None))
+      to-it true o e = subst (λ x. gone ≡ without_ref (only id) (reference x)) (sym e) (ap (λ b. cond b gone (reaching id)) (sym (eq-eqb id id refl)))
       to-it false o e = refl
 
-      kept : (b : Bool) (o : Option ℕ) → (o ≡ Some id → ⊥) → reference (cond b o None) ≡ without_ref id (reference (cond b o None))
+      kept : (b : Bool) (o : Option ℕ) → (o ≡ Some id → ⊥) → reference (cond b o None) ≡ without_ref (only id) (reference (cond b o None))
       kept true None e = refl
       kept true (Some other) e = by-id (eqb other id) refl
         where
@@ -146,7 +149,7 @@ module _ (old new : Roll) (was : IsRoll old) (id index : ℕ) (there : id_at old
           by-id false differ = ap (λ b. cond b gone (reaching other)) (sym differ)
       kept false o e = refl
 
-      by : (b : Bool) → eqb entity.id index ≡ b → ref_to new entity ≡ without_ref id (ref_to old entity)
+      by : (b : Bool) → eqb entity.id index ≡ b → ref_to new entity ≡ without_ref (only id) (ref_to old entity)
       by true same =
           ap (λ l. reference (cond (is_life entity.generation l) (id_at new entity.id) None)) (dies entity.id ∙ at-one index entity.id None (living old.births) (eqb-true entity.id index same))
           ∙ to-it (is_life entity.generation (living old.births entity.id)) (id_at old entity.id) (ap (id_at old) (eqb-true entity.id index same) ∙ there)
@@ -158,29 +161,29 @@ module _ (old new : Roll) (was : IsRoll old) (id index : ℕ) (there : id_at old
 
   -- no part is left of it, and the parts of the others lost their references to it
   module _ (column now : ℕ → Option Stored) (drops : (at : ℕ) → now at ≡ but_at index None column at) where
-    pub part-left : (other : ℕ) → part_in new now other ≡ but_at id None (λ one. option_map (part_without id) (part_in old column one)) other
+    pub part-left : (other : ℕ) → part_in new now other ≡ but_at id None (λ one. option_map (part_without (only id)) (part_in old column one)) other
     part-left other = ap (option_and_then (λ i. option_map (part_under (ref_to new)) (now i))) (index-left other) ∙ by (eqb other id) refl
       where
-        lost : (k : Option Stored) → option_map (part_under (ref_to new)) k ≡ option_map (part_without id) (option_map (part_under (ref_to old)) k)
+        lost : (k : Option Stored) → option_map (part_under (ref_to new)) k ≡ option_map (part_without (only id)) (option_map (part_under (ref_to old)) k)
         lost None = refl
-        lost (Some stored) = ap Some (ap (part_with stored.written) (map-map (without_ref id) (ref_to old) (ref_to new) ref-left stored.named) ∙ lost-part stored.written id (map (ref_to old) stored.named))
+        lost (Some stored) = ap Some (ap (part_with stored.written) (map-map (without_ref (only id)) (ref_to old) (ref_to new) ref-left stored.named) ∙ lost-part stored.written (only id) (map (ref_to old) stored.named))
 
         others : (o : Option ℕ) → index_of old other ≡ o → (other ≡ id → ⊥)
-            → option_and_then (λ i. option_map (part_under (ref_to new)) (now i)) o ≡ option_map (part_without id) (option_and_then (λ i. option_map (part_under (ref_to old)) (column i)) o)
+            → option_and_then (λ i. option_map (part_under (ref_to new)) (now i)) o ≡ option_map (part_without (only id)) (option_and_then (λ i. option_map (part_under (ref_to old)) (column i)) o)
         others None e differ = refl
         others (Some at) e differ =
             ap (option_map (part_under (ref_to new))) (drops at ∙ at-other index at None column (λ same. differ (one-id old other id at index (id-at-index old other at e) there same)))
             ∙ lost (column at)
 
         by : (b : Bool) → eqb other id ≡ b → option_and_then (λ i. option_map (part_under (ref_to new)) (now i)) (but_at id None (index_of old) other)
-            ≡ but_at id None (λ one. option_map (part_without id) (part_in old column one)) other
+            ≡ but_at id None (λ one. option_map (part_without (only id)) (part_in old column one)) other
         by true same =
             ap (option_and_then (λ i. option_map (part_under (ref_to new)) (now i))) (ap (λ b. cond b None (index_of old other)) same)
-            ∙ ap (λ b. cond b None (option_map (part_without id) (part_in old column other))) (sym same)
+            ∙ ap (λ b. cond b None (option_map (part_without (only id)) (part_in old column other))) (sym same)
         by false differ =
             ap (option_and_then (λ i. option_map (part_under (ref_to new)) (now i))) (ap (λ b. cond b None (index_of old other)) differ)
             ∙ others (index_of old other) refl (λ e. true≢false (sym (eq-eqb other id e) ∙ differ))
-            ∙ ap (λ b. cond b None (option_map (part_without id) (part_in old column other))) (sym differ)
+            ∙ ap (λ b. cond b None (option_map (part_without (only id)) (part_in old column other))) (sym differ)
 
     -- and none stands where nobody lives
     pub within-left : ((at : ℕ) → IsSome (column at) → IsSome (living old.births at)) → (at : ℕ) → IsSome (now at) → IsSome (living new.births at)
@@ -198,39 +201,32 @@ module _ (old new : Roll) (was : IsRoll old) (id index : ℕ) (there : id_at old
 
 -- ---- the scene
 
+-- an id that is marked at an index lives in the scene
+pub buried-lived : {V : Type 0} (kinds : Kinds V) (w : Sight V) → IsRoll (roll_of kinds w) → (id index : ℕ) → id_at (roll_of kinds w) index ≡ Some id → lives id (plain_of kinds w).ids ≡ true
+buried-lived kinds w was id index there = lives-index (roll_of kinds w) id ∙ ap is_some (index-of-id (roll_of kinds w) was id index there)
+
 module _ {V : Type 0} (kinds : Kinds V) (w w2 : Sight V) (was : IsRoll (roll_of kinds w)) (id index : ℕ) (there : id_at (roll_of kinds w) index ≡ Some id) (buries : Buries kinds id index w w2) where
   pub buried-roll : IsRoll (roll_of kinds w2)
   buried-roll = roll-left (roll_of kinds w) (roll_of kinds w2) was id index there buries.lives buries.marker buries.noted
 
-  -- the scene is what a kill of its id makes of the one before
-  pub buried-scene : apply (kill id) (plain_of kinds w) ≡ changed (plain_of kinds w2)
-  buried-scene = ap (λ b. cond b (changed without) skipped) (lives-index (roll_of kinds w) id ∙ ap is_some (index-of-id (roll_of kinds w) was id index there)) ∙ ap changed (sym scene)
+  -- the scene is the one before without it
+  pub buried-scene : plain_of kinds w2 ≡ without (only id) (plain_of kinds w)
+  buried-scene = same_scene _ _ buries.next
+      (ids-left (roll_of kinds w) (roll_of kinds w2) was id index there buries.lives buries.marker buries.noted)
+      (λ other kind. part other kind (is_among kind kinds.part_names) refl) (λ name. value name (is_among name kinds.global_names) refl)
     where
-      without : PlainScene
-      without = record {
-        next = (roll_of kinds w).noting.next;
-        ids = filter (λ other. not (eqb other id)) (ids_in (roll_of kinds w));
-        part = λ other kind. cond (eqb other id) None (option_map (part_without id) ((plain_of kinds w).part other kind));
-        global = (plain_of kinds w).global;
-      }
-
       value : (name : Name) (b : Bool) → is_among name kinds.global_names ≡ b → cond b (value_of kinds w2 name) None ≡ cond b (value_of kinds w name) None
       value name true is = buries.values name is
       value name false is = refl
 
       part : (other : ℕ) (kind : Name) (b : Bool) → is_among kind kinds.part_names ≡ b → cond b (part_in (roll_of kinds w2) (column_of kinds w2 kind) other) None
-          ≡ cond (eqb other id) None (option_map (part_without id) (cond b (part_in (roll_of kinds w) (column_of kinds w kind) other) None))
+          ≡ cond (eqb other id) None (option_map (part_without (only id)) (cond b (part_in (roll_of kinds w) (column_of kinds w kind) other) None))
       part other kind true is = part-left (roll_of kinds w) (roll_of kinds w2) was id index there buries.lives buries.marker buries.noted (column_of kinds w kind) (column_of kinds w2 kind) (buries.parts kind is) other
       part other kind false is = none (eqb other id)
         where
-          none : (b : Bool) → None ≡ cond b None (option_map (part_without id) None)
+          none : (b : Bool) → None ≡ cond b None (option_map (part_without (only id)) None)
           none true = refl
           none false = refl
-
-      scene : plain_of kinds w2 ≡ without
-      scene = same_scene _ _ buries.next
-          (ids-left (roll_of kinds w) (roll_of kinds w2) was id index there buries.lives buries.marker buries.noted)
-          (λ other kind. part other kind (is_among kind kinds.part_names) refl) (λ name. value name (is_among name kinds.global_names) refl)
 
   pub buried-within : (kind : Name) → is_among kind kinds.part_names ≡ true → IsWithin kinds (roll_of kinds w) (column_of kinds w kind) → IsWithin kinds (roll_of kinds w2) (column_of kinds w2 kind)
   buried-within kind known within = within-left (roll_of kinds w) (roll_of kinds w2) was id index there buries.lives buries.marker buries.noted (column_of kinds w kind) (column_of kinds w2 kind) (buries.parts kind known) within

@@ -1,5 +1,6 @@
 pub mod RollLemmas
 pub mod StandingLemmas
+pub mod OwningLemmas
 pub mod PlaceLemmas
 pub mod PartLemmas
 pub mod DeathLemmas

@@ -27,9 +27,10 @@ pub record Places (V D : Type 0) : Type 0 where
   pub queue : V → Option (Queue D)
   pub queue_value : Queue D → V
 
--- where the parts and globals of rules stand, under their names, and what is read of each
+-- where the parts and globals of rules stand, under their names, whether references of a kind own their holder, and what is read of each
 pub record Columns (V : Type 0) : Type 0 where
   pub part_names : List Name
+  pub owning : Name → Bool
   pub global_names : List Name
   pub part_id : Name → ResourceId
   pub global_id : Name → ResourceId
@@ -42,6 +43,7 @@ pub record Columns (V : Type 0) : Type 0 where
 abbrev pub kinds_of : {V D : Type 0} → Places V D → (D → Part) → Columns V → Kinds V
 kinds_of places part_of columns = record {
   part_names = columns.part_names;
+  owning = columns.owning;
   global_names = columns.global_names;
   entities_id = places.entities_id;
   markers_id = places.markers_id;

@@ -65,7 +65,8 @@ module _ {V : Type 0} (columns : Columns V) where
     pub empty : (kind : Name) (v : V) → is_among kind columns.part_names ≡ true → value_at later (columns.part_id kind) ≡ Some v → IsEmpty kind v
     pub others : (id : ResourceId) → ((kind : Name) → is_among kind columns.part_names ≡ true → same_id id (columns.part_id kind) ≡ false) → slots.get later id ≡ slots.get w id
 
-  -- the parts and globals are those of a book
+  -- the parts and globals are those of a book, and the same kinds own their holders
   pub record AreNamedIn (book : Book) : Type 0 where
     pub parts : columns.part_names ≡ book.part_names
+    pub owning : columns.owning ≡ book.owning
     pub globals : columns.global_names ≡ book.global_names

@@ -1,6 +1,7 @@
 -- A scene that stands in a world: a function of what can be read at each id of the world.
 use Rattle.std.specs.Prelude.{◌≡◌, ℕ, Bool, true, false, List, [], Option, None, IsSome, if◌then◌else◌, option_and_then}
 use Rattle.std.specs.Option.{option_map_or, unwrap_or}
+use Rattle.std.specs.List.{filter}
 use Rattle.shred_world.specs.declared.resource_id.ResourceId.{ResourceId}
 use Rattle.shred_world.specs.Bundles.{Holding, readable, takable}
 use Rattle.specs_entity.specs.Births.{Births, living, none_born}
@@ -25,11 +26,12 @@ seen_in w id = readable (w id)
 abbrev pub IsWhole : {V : Type 0} → Holding V → Type 0
 IsWhole w = (id : ResourceId) → takable (w id) ≡ readable (w id)
 
--- where the values of a scene stand, and what is read of each: the births of its entities, the id that is marked at an index, what
+-- where the values of a scene stand, which kinds own their holders, and what is read of each value: the births of its entities, the id that is marked at an index, what
 -- the allocator of ids notes, what a kind's column stores at an index, a global's value, and the commands of a queue; of the markers and
 -- of a column also the events that tell of them, and whether a change is told
 pub record Kinds (V : Type 0) : Type 0 where
   pub part_names : List Name
+  pub owning : Name → Bool
   pub global_names : List Name
   pub entities_id : ResourceId
   pub markers_id : ResourceId
@@ -91,6 +93,10 @@ module _ {V : Type 0} (kinds : Kinds V) where
   -- the commands of the system at a place
   abbrev pub commands_of : Sight V → ℕ → List Command
   commands_of w position = option_map_or kinds.queued (w (kinds.queue_id position)) []
+
+  -- the kinds whose references own their holder
+  abbrev pub owning_in : List Name
+  owning_in = filter kinds.owning kinds.part_names
 
   -- the scene that is seen: the ids are those that mark the living, and the parts those of the columns of the rules' kinds
   abbrev pub plain_of : Sight V → PlainScene

@@ -1,5 +1,5 @@
 -- The turn of a system of a scene's rules: what it means of the fragment that it sees and the one that it leaves.
-use Rattle.std.specs.Prelude.{◌≡◌, ℕ, Bool, true, List, length, Option, Some, None}
+use Rattle.std.specs.Prelude.{◌≡◌, ℕ, Bool, true, false, List, length, Option, Some, None}
 use Rattle.std.specs.String.{string_bytes}
 use Rattle.shred_world.specs.Bundles.{Holding}
 use Rattle.shred_stages.specs.declared.stop.Stop.{Stop}
@@ -25,6 +25,7 @@ sense_of book = record { part_names = book.part_names; global_names = book.globa
 abbrev pub rules_by : Sense → Book
 rules_by sense = record {
   part_names = sense.part_names;
+  owning = λ kind. false;
   global_names = sense.global_names;
   read_part = λ kind json. None;
   read_global = sense.read_global;

@@ -1,13 +1,14 @@
 //! Laws of a scene that stands in a world. The functions have no code; each contract is the law.
-ghost use Rattle.std.specs.Prelude.{◌≡◌, ◌≤◌, ℕ, true, List, map, Option, Some, None, option_map};
+ghost use Rattle.std.specs.Prelude.{◌≡◌, ◌≤◌, ◌==◌, ℕ, true, List, map, Option, Some, None, option_map};
 ghost use Rattle.shred_world.specs.declared.resource_id.ResourceId.{ResourceId};
 ghost use Rattle.shred_world.specs.Bundles.{Holding};
 ghost use Rattle.shred_stages.specs.Views.{cut, Leaves, merged};
 ghost use Rattle.specs_entity.specs.Births.{IsAlive};
 ghost use Rattle.specs_entity.specs.Life.{LifeAt};
 ghost use Rattle.scene_model.specs.Parts.{Name, Part, gone, is_among, living, under};
-ghost use Rattle.scene_model.specs.Rulebook.{Access, spawn, kill};
-ghost use Rattle.scene_model.specs.Scenes.{fragment, with_left, PlainSystem};
+ghost use Rattle.scene_model.specs.Rulebook.{Access, spawn};
+ghost use Rattle.scene_model.specs.Scenes.{fragment, with_left, lives, PlainSystem};
+ghost use Rattle.scene_model.specs.Deaths.{without};
 ghost use Rattle.scene_model.specs.Commands.{apply, changed, with_part};
 ghost use Rattle.scene_world.specs.Stored.{Stored, part_under};
 ghost use Rattle.scene_world.specs.Rolls.{Roll, id_at, ref_to, IsRoll};
@@ -64,13 +65,16 @@ pub fn a_part_at_an_index_is_one_at_its_id<V>()
         { part = with_part id kind (option_map (part_under (ref_to roll)) part) (plain_of kinds w).part } }
 {}
 
-/// The death of an entity with its parts is the kill of its id: references to it are gone, and so they stay.
-pub fn a_death_is_a_kill<V>()
+/// The death of an entity with its parts takes its id out of the scene: references to it are gone, and so they stay. A
+/// kill is the deaths of all that it takes, one after another.
+pub fn a_death_takes_one_out<V>()
     ensures roll { (kinds : Kinds V) (w later : Sight V) (id index : ℕ) → IsRoll (roll_of kinds w)
         → id_at (roll_of kinds w) index ≡ Some id → Buries kinds id index w later → IsRoll (roll_of kinds later) }
+    ensures lived { (kinds : Kinds V) (w : Sight V) (id index : ℕ) → IsRoll (roll_of kinds w)
+        → id_at (roll_of kinds w) index ≡ Some id → lives id (plain_of kinds w).ids ≡ true }
     ensures scene { (kinds : Kinds V) (w later : Sight V) (id index : ℕ) → IsRoll (roll_of kinds w)
         → id_at (roll_of kinds w) index ≡ Some id → Buries kinds id index w later
-        → apply (kill id) (plain_of kinds w) ≡ changed (plain_of kinds later) }
+        → plain_of kinds later ≡ without (λ one. one == id) (plain_of kinds w) }
 {}
 
 /// A birth under the id that comes next is a spawn of the parts that the entity is given, where no part named it
@@ -79,10 +83,10 @@ pub fn a_birth_is_a_spawn<V>()
     ensures roll { (kinds : Kinds V) (w later : Sight V) (entity : LifeAt) (parts : Name → Option Stored)
         → IsRoll (roll_of kinds w) → AreBelow (roll_of kinds w) → Bears kinds entity parts w later
         → IsRoll (roll_of kinds later) }
-    ensures scene { (kinds : Kinds V) (w now : Sight V) (entity : LifeAt) (parts : Name → Option Stored)
-        (given : List (Name × Part)) → IsRoll (roll_of kinds w) → AreBelow (roll_of kinds w)
+    ensures scene { (owning : List Name) (kinds : Kinds V) (w now : Sight V) (entity : LifeAt)
+        (parts : Name → Option Stored) (given : List (Name × Part)) → IsRoll (roll_of kinds w) → AreBelow (roll_of kinds w)
         → Bears kinds entity parts w now → HaveLiving (plain_of kinds w) given → HasNextId (roll_of kinds w)
-        → AreGiven kinds w parts given → apply (spawn given) (plain_of kinds w) ≡ changed (plain_of kinds now) }
+        → AreGiven kinds w parts given → apply owning (spawn given) (plain_of kinds w) ≡ changed (plain_of kinds now) }
 {}
 
 /// The events of a world show nothing where nothing changed, and of one change after another both. Changes are told

@@ -1,5 +1,5 @@
 //! The rules of a scene, whose systems run over a world of entities.
-ghost use Rattle.std.specs.Prelude.{◌≡◌, ◌<◌, ◌++◌, ℕ, true, [], length, map, Some, None, IfOk, OnOk, OnErr, IfSome};
+ghost use Rattle.std.specs.Prelude.{◌≡◌, ◌<◌, ◌++◌, ℕ, true, false, [], length, map, Some, None, IfOk, OnOk, OnErr, IfSome};
 ghost use Rattle.std.specs.Prelude.{IsTrue, option_copied, option_map};
 ghost use Rattle.shred_stages.specs.Views.{Leaves, error_of};
 ghost use Rattle.scene_model.specs.Parts.{living, is_among};
@@ -25,6 +25,7 @@ pub trait Rules: DocumentRules {
     ghost use Rattle.scene_model.specs.Rulebook.{Fragment, Outcome};
     ghost use Rattle.scene_model.specs.Queues.{waiting, plain_commands};
     ghost use Rattle.specs_layouts.specs.Shows.{Shows};
+    ghost use Rattle.hibitset_sets.specs.BitSet.{has_member};
     ghost use Rattle.scene_world.specs.Telling.{GainsReader, CatchesUp, TakesTold, TakesSome};
     ghost use Rattle.scene_world.specs.Lent.{StandApart};
     ghost use Rattle.scene_world.specs.Places.{Columns, kinds_of};
@@ -47,6 +48,10 @@ pub trait Rules: DocumentRules {
     /// Where the parts of a kind of the rules stand: under a kind number of their own and the dynamic number 0.
     fn part_id(kind: &str) -> ResourceId
         ensures { result ≡ columns.part_id kind.now };
+
+    /// Whether the references in parts of a kind own their holder: it dies with each to whom it refers.
+    fn owning(kind: &str) -> bool
+        ensures { result ≡ columns.owning kind.now };
 
     /// Where a global of the rules stands: under a kind number of its own and the dynamic number 0.
     fn global_id(name: &str) -> ResourceId
@@ -151,6 +156,15 @@ pub trait Rules: DocumentRules {
         ensures { result ≡ true → (index : ℕ) → named_in (columns.stored kind.now value.now index) ≡ [] }
     {
         false
+    }
+
+    /// The indices at which a part of a kind may refer to an entity, as far as the rules can tell at once: under this kind
+    /// nobody else has to be asked whom he refers to. They can't by default.
+    fn holders<'a>(value: &'a Self::Value, kind: &str) -> Option<&'a BitSet>
+        ensures { IfSome result (λ holders. (index : ℕ) → has_member holders.now index ≡ false
+            → named_in (columns.stored kind.now value.now index) ≡ []) }
+    {
+        None
     }
 
     /// The parts at the indices of these entities, each of which stands behind a number that its caller gave it, where no part

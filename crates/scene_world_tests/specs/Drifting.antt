@@ -102,6 +102,7 @@ configured config = if is_some (as_null config) then known drift_facts else miss
 abbrev pub drifting_book : Book
 drifting_book = record {
   part_names = pos_name ∷ vel_name ∷ [];
+  owning = λ kind. false;
   global_names = [];
   read_part = λ kind json. option_map counting (number_in json);
   read_global = λ name json. None;
@@ -140,6 +141,7 @@ velocity_emits v = option_map_or (λ s. tells s.inner) (velocities_in v) false
 abbrev pub drifting_columns : Columns Value
 drifting_columns = record {
   part_names = pos_name ∷ vel_name ∷ [];
+  owning = λ kind. false;
   global_names = [];
   part_id = λ kind. if bytes_eq kind pos_name then position_id else velocity_id;
   global_id = λ name. id_of 6 0;

@@ -96,6 +96,7 @@ no_access = record { reads = []; writes = []; read_globals = []; written_globals
 abbrev pub owning_book : Book
 owning_book = record {
   part_names = owner_name ∷ rank_name ∷ [];
+  owning = λ kind. false;
   global_names = era_name ∷ [];
   read_part = λ kind json. option_map (part_for kind) (number_in json);
   read_global = λ name json. option_map counted (number_in json);
@@ -128,6 +129,7 @@ rank_emits v = option_map_or (λ s. tells s.inner) (ranks_in v) false
 abbrev pub owning_columns : Columns Value
 owning_columns = record {
   part_names = owner_name ∷ rank_name ∷ [];
+  owning = λ kind. false;
   global_names = era_name ∷ [];
   part_id = λ kind. if bytes_eq kind owner_name then owner_id else rank_id;
   global_id = λ name. era_id;

@@ -6,7 +6,7 @@ ghost use Rattle.scene_world_tests.specs.Owning.{owning_kinds};
 use crate::commands::datum::Datum;
 use crate::commands::rules::Owning;
 use crate::commands::values::Value;
-use scene_commands::{entity_under, kill_entity, put_part, spawn_entity, take_part};
+use scene_commands::{Holders, entity_under, kill_entity, put_part, spawn_entity, take_part};
 use scene_model::FrameRefusal;
 use scene_world::{Rules, SceneMarker, SceneMarkerAllocator};
 use shred_world::World;
@@ -183,7 +183,13 @@ fn take_step(world: &mut World<Value>, step: Step, alloc: Global) -> Result<Answ
 {
     match step {
         Step::Spawn(owner, rank) => Ok(told(spawn(world, owner, rank, alloc)?)),
-        Step::Kill(id) => Ok(told(kill_entity(&Owning, world, id)?)),
+        Step::Kill(id) => Ok(told(kill_entity(
+            &Owning,
+            world,
+            &mut Holders::new(alloc),
+            id,
+            alloc,
+        )?)),
         Step::Own(id, owner) => {
             let datum = Datum::OwnedBy(owner);
             Ok(told(put_part(&Owning, world, id, "owner", &datum, alloc)?))

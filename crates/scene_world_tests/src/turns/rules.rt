@@ -36,7 +36,7 @@ impl Rules for Drifting {
 
     ghost does = { λ _. Drifts };
 
-    ghost named_so = { λ _. record { parts = refl; globals = refl } };
+    ghost named_so = { λ _. record { parts = refl; owning = refl; globals = refl } };
 
     ghost apart = { drifting-apart };
 
@@ -48,6 +48,10 @@ impl Rules for Drifting {
         } else {
             ResourceId::from_type_id(5)
         }
+    }
+
+    fn owning(_kind: &str) -> bool {
+        false
     }
 
     fn global_id(_name: &str) -> ResourceId {

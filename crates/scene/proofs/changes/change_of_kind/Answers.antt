@@ -8,7 +8,7 @@ use Rattle.scene_commands.specs.Acts.{seen_of}
 use Rattle.scene.specs.Keeping.{part_told}
 use Rattle.scene.specs.Taken.{AreOfPairs, behind_themselves}
 use Rattle.scene.proofs.StepLemmas.{told-below}
-use Rattle.scene.proofs.LoopLemmas.{united-low, united-left, united-right}
+use Rattle.scene.proofs.LoopLemmas.{united-low, united-one, united-left, united-right}
 use Rattle.scene.proofs.changes.change_of_kind.Goals as goal
 
 pub returns-clause-change : goal.returns-clause-change
@@ -21,6 +21,12 @@ returns-clause-change g c =
 
 pub returns-clause-within : goal.returns-clause-within
 returns-clause-within g c index member = united-low (nat_lt index 16777216) (has_member c.args.touched.now index || has_member c.in_ok-told.told index) (sym (c.in_ok-bitor_assign.ensures.ok index) ∙ member) index refl
+
+pub returns-clause-only : goal.returns-clause-only
+returns-clause-only g c index member =
+    let told : has_member c.in_ok-told.told index ≡ part_told (kinds_of g.R.Value.SceneValue.places g.R.DocumentRules.part_of g.R.Rules.columns) (seen_of c.args.world.now) c.args.kind.now c.args.reader.now index = c.in_ok-told.ensures index in
+    ap (λ b. has_member c.args.touched.now index || b) (sym told)
+    ∙ united-one (nat_lt index 16777216) (has_member c.args.touched.now index || has_member c.in_ok-told.told index) (sym (c.in_ok-bitor_assign.ensures.ok index) ∙ member)
 
 pub returns-clause-kept : goal.returns-clause-kept
 returns-clause-kept g c index member =

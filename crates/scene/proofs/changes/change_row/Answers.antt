@@ -37,3 +37,6 @@ returns-clause-others g c other index differ = c.write_found.ensures.others othe
 
 pub returns-clause-seats : goal.returns-clause-seats
 returns-clause-seats g c index = c.write_found.ensures.seats index ∙ c.clear_row.ensures.seats index
+
+pub returns-clause-changes : goal.returns-clause-changes
+returns-clause-changes g c = c.write_found.ensures.changes ∙ c.clear_row.ensures.changes

@@ -36,7 +36,7 @@ loop-change-preserved g c =
     making-goes c.args.changes.items c.loop-change.changes.items c.args.count c.args.kept.now now so_far rest change c.in-Some.ensures.items after
     (subst (λ n. (index : ℕ) → datum_at after n index ≡ row_after (Some change) (datum_at now n) index) count made.row)
     (subst (λ n. (other index : ℕ) → other ≢ n → datum_at after other index ≡ datum_at now other index) count made.others)
-    made.seats made.room made.course
+    made.seats made.room made.course made.changes
 
 pub returns : goal.returns
 returns g c =
@@ -48,4 +48,5 @@ returns g c =
       seats = so_far.seats;
       room = so_far.room;
       course = so_far.course;
+      changes = so_far.changes;
     }

@@ -1,4 +1,4 @@
-use Rattle.std.proofs.Common.{◌≡◌, ◌<◌, true, length, get_or, sym, subst, arith}
+use Rattle.std.proofs.Common.{◌≡◌, ◌<◌, ◌||◌, inl, true, length, get_or, sym, subst, arith}
 use Rattle.std.proofs.lemmas.List.{get_or_default}
 use Rattle.hibitset_sets.specs.BitSet.{has_member}
 use Rattle.scene_model.specs.Declaring.{texts}
@@ -6,10 +6,11 @@ use Rattle.scene_model.specs.Parts.{is_among, name_at}
 use Rattle.scene_world.specs.Places.{kinds_of}
 use Rattle.scene_commands.specs.Acts.{seen_of}
 use Rattle.scene_commands.proofs.DropLemmas.{no_name, named-there}
-use Rattle.scene.specs.Keeping.{part_told, watcher_at}
-use Rattle.scene.specs.Changes.{IsChange, AreChanges, AreTouched}
-use Rattle.scene.proofs.KeepLemmas.{name-there}
-use Rattle.scene.proofs.LoopLemmas.{no-changes, changes-more, touched-more}
+use Rattle.scene_commands.specs.Watching.{watcher_at}
+use Rattle.scene.specs.Keeping.{part_told}
+use Rattle.scene.specs.Changes.{IsChange, AreChanges, AreTouched, OnlyTouched}
+use Rattle.scene_commands.proofs.CatchLemmas.{name-there}
+use Rattle.scene.proofs.LoopLemmas.{no-changes, changes-more, touched-more, only-more}
 use Rattle.scene.proofs.changes.changes_of_kinds.Goals as goal
 
 pub loop-place-init : goal.loop-place-init
@@ -18,6 +19,7 @@ loop-place-init g c = record {
   within = c.requires.within;
   kept = λ index member. member;
   told = λ place below. absurd (omega (arith, below));
+  only = λ index member. inl member;
 }
 
 pub bounds-watchers-place : goal.bounds-watchers-place
@@ -50,6 +52,10 @@ loop-place-preserved g c =
       told = touched-more (kinds_of g.R.Value.SceneValue.places g.R.DocumentRules.part_of g.R.Rules.columns) w names watchers place (has_member c.loop-place.touched) (has_member c.change_of_kind.new.touched) so_far.told made.kept
           (λ index one. made.told index
           (subst (λ kind. part_told (kinds_of g.R.Value.SceneValue.places g.R.DocumentRules.part_of g.R.Rules.columns) w kind found.frame index ≡ true) name (subst (λ watcher. part_told (kinds_of g.R.Value.SceneValue.places g.R.DocumentRules.part_of g.R.Rules.columns) w (name_at names place) watcher.frame index ≡ true) (sym same) one)));
+      only = only-more (kinds_of g.R.Value.SceneValue.places g.R.DocumentRules.part_of g.R.Rules.columns) w names watchers place (has_member c.args.touched.now) (has_member c.loop-place.touched) (has_member c.change_of_kind.new.touched) so_far.only
+          (λ index member.
+          subst (λ watcher. (has_member c.loop-place.touched index || part_told (kinds_of g.R.Value.SceneValue.places g.R.DocumentRules.part_of g.R.Rules.columns) w (name_at names place) watcher.frame index) ≡ true) same
+          (subst (λ kind. (has_member c.loop-place.touched index || part_told (kinds_of g.R.Value.SceneValue.places g.R.DocumentRules.part_of g.R.Rules.columns) w kind found.frame index) ≡ true) (sym name) (made.only index member)));
     }
 
 pub returns : goal.returns
@@ -61,4 +67,5 @@ returns g c =
       within = so_far.within;
       kept = so_far.kept;
       told = subst (λ count. AreTouched (kinds_of g.R.Value.SceneValue.places g.R.DocumentRules.part_of g.R.Rules.columns) (seen_of c.args.world.now) (texts c.args.names.now) c.args.watchers.now count (has_member c.loop-place.touched)) all so_far.told;
+      only = subst (λ count. OnlyTouched (kinds_of g.R.Value.SceneValue.places g.R.DocumentRules.part_of g.R.Rules.columns) (seen_of c.args.world.now) (texts c.args.names.now) c.args.watchers.now count (has_member c.args.touched.now) (has_member c.loop-place.touched)) all so_far.only;
     }

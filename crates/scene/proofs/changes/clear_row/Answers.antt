@@ -35,6 +35,7 @@ loop-pair-preserved g c =
       seats = λ index. wrote.seats index ∙ so_far.seats index;
       room = wrote.room c.args.count so_far.room;
       course = record { kinds = wrote.course.kinds ∙ so_far.course.kinds; next = wrote.course.next ∙ so_far.course.next; globals = wrote.course.globals ∙ so_far.course.globals };
+      changes = wrote.changes ∙ so_far.changes;
     }
 
 pub returns-clause-row : goal.returns-clause-row

@@ -11,4 +11,5 @@ invariant-loop-pair g l = record {
   seats : (index : ℕ) → seat_at l.kept index ≡ seat_at l.fn.kept index;
   room : HasRoom l.count l.kept;
   course : SameCourse l.fn.kept l.kept;
+  changes : l.kept.changes ≡ l.fn.kept.changes;
 }

@@ -6,7 +6,7 @@ use Rattle.scene.proofs.changes.indices_of_set.Goals as goal
 
 pub loop-index-init : goal.loop-index-init
 loop-index-init c =
-    listing-first (has_member c.args.set.now) c.new-indices.result.items _ (ap (left_of (λ b. has_member b.now)) c.into_iter-index-iterator.ensures.into_iter_gives ∙ c.iter-index-items.ensures.items) c.new-indices.ensures.items
+    listing-first (has_member c.args.set.now) c.in_ok-indices.indices.items _ (ap (left_of (λ b. has_member b.now)) c.into_iter-index-iterator.ensures.into_iter_gives ∙ c.iter-index-items.ensures.items) c.in_ok-indices.ensures.items
 
 pub loop-index-preserved : goal.loop-index-preserved
 loop-index-preserved c =

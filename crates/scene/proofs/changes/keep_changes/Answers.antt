@@ -1,5 +1,6 @@
-use Rattle.std.proofs.Common.{◌≡◌, ◌<◌, ℕ, true, cond, List, length, map, All, Option, None, is_some, ap, sym, subst, ◌∙◌, arith}
+use Rattle.std.proofs.Common.{◌≡◌, ◌<◌, ℕ, Bool, true, cond, List, length, map, All, Option, None, is_some, ap, sym, subst, ◌∙◌, arith}
 use Rattle.std.specs.Prelude.{slice_get}
+use Rattle.std.specs.List.{AllPairs, count_by}
 use Rattle.std.proofs.Math.Path.{fun_ext}
 use Rattle.std.proofs.lemmas.List.{length-map}
 use denote.Ref.{Bor}
@@ -15,13 +16,16 @@ use Rattle.scene_world.specs.Telling.{is_told}
 use Rattle.scene_commands.specs.Acts.{seen_of}
 use Rattle.scene_commands.proofs.DropLemmas.{no_name, named-there}
 use Rattle.scene_snapshot.specs.Rows.{seat_at, datum_at}
-use Rattle.scene.specs.Keeping.{IsBelow, IsFullByIndex, mark_told}
-use Rattle.scene.specs.Changes.{AreChanges, AreTouched, row_after}
+use Rattle.scene_commands.specs.declared.watching.ReaderTurn.TheVariants.{Frame}
+use Rattle.scene.specs.Keeping.{IsBelow, IsFullByIndex, is_touched, CountsMore, changes_at}
+use Rattle.scene.specs.Changes.{AreChanges, AreTouched, OnlyTouched, row_after}
 use Rattle.scene.specs.Taken.{IsRowOf, AreRowsOf, is_one_of, behind_themselves, turned, marks_at, with_last}
-use Rattle.scene.proofs.KeepLemmas.{keeps-scene, name-there}
-use Rattle.scene.proofs.EntryLemmas.{name-known, settled-seats, settled-rows, settled-kinds}
+use Rattle.scene_commands.proofs.CatchLemmas.{name-known}
+use Rattle.scene.proofs.KeepLemmas.{keeps-scene}
+use Rattle.scene.proofs.EntryLemmas.{settled-seats, settled-rows, settled-kinds}
 use Rattle.scene.proofs.StepLemmas.{id-marked, told-below}
 use Rattle.scene.proofs.ChangeLemmas.{among-all, all-seconds, walked-is, changes-sound, changes-free, marks-among, seats-again, rows-again}
+use Rattle.scene.proofs.CountingLemmas.{behind-ascend, touched-is, counted-changes}
 use Rattle.scene.proofs.changes.keep_changes.Goals.{After-drop-touched-inside-4}
 use Rattle.scene.proofs.changes.keep_changes.Goals as goal
 
@@ -138,6 +142,52 @@ returns-clause-scene g c =
     keeps-scene (kinds_of g.R.Value.SceneValue.places g.R.DocumentRules.part_of g.R.Rules.columns) g.R.DocumentRules.part_of g.R.DocumentRules.global_of book w named.parts named.globals c.requires.stands.roll c.settle.new.self now.seats
     (subst (λ (listed : List Name). AreRowsOf (kinds_of g.R.Value.SceneValue.places g.R.DocumentRules.part_of g.R.Rules.columns) g.R.DocumentRules.part_of w listed (length listed) c.settle.new.self) named.parts now.rows)
     (settled.next_is ∙ c.in_ok-next.ensures) c.in_ok-globals.globals _ settled.globals_are c.global_names.ensures c.in_ok-globals.ensures
+
+-- what the set of those that are touched has is what the readers of the frame's end are told
+touched-now : (g : _) (c : After-drop-touched-inside-4 g) → let kinds = kinds_of g.R.Value.SceneValue.places g.R.DocumentRules.part_of g.R.Rules.columns in has_member c.changes_of_kinds.new.touched ≡ is_touched kinds Frame kinds.part_names c.args.watchers.now (seen_of c.args.world.now)
+touched-now g c =
+    let kinds = kinds_of g.R.Value.SceneValue.places g.R.DocumentRules.part_of g.R.Rules.columns in
+    let later = seen_of c.args.world.now in
+    let names = texts c.part_names-names.result.now in
+    let same : names ≡ kinds.part_names = c.part_names-names.ensures ∙ sym (g.met.R.Rules.named_so c.args.rules.now).parts in
+    let many : length c.part_names-names.result.now ≡ length names = sym (length-map c.part_names-names.result.now (λ (name : Bor Name). name.now)) in
+    let watchers : c.as_slice.result.now ≡ c.args.watchers.now.parts.items = c.as_slice.ensures.value in
+    let first = has_member c.in_ok-touched.touched in
+    let touched = has_member c.changes_of_kinds.new.touched in
+    let made = c.in_ok-changes.ensures in
+    touched-is kinds later kinds.part_names c.args.watchers.now c.requires.many first touched
+    (λ index. c.in_ok-touched.ensures index ∙ ap (λ log. is_told log c.args.watchers.now.markers.frame index) (sym c.in_ok-markers.ensures.events)) made.kept
+    (subst (λ listed. AreTouched kinds later listed c.args.watchers.now.parts.items (length listed) touched) same
+    (subst (λ some. AreTouched kinds later names some (length names) touched) watchers
+    (subst (λ count. AreTouched kinds later names c.as_slice.result.now count touched) many made.told)))
+    (subst (λ listed. OnlyTouched kinds later listed c.args.watchers.now.parts.items (length listed) first touched) same
+    (subst (λ some. OnlyTouched kinds later names some (length names) first touched) watchers
+    (subst (λ count. OnlyTouched kinds later names c.as_slice.result.now count first touched) many made.only)))
+
+pub leave_all-requires : goal.leave_all-requires
+leave_all-requires g c = record {
+  ascend = subst (AllPairs (λ (one other : ℕ × ℕ). one.1 < other.1)) (sym (c.as_slice-4.ensures.value ∙ c.in_ok-indices.ensures)) (behind-ascend (has_member c.changes_of_kinds.new.touched));
+}
+
+pub returns-clause-changes : goal.returns-clause-changes
+returns-clause-changes g c =
+    let kinds = kinds_of g.R.Value.SceneValue.places g.R.DocumentRules.part_of g.R.Rules.columns in
+    let roll = roll_of kinds (seen_of c.args.world.now) in
+    let touched = has_member c.changes_of_kinds.new.touched in
+    let before = c.args.kept.now in
+    let after = c.settle.new.self in
+    let now = full g c in
+    let indices : c.in_ok-indices.indices.items ≡ behind_themselves (walk touched) = c.in_ok-indices.ensures in
+    let markers : marker_at c.in_ok-markers.markers.now ≡ roll.marker = sym (fun_ext c.in_ok-markers.ensures.each) in
+    let entries : c.as_slice-5.result.now ≡ marks_at roll.marker (behind_themselves (walk touched)) =
+    c.as_slice-5.ensures.value ∙ c.in_ok-entries.ensures.entries ∙ ap (λ (marker : ℕ → Option ℕ). marks_at marker c.as_slice-2.result.now) markers ∙ ap (marks_at roll.marker) (c.as_slice-2.ensures.value ∙ indices) in
+    let made : CountsMore before.changes (changes_at (walk touched) before after) after.changes =
+    counted-changes (walk touched) before after c.as_slice-4.result.now c.as_slice-5.result.now (seat_at c.make_room.new.self) roll.marker c.change_rows.new.kept.changes
+    (c.as_slice-4.ensures.value ∙ indices) c.in_ok-make_room.ensures.seats entries (λ index. now.seats index ∙ id-marked roll c.requires.stands.roll index)
+    (subst (λ n. CountsMore before.changes (count_by (λ (pair : ℕ × ℕ). is_some (seat_at c.make_room.new.self pair.1)) c.as_slice-4.result.now) n) (sym c.change_rows.ensures.changes)
+    (subst (λ n. CountsMore n (count_by (λ (pair : ℕ × ℕ). is_some (seat_at c.make_room.new.self pair.1)) c.as_slice-4.result.now) c.leave_all.new.kept.changes) c.in_ok-make_room.ensures.changes c.leave_all.ensures.changes))
+    (subst (CountsMore c.change_rows.new.kept.changes (length c.as_slice-5.result.now)) (sym c.settle.ensures.settled.changes) c.enter_all.ensures.changes) in
+    subst (λ (members : ℕ → Bool). CountsMore before.changes (changes_at (walk members) before after) after.changes) (touched-now g c) made
 
 pub returns-clause-below : goal.returns-clause-below
 returns-clause-below g c = beneath g c

@@ -4,7 +4,7 @@ use Rattle.std.proofs.lemmas.Result.{IfErr-weaker, on_ok_weaker}
 use Rattle.scene_model.specs.Leads.{RunsTo}
 use Rattle.scene_model.specs.Queues.{plain_commands, waiting}
 use Rattle.scene_world.specs.Places.{kinds_of}
-use Rattle.scene_world.specs.Standing.{plain_of}
+use Rattle.scene_world.specs.Standing.{plain_of, owning_in}
 use Rattle.scene_commands.specs.Acts.{seen_of}
 use Rattle.scene_commands.proofs.CallerLemmas.{goes-both}
 use Rattle.scene.specs.Waiting.{waiting_in}
@@ -16,7 +16,7 @@ use Rattle.scene.proofs.commands.act_out.Goals as goal
 
 pub returns-in_default-clause-refused : goal.returns-in_default-clause-refused
 returns-in_default-clause-refused g c =
-    let ran = subst (λ queues. RunsTo c.args.input.now.number 1 (plain_commands g.R.DocumentRules.part_of c.args.input.now.given.now ++ waiting_in g.R.DocumentRules.part_of queues) (plain_of (kinds_of g.R.Value.SceneValue.places g.R.DocumentRules.part_of g.R.Rules.columns) (seen_of c.args.world.now)) (plain_of (kinds_of g.R.Value.SceneValue.places g.R.DocumentRules.part_of g.R.Rules.columns) (seen_of c.act_both.new.world)) c.args.skips.now.items c.act_both.new.skips.items) c.as_slice-2.ensures.value c.in_ok-act_both.ensures.ran in
+    let ran = subst (λ queues. RunsTo (owning_in (kinds_of g.R.Value.SceneValue.places g.R.DocumentRules.part_of g.R.Rules.columns)) c.args.input.now.number 1 (plain_commands g.R.DocumentRules.part_of c.args.input.now.given.now ++ waiting_in g.R.DocumentRules.part_of queues) (plain_of (kinds_of g.R.Value.SceneValue.places g.R.DocumentRules.part_of g.R.Rules.columns) (seen_of c.args.world.now)) (plain_of (kinds_of g.R.Value.SceneValue.places g.R.DocumentRules.part_of g.R.Rules.columns) (seen_of c.act_both.new.world)) c.args.skips.now.items c.act_both.new.skips.items) c.as_slice-2.ensures.value c.in_ok-act_both.ensures.ran in
     inr (plain_of (kinds_of g.R.Value.SceneValue.places g.R.DocumentRules.part_of g.R.Rules.columns) (seen_of c.act_both.new.world), ran.0, ran.1, tt)
 
 pub look-requires-clause-may : goal.look-requires-clause-may
@@ -24,9 +24,9 @@ look-requires-clause-may g c = may-stays (kinds_of g.R.Value.SceneValue.places g
 
 pub returns-clause-ran : goal.returns-clause-ran
 returns-clause-ran g c =
-    let ran = subst (λ queues. RunsTo c.args.input.now.number 1 (plain_commands g.R.DocumentRules.part_of c.args.input.now.given.now ++ waiting_in g.R.DocumentRules.part_of queues) (plain_of (kinds_of g.R.Value.SceneValue.places g.R.DocumentRules.part_of g.R.Rules.columns) (seen_of c.args.world.now)) (plain_of (kinds_of g.R.Value.SceneValue.places g.R.DocumentRules.part_of g.R.Rules.columns) (seen_of c.act_both.new.world)) c.args.skips.now.items c.act_both.new.skips.items) c.as_slice-2.ensures.value c.in_ok-act_both.ensures.ran in
+    let ran = subst (λ queues. RunsTo (owning_in (kinds_of g.R.Value.SceneValue.places g.R.DocumentRules.part_of g.R.Rules.columns)) c.args.input.now.number 1 (plain_commands g.R.DocumentRules.part_of c.args.input.now.given.now ++ waiting_in g.R.DocumentRules.part_of queues) (plain_of (kinds_of g.R.Value.SceneValue.places g.R.DocumentRules.part_of g.R.Rules.columns) (seen_of c.args.world.now)) (plain_of (kinds_of g.R.Value.SceneValue.places g.R.DocumentRules.part_of g.R.Rules.columns) (seen_of c.act_both.new.world)) c.args.skips.now.items c.act_both.new.skips.items) c.as_slice-2.ensures.value c.in_ok-act_both.ensures.ran in
     on_ok_weaker c.look.result
-    (λ none. subst (λ scene. RunsTo c.args.input.now.number 1 (plain_commands g.R.DocumentRules.part_of c.args.input.now.given.now ++ waiting_in g.R.DocumentRules.part_of c.args.queues.items) (plain_of (kinds_of g.R.Value.SceneValue.places g.R.DocumentRules.part_of g.R.Rules.columns) (seen_of c.args.world.now)) scene c.args.skips.now.items c.act_both.new.skips.items)
+    (λ none. subst (λ scene. RunsTo (owning_in (kinds_of g.R.Value.SceneValue.places g.R.DocumentRules.part_of g.R.Rules.columns)) c.args.input.now.number 1 (plain_commands g.R.DocumentRules.part_of c.args.input.now.given.now ++ waiting_in g.R.DocumentRules.part_of c.args.queues.items) (plain_of (kinds_of g.R.Value.SceneValue.places g.R.DocumentRules.part_of g.R.Rules.columns) (seen_of c.args.world.now)) scene c.args.skips.now.items c.act_both.new.skips.items)
     (sym (scene-stays (kinds_of g.R.Value.SceneValue.places g.R.DocumentRules.part_of g.R.Rules.columns) g.met.R.Rules.apart c.args.input.now.places.now c.act_both.new.world c.put_queues.new.world c.in-Ok.ensures.beside)) ran)
     c.look.ensures.ok
 
@@ -45,8 +45,8 @@ returns-clause-goes_on g c =
 
 pub returns-clause-refused : goal.returns-clause-refused
 returns-clause-refused g c =
-    let ran = subst (λ queues. RunsTo c.args.input.now.number 1 (plain_commands g.R.DocumentRules.part_of c.args.input.now.given.now ++ waiting_in g.R.DocumentRules.part_of queues) (plain_of (kinds_of g.R.Value.SceneValue.places g.R.DocumentRules.part_of g.R.Rules.columns) (seen_of c.args.world.now)) (plain_of (kinds_of g.R.Value.SceneValue.places g.R.DocumentRules.part_of g.R.Rules.columns) (seen_of c.act_both.new.world)) c.args.skips.now.items c.act_both.new.skips.items) c.as_slice-2.ensures.value c.in_ok-act_both.ensures.ran in
-    let there = subst (λ scene. RunsTo c.args.input.now.number 1 (plain_commands g.R.DocumentRules.part_of c.args.input.now.given.now ++ waiting_in g.R.DocumentRules.part_of c.args.queues.items) (plain_of (kinds_of g.R.Value.SceneValue.places g.R.DocumentRules.part_of g.R.Rules.columns) (seen_of c.args.world.now)) scene c.args.skips.now.items c.act_both.new.skips.items)
+    let ran = subst (λ queues. RunsTo (owning_in (kinds_of g.R.Value.SceneValue.places g.R.DocumentRules.part_of g.R.Rules.columns)) c.args.input.now.number 1 (plain_commands g.R.DocumentRules.part_of c.args.input.now.given.now ++ waiting_in g.R.DocumentRules.part_of queues) (plain_of (kinds_of g.R.Value.SceneValue.places g.R.DocumentRules.part_of g.R.Rules.columns) (seen_of c.args.world.now)) (plain_of (kinds_of g.R.Value.SceneValue.places g.R.DocumentRules.part_of g.R.Rules.columns) (seen_of c.act_both.new.world)) c.args.skips.now.items c.act_both.new.skips.items) c.as_slice-2.ensures.value c.in_ok-act_both.ensures.ran in
+    let there = subst (λ scene. RunsTo (owning_in (kinds_of g.R.Value.SceneValue.places g.R.DocumentRules.part_of g.R.Rules.columns)) c.args.input.now.number 1 (plain_commands g.R.DocumentRules.part_of c.args.input.now.given.now ++ waiting_in g.R.DocumentRules.part_of c.args.queues.items) (plain_of (kinds_of g.R.Value.SceneValue.places g.R.DocumentRules.part_of g.R.Rules.columns) (seen_of c.args.world.now)) scene c.args.skips.now.items c.act_both.new.skips.items)
     (sym (scene-stays (kinds_of g.R.Value.SceneValue.places g.R.DocumentRules.part_of g.R.Rules.columns) g.met.R.Rules.apart c.args.input.now.places.now c.act_both.new.world c.put_queues.new.world c.in-Ok.ensures.beside)) ran in
     IfErr-weaker c.look.result _ _ (λ cause gone. inr (plain_of (kinds_of g.R.Value.SceneValue.places g.R.DocumentRules.part_of g.R.Rules.columns) (seen_of c.put_queues.new.world), there.0, there.1, gone)) c.look.ensures.refused
 
@@ -61,4 +61,4 @@ look-requires-clause-spared g c = λ spares.
     let all : All Spares commands = All-append Spares (plain_commands part_of c.args.input.now.given.now) (waiting_in part_of c.as_slice-2.result.now) (spare-plain part_of c.args.input.now.given.now (c.ask_death-kills.ensures.given spares)) (spare-waiting part_of c.as_slice-2.result.now queues) in
     let ran = c.in_ok-act_both.ensures.ran in
     subst NoneGone (sym (scene-stays (kinds_of g.R.Value.SceneValue.places g.R.DocumentRules.part_of g.R.Rules.columns) g.met.R.Rules.apart c.args.input.now.places.now c.act_both.new.world c.put_queues.new.world c.in-Ok.ensures.beside))
-    (spares-keep commands before mid ran.0 all c.requires.none (lead-played 1 commands before mid ran.0 ran.1))
+    (spares-keep (owning_in (kinds_of g.R.Value.SceneValue.places g.R.DocumentRules.part_of g.R.Rules.columns)) commands before mid ran.0 all c.requires.none (lead-played (owning_in (kinds_of g.R.Value.SceneValue.places g.R.DocumentRules.part_of g.R.Rules.columns)) 1 commands before mid ran.0 ran.1))

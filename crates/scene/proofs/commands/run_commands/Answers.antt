@@ -1,16 +1,17 @@
 use Rattle.std.proofs.Common.{◌≡◌, ◌+◌, ◌++◌, length, ap, sym, ◌∙◌, subst, length-append, arith, All}
 use Rattle.std.proofs.lemmas.List.{length-map}
 use Rattle.scene_model.specs.Lawful.{IsLawful}
-use Rattle.scene_model.specs.Commands.{CommandsAccepted}
+use Rattle.scene_model.specs.Commands.{CommandsAccepted, play, played}
 use Rattle.scene_model.specs.Queues.{plain_command, plain_commands, waiting}
 use Rattle.scene_world.specs.Places.{kinds_of}
-use Rattle.scene_world.specs.Standing.{plain_of, commands_of}
+use Rattle.scene_world.specs.Standing.{roll_of, plain_of, commands_of, owning_in}
+use Rattle.scene_world.proofs.CallerLemmas.{same-owning}
 use Rattle.scene_commands.specs.Acts.{seen_of}
 use Rattle.scene_commands.proofs.CallerLemmas.{goes-both}
 use Rattle.scene.specs.Waiting.{waiting_in, waiting_at}
 use Rattle.scene.specs.Sparing.{NoneGone}
 use Rattle.scene.specs.Refusals.{CommandsRefusedIn}
-use Rattle.scene.proofs.WorldLemmas.{scene-stays, may-stays, goes-beside, beside-apart}
+use Rattle.scene.proofs.WorldLemmas.{roll-stays, scene-stays, may-stays, goes-beside, beside-apart}
 use Rattle.scene.proofs.CountLemmas.{flat-same, all-same}
 use Rattle.scene.proofs.CommandLemmas.{lead-played, all-refused}
 use Rattle.scene.proofs.commands.run_commands.Goals as goal
@@ -49,7 +50,8 @@ returns-in-Ok-act_out-clause-accepted g c =
       subst (λ rest. CommandsAccepted (g.R.DocumentRules.book c.args.rules.now) c.args.input.now.limit (plain_commands g.R.DocumentRules.part_of c.args.input.now.given.now ++ rest) (plain_of (kinds_of g.R.Value.SceneValue.places g.R.DocumentRules.part_of g.R.Rules.columns) (seen_of c.args.world.now)) (plain_of (kinds_of g.R.Value.SceneValue.places g.R.DocumentRules.part_of g.R.Rules.columns) (seen_of c.act_out.new.world)) ran.0) same
           (subst (λ start. CommandsAccepted (g.R.DocumentRules.book c.args.rules.now) c.args.input.now.limit (plain_commands g.R.DocumentRules.part_of c.args.input.now.given.now ++ waiting_in g.R.DocumentRules.part_of c.in-Ok.queues.items) start (plain_of (kinds_of g.R.Value.SceneValue.places g.R.DocumentRules.part_of g.R.Rules.columns) (seen_of c.act_out.new.world)) ran.0) scene (record {
             within = omega (arith, slice, whole, within);
-            played_on = lead-played 1 (plain_commands g.R.DocumentRules.part_of c.args.input.now.given.now ++ waiting_in g.R.DocumentRules.part_of c.in-Ok.queues.items) (plain_of (kinds_of g.R.Value.SceneValue.places g.R.DocumentRules.part_of g.R.Rules.columns) (seen_of c.take_queues.new.world)) (plain_of (kinds_of g.R.Value.SceneValue.places g.R.DocumentRules.part_of g.R.Rules.columns) (seen_of c.act_out.new.world)) ran.0 ran.1;
+            played_on = subst (λ owning. play owning 1 (plain_commands g.R.DocumentRules.part_of c.args.input.now.given.now ++ waiting_in g.R.DocumentRules.part_of c.in-Ok.queues.items) (plain_of (kinds_of g.R.Value.SceneValue.places g.R.DocumentRules.part_of g.R.Rules.columns) (seen_of c.take_queues.new.world)) ≡ played (plain_of (kinds_of g.R.Value.SceneValue.places g.R.DocumentRules.part_of g.R.Rules.columns) (seen_of c.act_out.new.world)) ran.0) (same-owning g.R.Value.SceneValue.places g.R.DocumentRules.part_of g.R.Rules.columns (g.R.DocumentRules.book c.args.rules.now) (g.met.R.Rules.named_so c.args.rules.now))
+                (lead-played (owning_in (kinds_of g.R.Value.SceneValue.places g.R.DocumentRules.part_of g.R.Rules.columns)) 1 (plain_commands g.R.DocumentRules.part_of c.args.input.now.given.now ++ waiting_in g.R.DocumentRules.part_of c.in-Ok.queues.items) (plain_of (kinds_of g.R.Value.SceneValue.places g.R.DocumentRules.part_of g.R.Rules.columns) (seen_of c.take_queues.new.world)) (plain_of (kinds_of g.R.Value.SceneValue.places g.R.DocumentRules.part_of g.R.Rules.columns) (seen_of c.act_out.new.world)) ran.0 ran.1);
             none_gone = c.in-Ok-act_out.ensures.none_gone;
           })),
       ran.2,
@@ -72,6 +74,9 @@ returns-in-Err-clause-refused g c =
     length-append (plain_commands g.R.DocumentRules.part_of c.args.input.now.given.now) (waiting_in g.R.DocumentRules.part_of c.in-Ok.queues.items) ∙ ap (λ n. n + length (waiting_in g.R.DocumentRules.part_of c.in-Ok.queues.items)) (length-map c.args.input.now.given.now (plain_command g.R.DocumentRules.part_of)) in
     let within = c.are_within.ensures.within g.R.DocumentRules.part_of c.if-not-are_within.false in
     let scene = scene-stays (kinds_of g.R.Value.SceneValue.places g.R.DocumentRules.part_of g.R.Rules.columns) g.met.R.Rules.apart c.args.input.now.places.now c.args.world.now c.take_queues.new.world c.in-Ok.ensures.beside in
-    subst (λ rest. CommandsRefusedIn (kinds_of g.R.Value.SceneValue.places g.R.DocumentRules.part_of g.R.Rules.columns) (g.R.DocumentRules.book c.args.rules.now) c.args.input.now.limit (plain_commands g.R.DocumentRules.part_of c.args.input.now.given.now ++ rest) (plain_of (kinds_of g.R.Value.SceneValue.places g.R.DocumentRules.part_of g.R.Rules.columns) (seen_of c.args.world.now)) c.in-Err.refusal) same
-    (subst (λ start. CommandsRefusedIn (kinds_of g.R.Value.SceneValue.places g.R.DocumentRules.part_of g.R.Rules.columns) (g.R.DocumentRules.book c.args.rules.now) c.args.input.now.limit (plain_commands g.R.DocumentRules.part_of c.args.input.now.given.now ++ waiting_in g.R.DocumentRules.part_of c.in-Ok.queues.items) start c.in-Err.refusal) scene
-    (all-refused (kinds_of g.R.Value.SceneValue.places g.R.DocumentRules.part_of g.R.Rules.columns) (g.R.DocumentRules.book c.args.rules.now) c.args.input.now.limit (plain_commands g.R.DocumentRules.part_of c.args.input.now.given.now ++ waiting_in g.R.DocumentRules.part_of c.in-Ok.queues.items) c.take_queues.new.world (omega (arith, slice, whole, within)) c.in-Err.refusal c.in-Err.ensures.refused))
+    let kinds = kinds_of g.R.Value.SceneValue.places g.R.DocumentRules.part_of g.R.Rules.columns in
+    subst (λ rest. CommandsRefusedIn kinds (g.R.DocumentRules.book c.args.rules.now) c.args.input.now.limit (roll_of kinds (seen_of c.args.world.now)) (plain_commands g.R.DocumentRules.part_of c.args.input.now.given.now ++ rest) (plain_of (kinds_of g.R.Value.SceneValue.places g.R.DocumentRules.part_of g.R.Rules.columns) (seen_of c.args.world.now)) c.in-Err.refusal) same
+    (subst (λ start. CommandsRefusedIn kinds (g.R.DocumentRules.book c.args.rules.now) c.args.input.now.limit (roll_of kinds (seen_of c.args.world.now)) (plain_commands g.R.DocumentRules.part_of c.args.input.now.given.now ++ waiting_in g.R.DocumentRules.part_of c.in-Ok.queues.items) start c.in-Err.refusal) scene
+    (subst (λ roll. CommandsRefusedIn kinds (g.R.DocumentRules.book c.args.rules.now) c.args.input.now.limit roll (plain_commands g.R.DocumentRules.part_of c.args.input.now.given.now ++ waiting_in g.R.DocumentRules.part_of c.in-Ok.queues.items) (plain_of kinds (seen_of c.take_queues.new.world)) c.in-Err.refusal)
+    (roll-stays kinds g.met.R.Rules.apart c.args.input.now.places.now c.args.world.now c.take_queues.new.world c.in-Ok.ensures.beside)
+    (all-refused (kinds_of g.R.Value.SceneValue.places g.R.DocumentRules.part_of g.R.Rules.columns) (g.R.DocumentRules.book c.args.rules.now) (same-owning g.R.Value.SceneValue.places g.R.DocumentRules.part_of g.R.Rules.columns (g.R.DocumentRules.book c.args.rules.now) (g.met.R.Rules.named_so c.args.rules.now)) c.args.input.now.limit (plain_commands g.R.DocumentRules.part_of c.args.input.now.given.now ++ waiting_in g.R.DocumentRules.part_of c.in-Ok.queues.items) c.take_queues.new.world (omega (arith, slice, whole, within)) c.in-Err.refusal c.in-Err.ensures.refused)))

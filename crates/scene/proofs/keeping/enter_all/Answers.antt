@@ -1,9 +1,11 @@
-use Rattle.std.proofs.Common.{ℕ, List, Option, Some, take, get_or, cond, eqb, ap, sym, ◌∙◌}
+use Rattle.std.proofs.Common.{◌≡◌, ℕ, List, length, Option, Some, take, get_or, cond, eqb, refl, ap, sym, subst, ◌∙◌, arith}
 use Rattle.std.proofs.lemmas.List.{take_all}
 use Rattle.scene_snapshot.specs.Rows.{seat_at}
 use Rattle.scene_snapshot.proofs.CallerLemmas.{has-room}
+use Rattle.scene.specs.Keeping.{CountsMore}
 use Rattle.scene.specs.Taken.{turned, with_last}
 use Rattle.scene.proofs.KeepLemmas.{front-more, last-more}
+use Rattle.scene.proofs.CountingLemmas.{counted-none, counted-next}
 use Rattle.scene.proofs.keeping.enter_all.Goals as goal
 
 pub enter-requires : goal.enter-requires
@@ -26,7 +28,16 @@ loop-pair-preserved g c =
         next = c.enter.ensures.course.next ∙ c.loop-pair.invariant.course.next;
         globals = c.enter.ensures.course.globals ∙ c.loop-pair.invariant.course.globals;
       };
+      changes = counted-next c.args.kept.now.changes c.loop-pair.pair-index c.loop-pair.kept.changes c.enter.new.self.changes c.loop-pair.invariant.changes c.enter.ensures.changes;
     }
+
+pub loop-pair-init : goal.loop-pair-init
+loop-pair-init g c = record { seats = λ index. refl; rows = λ place index. refl; room = c.requires.room; course = record { kinds = refl; next = refl; globals = refl }; changes = counted-none c.args.kept.now.changes }
+
+pub returns-clause-changes : goal.returns-clause-changes
+returns-clause-changes g c =
+    let all : c.loop-pair.pair-index ≡ length c.args.pairs.now = omega (arith, c.loop-pair-test.false, c.loop-pair.auto.pair-index-end) in
+    subst (λ n. CountsMore c.args.kept.now.changes n c.loop-pair.kept.changes) all c.loop-pair.invariant.changes
 
 pub returns-clause-seats : goal.returns-clause-seats
 returns-clause-seats g c index =

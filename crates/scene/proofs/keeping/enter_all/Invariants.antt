@@ -1,5 +1,6 @@
 use Rattle.std.proofs.Common.{◌≡◌, ℕ, take}
 use Rattle.scene_snapshot.specs.Rows.{seat_at, datum_at, HasRoom, SameCourse}
+use Rattle.scene.specs.Keeping.{CountsMore}
 use Rattle.scene.specs.Taken.{turned, with_last}
 use Rattle.scene.proofs.keeping.enter_all.Given as goal
 
@@ -10,4 +11,5 @@ invariant-loop-pair g l = record {
   rows : (place index : ℕ) → datum_at l.kept place index ≡ datum_at l.fn.kept place index;
   room : HasRoom l.count l.kept;
   course : SameCourse l.fn.kept l.kept;
+  changes : CountsMore l.fn.kept.changes l.pair-index l.kept.changes;
 }

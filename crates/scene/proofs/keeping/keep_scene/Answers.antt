@@ -1,4 +1,4 @@
-use Rattle.std.proofs.Common.{◌≡◌, ◌<◌, ℕ, List, length, All, ap, sym, subst, ◌∙◌}
+use Rattle.std.proofs.Common.{◌≡◌, ◌<◌, ℕ, List, length, All, ap, sym, subst, ◌∙◌, arith}
 use Rattle.std.proofs.lemmas.List.{length-map}
 use denote.Ref.{Bor}
 use Rattle.scene_model.specs.Parts.{Name}
@@ -53,6 +53,14 @@ returns-clause-full g c =
       seats = seats g c;
       rows = subst (λ (listed : List Name). AreRowsOf (kinds_of g.R.Value.SceneValue.places g.R.DocumentRules.part_of g.R.Rules.columns) g.R.DocumentRules.part_of (seen_of c.args.world.now) listed (length listed) c.enter_all.new.kept) same (rows g c);
     }
+
+pub returns-clause-few : goal.returns-clause-few
+returns-clause-few g c =
+    let few = c.in_ok-pairs.ensures.few in
+    let pairs : length c.deref-3.result.now ≡ length c.in_ok-pairs.pairs.items = ap (λ (list : List (ℕ × ℕ)). length list) c.deref-3.ensures.value in
+    let none : c.write_rows.new.kept.changes ≡ 0 = c.in_ok-write_rows.ensures.changes ∙ c.in_ok-make_room.ensures.changes ∙ c.in_ok-kept.ensures.changes in
+    let made = c.enter_all.ensures.changes (omega (arith, few, pairs, none)) in
+    omega (arith, few, pairs, none, made)
 
 pub returns-clause-below : goal.returns-clause-below
 returns-clause-below g c = below-pairs (roll_of (kinds_of g.R.Value.SceneValue.places g.R.DocumentRules.part_of g.R.Rules.columns) (seen_of c.args.world.now)) c.in_ok-pairs.pairs.items c.in_ok-pairs.ensures

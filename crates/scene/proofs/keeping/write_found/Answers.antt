@@ -33,7 +33,7 @@ pub loop-index-preserved-in-Some-datum : goal.loop-index-preserved-in-Some-datum
 loop-index-preserved-in-Some-datum g c =
     let rest = c.next.new.self.rest.items in
     writing-goes c.args.found.items c.loop-index.index-iterator.rest.items c.args.place c.args.count c.args.kept.now c.loop-index.kept c.loop-index.invariant c.in-Some.index rest c.in-Some-datum.datum c.write.new.self
-    (c.in-Some.ensures.steps.0 ∙ ap (λ datum. (c.in-Some.index, datum) ∷ rest) c.in-Some-datum.is) c.write.ensures.rows c.write.ensures.seats c.write.ensures.course c.write.ensures.room
+    (c.in-Some.ensures.steps.0 ∙ ap (λ datum. (c.in-Some.index, datum) ∷ rest) c.in-Some-datum.is) c.write.ensures.rows c.write.ensures.seats c.write.ensures.course c.write.ensures.room c.write.ensures.changes
 
 pub returns : goal.returns
 returns g c = record {
@@ -42,4 +42,5 @@ returns g c = record {
   seats = c.loop-index.invariant.seats;
   room = c.loop-index.invariant.room;
   course = c.loop-index.invariant.course;
+  changes = c.loop-index.invariant.changes;
 }

@@ -5,7 +5,8 @@ use Rattle.scene_world.specs.Places.{kinds_of}
 use Rattle.scene_commands.specs.Acts.{seen_of}
 use Rattle.scene_commands.proofs.DropLemmas.{no_name, named-there}
 use Rattle.scene.specs.Taken.{IsAmong, IsRowOf}
-use Rattle.scene.proofs.KeepLemmas.{behind-itself, same-indices, part-among, name-there, more-rows}
+use Rattle.scene_commands.proofs.CatchLemmas.{name-there}
+use Rattle.scene.proofs.KeepLemmas.{behind-itself, same-indices, part-among, more-rows}
 use Rattle.scene.proofs.EntryLemmas.{seconds-behind}
 use Rattle.scene.proofs.keeping.write_rows.Goals as goal
 
@@ -16,6 +17,7 @@ loop-place-init g c = record {
   seats = c.requires.bare.seats;
   room = c.requires.room;
   course = record { kinds = refl; next = refl; globals = refl };
+  changes = refl;
 }
 
 pub write_row-requires-clause-known : goal.write_row-requires-clause-known
@@ -60,6 +62,7 @@ loop-place-preserved g c =
       seats = wrote.seats;
       room = wrote.room;
       course = record { kinds = wrote.course.kinds ∙ so_far.course.kinds; next = wrote.course.next ∙ so_far.course.next; globals = wrote.course.globals ∙ so_far.course.globals };
+      changes = wrote.changes ∙ so_far.changes;
     }
 
 pub returns-clause-rows : goal.returns-clause-rows

@@ -14,4 +14,5 @@ invariant-loop-place g l = record {
   seats : (index : ℕ) → seat_at l.kept index ≡ None;
   room : HasRoom l.count l.kept;
   course : SameCourse l.fn.kept l.kept;
+  changes : l.kept.changes ≡ l.fn.kept.changes;
 }

@@ -1,4 +1,6 @@
-use Rattle.std.proofs.Common.{length, sym, subst, All}
+use Rattle.std.proofs.Common.{◌≡◌, length, ap, sym, ◌∙◌, subst, arith, All}
+use Rattle.std.proofs.lemmas.List.{length-map}
+use Rattle.scene_document.specs.DraftViews.{plain_entity}
 use Rattle.scene_model.specs.Scenes.{IsProper, PartsStand}
 use Rattle.scene_model.specs.Lawful.{IsLawful}
 use Rattle.scene_document.proofs.CallerLemmas.{unrefused}
@@ -40,4 +42,10 @@ returns g c = λ json prepared.
         described = prepared.described;
         lawful = λ number. subst (λ frame. All (IsLawful book) frame.commands) (sym (prepared.frames number)) (prepared.lawful number);
       };
+      under = opened.bounded (alone prepared.draft) (length prepared.draft.entities) prepared.says (unrefused-alone c.args.limits.indices prepared.draft (unrefused book c.args.limits.indices json prepared.draft prepared.is));
+      unlisted =
+          let many : length prepared.draft.entities ≡ length c.args.prepared.draft.entities.items = ap length prepared.says.entities ∙ length-map c.args.prepared.draft.entities.items (plain_entity g.R.DocumentRules.part_of book.part_names) in
+          let next = prepared.says.next in
+          omega (arith, many, next, c.len.ensures, c.saturating_sub-unlisted.ensures);
+      workers = prepared.workers;
     }

@@ -46,5 +46,7 @@ returns g c = λ limits json draft is says.
       staged = drawn.staged;
       locals = drawn.locals;
       asked = drawn.asked ∙ sym says.frames;
+      workers = drawn.workers ∙ sym says.workers;
+      store = says.store ∙ c.in-Some.is;
       described = λ number. order-described g.R.DocumentRules.kind_of g.R.DocumentRules.config_of (g.R.DocumentRules.book c.args.rules.now) draft c.args.draft.entries.items number says.entries says.made;
     }

@@ -12,7 +12,7 @@ use Rattle.scene_model.proofs.CallerLemmas.{IsBetween, proper-between, admitted-
 use Rattle.scene_world.specs.Places.{kinds_of}
 use Rattle.scene_world.specs.Turns.{placed_as}
 use Rattle.scene_dispatch.specs.Orders.{turn_order}
-use Rattle.scene_world.specs.Standing.{plain_of, commands_of}
+use Rattle.scene_world.specs.Standing.{roll_of, plain_of, commands_of}
 use Rattle.scene_commands.specs.Acts.{seen_of, GoesOn}
 use Rattle.scene_commands.proofs.CallerLemmas.{goes-both}
 use Rattle.scene.specs.Waiting.{waiting_at}
@@ -143,8 +143,9 @@ returns-clause-refused g c =
     let turns = turned kinds meaning book c.args.dispatcher.now c.args.world.now start c.args.outcome is come in
     let waits : flat_map (λ queue. queue.1) (by_place turns.queues) ≡ waiting_at kinds places (seen_of c.args.world.now) =
     by-place-left turns.queues places c.requires.places.ascend (run-stand book places order start mid turns.queues c.requires.places.there turns.systems_ran) (commands_of kinds (seen_of c.args.world.now)) turns.queued in
-    then-refused kinds book c.args.input.now.limit frame start mid turns.queues turns.systems_ran cause
-    (subst (λ rest. CommandsRefusedIn kinds book c.args.input.now.limit (frame.commands ++ rest) mid cause) (sym waits) why))
+    let roll = roll_of kinds (seen_of c.args.world.now) in
+    then-refused kinds book c.args.input.now.limit roll frame start mid turns.queues turns.systems_ran cause
+    (subst (λ rest. CommandsRefusedIn kinds book c.args.input.now.limit roll (frame.commands ++ rest) mid cause) (sym waits) why))
     c.run_commands.ensures.refused
 
 pub returns-in_err-outcome-clause-refused : goal.returns-in_err-outcome-clause-refused
@@ -155,4 +156,4 @@ returns-in_err-outcome-clause-refused g c =
     let meaning = placed_as (λ placed. placed.position) (λ placed. placed.system) g.R.DocumentRules.kind_of g.R.DocumentRules.config_of g.R.DocumentRules.declared g.R.Rules.sense g.R.Rules.does in
     let book = g.R.DocumentRules.book c.args.rules.now in
     let frame : PlainFrame = record { order = turn_order meaning.plain c.args.dispatcher.now; commands = plain_commands g.R.DocumentRules.part_of c.args.input.now.given.now } in
-    rw failed (λ start come. refused-turns kinds meaning book c.args.input.now.limit frame start c.in_err-outcome.field-0.0 (subst (HaveCome kinds meaning book c.args.dispatcher.now c.args.world.now start) is come))
+    rw failed (λ start come. refused-turns kinds meaning book c.args.input.now.limit (roll_of kinds (seen_of c.args.world.now)) frame start c.in_err-outcome.field-0.0 (subst (HaveCome kinds meaning book c.args.dispatcher.now c.args.world.now start) is come))

@@ -1,14 +1,14 @@
 use Rattle.std.proofs.Common.{refl, subst, sym}
-use Rattle.std.proofs.lemmas.Result.{IfErr-weaker, on_ok_weaker}
+use Rattle.std.proofs.lemmas.Result.{on_ok_weaker}
 use Rattle.scene_model.specs.Frames.{Accepts}
 use Rattle.scene_model.specs.Queues.{plain_commands}
 use Rattle.scene_world.specs.Places.{kinds_of}
 use Rattle.scene_world.specs.Turns.{placed_as}
-use Rattle.scene_world.specs.Standing.{plain_of}
+use Rattle.scene_world.specs.Standing.{roll_of, plain_of}
 use Rattle.scene_commands.specs.Acts.{seen_of}
 use Rattle.scene.specs.Waiting.{AreTheirPlaces}
 use Rattle.scene.specs.Refusals.{RefusedIn}
-use Rattle.scene.proofs.FrameLemmas.{have-come, come-goes}
+use Rattle.scene.proofs.FrameLemmas.{have-come, come-goes, refused-since, told-as, if_err_two}
 use Rattle.scene.proofs.running.run_frame.Goals as goal
 
 pub finish_frame-requires-clause-come : goal.finish_frame-requires-clause-come
@@ -58,6 +58,11 @@ returns-clause-refused g c =
     let scene = plain_of kinds (seen_of c.args.world.now) in
     let order = c.run_systems-outcome.ensures.order in
     let come = have-come kinds meaning book c.args.dispatcher.now c.run_systems-outcome.new.self c.args.world.now c.run_systems-outcome.new.world scene c.run_systems-outcome.result c.requires.none refl order (c.run_systems-outcome.ensures.comes c.requires.ready) in
-    IfErr-weaker c.finish_frame.result _ _
-    (λ cause why. subst (λ list. RefusedIn kinds book c.args.input.now.limit (record { order = list; commands = plain_commands g.R.DocumentRules.part_of c.args.input.now.given.now }) scene cause) order (why scene come))
+    let roll = roll_of kinds (seen_of c.args.world.now) in
+    let given = plain_commands g.R.DocumentRules.part_of c.args.input.now.given.now in
+    if_err_two c.finish_frame.result _ _ _
+    (λ cause told why. subst (λ list. RefusedIn kinds book c.args.input.now.limit roll (record { order = list; commands = given }) scene cause) order
+    (refused-since kinds meaning book c.args.dispatcher.now c.run_systems-outcome.new.self c.args.world.now c.run_systems-outcome.new.world c.args.input.now.limit given scene c.run_systems-outcome.result cause
+    (c.run_systems-outcome.ensures.comes c.requires.ready) come told (why scene come)))
+    (told-as c.run_systems-outcome.result c.finish_frame.result c.finish_frame.ensures.systems)
     c.finish_frame.ensures.refused

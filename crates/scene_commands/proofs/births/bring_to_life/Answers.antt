@@ -20,3 +20,4 @@ returns-in-Ok-outcome-clause-ok g c =
     c.in-Ok.entities c.allocate-outcome.new.self c.in-Ok.ensures.entities c.wrap_entities.ensures c.in-Ok-outcome.entity
     (subst (λ entity. 0 < entity.generation.number) (sym c.in-Ok-outcome.ensures.value) (omega arith))
     c.in-Ok-outcome.ensures.new c.in-Ok-outcome.ensures.alive c.in-Ok-outcome.ensures.lives c.in-Ok-outcome.ensures.live_on c.in-Ok-outcome.ensures.continues
+    c.in-Ok-outcome.ensures.value c.in-Ok-outcome.ensures.ok

@@ -16,7 +16,7 @@ returns-in-Ok g c =
     (was-there c.args.world.now c.take_raw.new.self c.put_back.new.self g.R.Value.SceneValue.places.markers_id c.markers_id-id.result c.markers_id-id.ensures c.take_raw.result c.take_raw.ensures.value c.in-Some.value c.wrap_markers.result c.in-Some.is c.in-Some.ensures.out c.put_back.ensures)
     (now-there c.args.world.now c.take_raw.new.self c.put_back.new.self g.R.Value.SceneValue.places.markers_id c.markers_id-id.result c.markers_id-id.ensures c.take_raw.result c.take_raw.ensures.value c.in-Some.value c.wrap_markers.result c.in-Some.is c.in-Some.ensures.out c.put_back.ensures)
     (else-there c.args.world.now c.take_raw.new.self c.put_back.new.self g.R.Value.SceneValue.places.markers_id c.markers_id-id.result c.markers_id-id.ensures c.take_raw.result c.take_raw.ensures.value c.in-Some.value c.wrap_markers.result c.in-Some.is c.in-Some.ensures.out c.put_back.ensures)
-    c.args.watcher.now c.in-Ok.markers c.read_storage.new.storage c.in-Ok.ensures.markers c.wrap_markers.ensures.markers c.in-Ok.ensures.events c.wrap_markers.ensures.events c.in-Ok.ensures.emits c.wrap_markers.ensures.emits
+    c.args.reader.now c.in-Ok.markers c.read_storage.new.storage c.in-Ok.ensures.markers c.wrap_markers.ensures.markers c.in-Ok.ensures.events c.wrap_markers.ensures.events c.in-Ok.ensures.emits c.wrap_markers.ensures.emits
     c.read_storage.ensures
 
 pub returns-in-Err : goal.returns-in-Err
@@ -25,4 +25,4 @@ returns-in-Err g c =
     (was-there c.args.world.now c.take_raw.new.self c.put_back-in-Err.new.self g.R.Value.SceneValue.places.markers_id c.markers_id-id.result c.markers_id-id.ensures c.take_raw.result c.take_raw.ensures.value c.in-Some.value c.in-Err.other c.in-Some.is c.in-Some.ensures.out c.put_back-in-Err.ensures)
     (now-there c.args.world.now c.take_raw.new.self c.put_back-in-Err.new.self g.R.Value.SceneValue.places.markers_id c.markers_id-id.result c.markers_id-id.ensures c.take_raw.result c.take_raw.ensures.value c.in-Some.value c.in-Err.other c.in-Some.is c.in-Some.ensures.out c.put_back-in-Err.ensures)
     (else-there c.args.world.now c.take_raw.new.self c.put_back-in-Err.new.self g.R.Value.SceneValue.places.markers_id c.markers_id-id.result c.markers_id-id.ensures c.take_raw.result c.take_raw.ensures.value c.in-Some.value c.in-Err.other c.in-Some.is c.in-Some.ensures.out c.put_back-in-Err.ensures)
-    c.args.watcher.now c.in-Err.ensures.handed_back c.in-Err.ensures.silent
+    c.args.reader.now c.in-Err.ensures.handed_back c.in-Err.ensures.silent

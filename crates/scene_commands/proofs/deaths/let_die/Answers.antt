@@ -21,6 +21,6 @@ returns-after-outcome g c = elim c.match-outcome.branch [
       (was-there c.args.world.now c.take_raw.new.self c.put_back.new.self g.R.Value.SceneValue.places.entities_id c.entities_id-id.result c.entities_id-id.ensures c.take_raw.result c.take_raw.ensures.value c.in-Some.value c.wrap_entities.result c.in-Some.is c.in-Some.ensures.out c.put_back.ensures)
       (now-there c.args.world.now c.take_raw.new.self c.put_back.new.self g.R.Value.SceneValue.places.entities_id c.entities_id-id.result c.entities_id-id.ensures c.take_raw.result c.take_raw.ensures.value c.in-Some.value c.wrap_entities.result c.in-Some.is c.in-Some.ensures.out c.put_back.ensures)
       (else-there c.args.world.now c.take_raw.new.self c.put_back.new.self g.R.Value.SceneValue.places.entities_id c.entities_id-id.result c.entities_id-id.ensures c.take_raw.result c.take_raw.ensures.value c.in-Some.value c.wrap_entities.result c.in-Some.is c.in-Some.ensures.out c.put_back.ensures)
-      c.in-Ok.entities c.kill-outcome.new.self c.in-Ok.ensures.entities c.wrap_entities.ensures c.args.entity w.in-Ok-outcome.ensures.lives w.in-Ok-outcome.ensures.continues)
+      c.in-Ok.entities c.kill-outcome.new.self c.in-Ok.ensures.entities c.wrap_entities.ensures c.args.entity w.in-Ok-outcome.ensures.lives w.in-Ok-outcome.ensures.continues w.in-Ok-outcome.ensures.ok)
   | in-Err-outcome w ↦ subst (λ r. OnOk r (LetsDie (kinds_of g.R.Value.SceneValue.places g.R.DocumentRules.part_of g.R.Rules.columns) c.args.entity.id (seen_of c.args.world.now) (seen_of c.put_back.new.self))) (sym w.result-is) tt
 ]

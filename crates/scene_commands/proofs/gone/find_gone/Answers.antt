@@ -1,4 +1,4 @@
-use Rattle.std.proofs.Common.{◌≡◌, ℕ, Bool, false, List, [], None, vec_len, ap, sym, ◌∙◌, subst, cond, arith}
+use Rattle.std.proofs.Common.{◌≡◌, ℕ, Bool, true, false, eqb, List, [], None, All, vec_len, ap, sym, ◌∙◌, subst, cond, arith}
 use Rattle.std.specs.Prelude.{option_map}
 use Rattle.std.specs.List.{list_any, find}
 use Rattle.std.proofs.lemmas.Bool.{eqb-true}
@@ -12,8 +12,9 @@ use Rattle.scene_world.specs.Rolls.{Roll, ids_in, part_in, ref_to}
 use Rattle.scene_world.specs.Standing.{column_of, roll_of}
 use Rattle.scene_world.specs.Stored.{part_under}
 use Rattle.scene_commands.specs.Acts.{seen_of}
-use Rattle.scene_commands.specs.Gone.{AreLiving}
-use Rattle.scene_commands.proofs.GoneLemmas.{IsLeast, living-at, least-next, least-found, test-at, none-gone}
+use Rattle.specs_entity.specs.Births.{IsAlive}
+use Rattle.scene_commands.specs.Gone.{any_gone}
+use Rattle.scene_commands.proofs.GoneLemmas.{IsLeast, living-at, least-next, least-found, refers-gone, test-at, none-gone}
 use Rattle.scene_commands.proofs.gone.find_gone.Goals as goal
 
 pub loop-entity-preserved : goal.loop-entity-preserved
@@ -23,21 +24,26 @@ loop-entity-preserved g c =
     let known : (index : ℕ) → holds index (texts c.in_ok-names.names.items) ≡ holds index (texts c.part_names.result.now) = c.in_ok-names.ensures in
     least-next roll (λ index. holds index (g.R.DocumentRules.book c.args.rules.now).part_names)
     c.as_slice-entity-items.result.now c.loop-entity.entity-index c.entity-item.result c.loop-entity-test.true c.entity-item.is c.requires.may.roll c.in_ok-gone.gone c.loop-entity.least c.lesser-least.result c.in-Some.id
-    (living-at roll c.as_slice-entity-items.result.now c.loop-entity.entity-index c.entity-item.result c.loop-entity-test.true c.entity-item.is (subst (λ items. AreLiving roll.births items) (sym c.as_slice-entity-items.ensures.value) c.in_ok-entities.ensures))
+    (living-at roll c.as_slice-entity-items.result.now c.loop-entity.entity-index c.entity-item.result c.loop-entity-test.true c.entity-item.is (subst (All (IsAlive roll.births)) (sym c.as_slice-entity-items.ensures.value) c.in_ok-entities.ensures.alive))
     (sym (ap roll.marker c.id.ensures) ∙ sym c.id_marked.ensures ∙ c.in-Some.is)
-    (c.in_ok-gone.ensures ∙ ap (λ list. holds c.id-in-loop-entity.result (texts list)) c.as_slice.ensures.value ∙ known c.id-in-loop-entity.result
+    (c.in_ok-gone.ensures ∙ ap (λ list. holds c.id-in-loop-entity.result (texts list)) c.as_slice-kinds.ensures.value ∙ known c.id-in-loop-entity.result
     ∙ ap (λ index. holds index (texts c.part_names.result.now)) c.id-in-loop-entity.ensures ∙ ap (holds c.entity-item.result.id) c.part_names.ensures)
     c.lesser-least.ensures c.loop-entity.invariant
 
 pub returns : goal.returns
 returns g c =
-    let roll : Roll = roll_of (kinds_of g.R.Value.SceneValue.places g.R.DocumentRules.part_of g.R.Rules.columns) (seen_of c.args.world.now) in
+    let kinds = kinds_of g.R.Value.SceneValue.places g.R.DocumentRules.part_of g.R.Rules.columns in
+    let w = seen_of c.args.world.now in
+    let roll : Roll = roll_of kinds w in
     let names : List Name = (g.R.DocumentRules.book c.args.rules.now).part_names in
     let holds : ℕ → Bool = λ index. list_any (λ kind. holds_gone (option_map (part_under (ref_to roll)) (column_of (kinds_of g.R.Value.SceneValue.places g.R.DocumentRules.part_of g.R.Rules.columns) (seen_of c.args.world.now) kind index))) names in
     let test : List Name → ℕ → Bool = λ known id. list_any (λ kind. holds_gone (cond (is_among kind known) (part_in roll (column_of (kinds_of g.R.Value.SceneValue.places g.R.DocumentRules.part_of g.R.Rules.columns) (seen_of c.args.world.now) kind) id) None)) names in
     least-found roll holds (test g.R.Rules.columns.part_names)
     (λ id index at. ap (λ known. test known id) (g.met.R.Rules.named_so c.args.rules.now).parts ∙ test-at roll names (column_of (kinds_of g.R.Value.SceneValue.places g.R.DocumentRules.part_of g.R.Rules.columns) (seen_of c.args.world.now)) id index at)
-    c.as_slice-entity-items.result.now c.loop-entity.least (subst (λ items. AreLiving roll.births items) (sym c.as_slice-entity-items.ensures.value) c.in_ok-entities.ensures)
+    c.as_slice-entity-items.result.now c.loop-entity.least
+    (λ entity alive held. subst (λ items. list_any (λ one. eqb one.id entity.id) items ≡ true) (sym c.as_slice-entity-items.ensures.value)
+    (c.in_ok-entities.ensures.all entity alive (refers-gone kinds w (texts c.as_slice-kinds.result.now) entity.id
+    (ap (λ list. any_gone kinds w (texts list) entity.id) c.as_slice-kinds.ensures.value ∙ c.in_ok-names.ensures entity.id ∙ ap (λ list. any_gone kinds w list entity.id) c.part_names.ensures ∙ held))))
     (subst (λ front. IsLeast roll holds front c.loop-entity.least) (take_all c.loop-entity.entity-index c.as_slice-entity-items.result.now c.loop-entity-test.false) c.loop-entity.invariant)
 
 -- where there is no kind whose parts may refer to somebody, nobody who is gone is referred to

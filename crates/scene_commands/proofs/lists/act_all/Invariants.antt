@@ -3,17 +3,19 @@ use Rattle.scene_model.specs.declared.refusals.Skip.{Skip}
 use Rattle.scene_model.specs.Leads.{RunsTo}
 use Rattle.scene_model.specs.Queues.{plain_commands}
 use Rattle.scene_world.specs.Places.{kinds_of}
-use Rattle.scene_world.specs.Standing.{plain_of}
+use Rattle.scene_world.specs.Standing.{owning_in, plain_of}
 use Rattle.scene_commands.specs.Acts.{seen_of, MayAct, StaysElsewhere, GoesOn}
+use Rattle.scene_commands.specs.Links.{Covers}
 use Rattle.scene_commands.proofs.lists.act_all.Given as goal
 
 abbrev pub invariant-loop-command : goal.invariant-loop-command
 invariant-loop-command g l = record {
   place : l.place ≡ l.earlier + l.command-index;
-  ran : RunsTo l.frame (l.earlier + 1) (plain_commands g.R.DocumentRules.part_of (take l.command-index l.commands)) (plain_of (kinds_of g.R.Value.SceneValue.places g.R.DocumentRules.part_of g.R.Rules.columns) (seen_of l.initial.world))
+  ran : RunsTo (owning_in (kinds_of g.R.Value.SceneValue.places g.R.DocumentRules.part_of g.R.Rules.columns)) l.frame (l.earlier + 1) (plain_commands g.R.DocumentRules.part_of (take l.command-index l.commands)) (plain_of (kinds_of g.R.Value.SceneValue.places g.R.DocumentRules.part_of g.R.Rules.columns) (seen_of l.initial.world))
       (plain_of (kinds_of g.R.Value.SceneValue.places g.R.DocumentRules.part_of g.R.Rules.columns) (seen_of l.world)) l.initial.skips.items l.skips.items;
   may : MayAct (kinds_of g.R.Value.SceneValue.places g.R.DocumentRules.part_of g.R.Rules.columns) l.world;
   elsewhere : StaysElsewhere (kinds_of g.R.Value.SceneValue.places g.R.DocumentRules.part_of g.R.Rules.columns) l.initial.world l.world;
   goes_on : GoesOn (kinds_of g.R.Value.SceneValue.places g.R.DocumentRules.part_of g.R.Rules.columns) l.initial.world l.world;
+  covers : Covers (kinds_of g.R.Value.SceneValue.places g.R.DocumentRules.part_of g.R.Rules.columns) l.holders l.world;
   kept : (more : List Skip) × (l.skips.items ≡ l.initial.skips.items ++ more);
 }

@@ -20,7 +20,7 @@ returns-clause-run g c = λ bounds input report text ran.
     reaches-goes-on book bounds.commands (frames_of ran.draft) report.frames (first_scene ran.draft) ran.scene report.skips ran.begins.proper.ids ran.ran.0
 
 pub returns-clause-spawned : goal.returns-clause-spawned
-returns-clause-spawned g c = λ parts scene after. spawn-gives parts scene after
+returns-clause-spawned g c = λ owning parts scene after. spawn-gives owning parts scene after
 
 pub returns-clause-killed : goal.returns-clause-killed
-returns-clause-killed g c = λ id scene after. kill-takes id scene after
+returns-clause-killed g c = λ owning id one scene after. kill-takes owning id one scene after

@@ -1,12 +1,18 @@
-use Rattle.std.proofs.Common.{◌≡◌, refl, sym, ◌∙◌, subst}
+use Rattle.std.proofs.Common.{◌≡◌, unsigned_abs, rules, w32, ap, refl, sym, ◌∙◌, subst, arith}
 use Rattle.std.proofs.Math.Path.{fun_ext}
+use Rattle.std.proofs.lemmas.Int.{to_z-of_z}
 use Rattle.scene_model.specs.Scenes.{IsProper}
 use Rattle.scene_document.specs.Openings.{first_scene}
 use Rattle.scene_world.specs.Places.{kinds_of}
 use Rattle.scene_commands.specs.Acts.{seen_of}
 use Rattle.scene.specs.Keeping.{IsFullByIndex}
+use Rattle.scene_model.specs.Bounds.{FrameLimit}
+use Rattle.scene_world.specs.Standing.{roll_of}
+use Rattle.scene_commands.specs.Bounds.{IsBounded, unlisted_in}
+use Rattle.scene.specs.Limits.{bounds_of}
 use Rattle.scene.specs.Running.{listed_scene}
-use Rattle.scene.proofs.TurnLemmas.{is_opening, is_nothing_yet}
+use Rattle.scene.proofs.TellingLemmas.{first-read, frame-read}
+use Rattle.scene.proofs.TurnLemmas.{is_opening, is_nothing_yet, limit_is}
 use Rattle.scene.proofs.frame.Scene.keeping.Goals as goal
 
 pub keep_scene-requires : goal.keep_scene-requires
@@ -21,6 +27,9 @@ returns g c = λ json placed.
     let law = c.events_are_no_part_of_a_scene.ensures in
     let named = g.met.R.Rules.named_so c.args.rules in
     let scene : listed_scene g.R.DocumentRules.part_of g.R.DocumentRules.global_of (g.R.DocumentRules.book c.args.rules) c.in-Ok-keep_scene.kept ≡ first_scene placed.draft = kept.scene ∙ law.scene was now watched.stays ∙ placed.scene in
+    let kinds = kinds_of g.R.Value.SceneValue.places g.R.DocumentRules.part_of g.R.Rules.columns in
+    let births : c.unsigned_abs-births.result ≡ unsigned_abs c.args.limits.generation = c.unsigned_abs-births.ensures.value ∙ ap unsigned_abs (to_z-of_z w32 c.args.limits.generation (search rules)) in
+    let same_limit = limit_is (bounds_of c.args.limits) placed.draft c.unsigned_abs-births.result c.args.opened.unlisted c.args.opened.course.dispatcher.workers births placed.unlisted placed.workers in
     record {
       same_rules = refl;
       ready = record {
@@ -34,16 +43,20 @@ returns g c = λ json placed.
           stands = law.stands was now watched.stays placed.stands;
           below = kept.below;
           full = subst (λ names. IsFullByIndex (kinds_of g.R.Value.SceneValue.places g.R.DocumentRules.part_of g.R.Rules.columns) g.R.DocumentRules.part_of names c.in-Ok-keep_scene.kept (seen_of now)) named.parts kept.full;
-          watched = watched.watched;
+          watched = let kinds = kinds_of g.R.Value.SceneValue.places g.R.DocumentRules.part_of g.R.Rules.columns in frame-read kinds c.in-Ok.watchers (seen_of now) (first-read kinds c.in-Ok.watchers (seen_of now) watched.watched);
           telling = watched.telling;
         };
+        under = λ none.
+            subst (λ (limit : FrameLimit). IsBounded limit.indices limit.generation limit.unlisted (roll_of kinds (seen_of now))) (sym same_limit)
+            (subst (IsBounded c.args.limits.indices (unsigned_abs c.args.limits.generation) (unlisted_in placed.draft)) (sym (law.roll was now watched.stays)) placed.under);
         lawful = placed.lawful;
         proper = subst (IsProper (g.R.DocumentRules.book c.args.rules)) (sym scene) placed.begins.proper;
+        few = let few = kept.few in omega (arith, few);
       };
       document = (
         placed.draft,
         placed.is,
-        is_opening c.args.limits.commands placed.draft _ scene (fun_ext (λ number. sym (placed.frames number))) refl placed.asked (is_nothing_yet _ (c.from_vec.ensures ∙ c.new.ensures.items)),
+        is_opening (bounds_of c.args.limits) placed.draft _ scene (fun_ext (λ number. sym (placed.frames number))) same_limit placed.asked (is_nothing_yet _ (c.from_vec.ensures ∙ c.new.ensures.items)),
         placed.begins,
       );
     }

@@ -1,7 +1,4 @@
-use Rattle.std.proofs.Common.{not, ap, sym, ◌∙◌, subst}
-use Rattle.std.specs.Str.{bytes_eq}
-use Rattle.std.proofs.lemmas.Bool.{false≢true, false_from_ne_true}
-use Rattle.scene_basics.specs.Names.{owner_kind}
+use Rattle.std.proofs.Common.{ap, sym, ◌∙◌, subst}
 use Rattle.scene_world.specs.Putting.{AreReadAt}
 use Rattle.scene_basics.specs.declared.values.Value.{Value}
 use Rattle.scene_basics.specs.Columns.{basic_columns}
@@ -12,10 +9,10 @@ use Rattle.scene_basics.proofs.turning.BasicsRules.get_each.Goals as goal
 pub returns-in_ok-data-in-NumbersValue : goal.returns-in_ok-data-in-NumbersValue
 returns-in_ok-data-in-NumbersValue c =
     subst (λ (value : Value). AreReadAt part_of (basic_columns.stored c.args.kind.now value) c.args.entities.now c.in_ok-data-in-NumbersValue.data.items) (sym c.in-NumbersValue.is)
-    (numbers-read c.args.kind.now c.in-NumbersValue.numbers c.args.entities.now c.in_ok-data-in-NumbersValue.data.items (false_from_ne_true (bytes_eq c.args.kind.now owner_kind) (λ on. false≢true (sym (ap not on) ∙ sym c.ne.ensures ∙ c.if-ne.true))) c.in_ok-data-in-NumbersValue.ensures)
+    (numbers-read c.args.kind.now c.in-NumbersValue.numbers c.args.entities.now c.in_ok-data-in-NumbersValue.data.items (sym c.is_reference_kind.ensures ∙ c.if-not-is_reference_kind.true) c.in_ok-data-in-NumbersValue.ensures)
 
 pub returns-in-OwnersValue : goal.returns-in-OwnersValue
 returns-in-OwnersValue c =
     subst (λ (value : Value). AreReadAt part_of (basic_columns.stored c.args.kind.now value) c.args.entities.now c.new.result.items) (sym c.in-OwnersValue.is)
     (nothing-read c.args.kind.now c.in-OwnersValue.owners c.args.entities.now c.new.result.items
-    (no-owners c.args.kind.now c.in-OwnersValue.owners (sym c.eq.ensures ∙ c.if-eq.true) c.mask.ensures.agrees (sym (ap (λ mask. mask.members) c.mask.ensures.value) ∙ c.is_empty.ensures.0 c.if-is_empty.true)) c.new.ensures.items)
+    (no-owners c.args.kind.now c.in-OwnersValue.owners (sym c.is_reference_kind-in-OwnersValue-1.ensures ∙ c.if-is_reference_kind.true) c.mask.ensures.agrees (sym (ap (λ mask. mask.members) c.mask.ensures.value) ∙ c.is_empty.ensures.0 c.if-is_empty.true)) c.new.ensures.items)

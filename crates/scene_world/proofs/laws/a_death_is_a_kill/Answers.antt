@@ -1,8 +1,0 @@
-use Rattle.scene_world.proofs.DeathLemmas.{buried-roll, buried-scene}
-use Rattle.scene_world.proofs.laws.a_death_is_a_kill.Goals as goal
-
-pub returns-clause-roll : goal.returns-clause-roll
-returns-clause-roll g c kinds w later id index is there buries = buried-roll kinds w later is id index there buries
-
-pub returns-clause-scene : goal.returns-clause-scene
-returns-clause-scene g c kinds w later id index is there buries = buried-scene kinds w later is id index there buries
