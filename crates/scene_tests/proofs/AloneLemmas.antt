@@ -4,7 +4,7 @@ use Rattle.std.specs.Prelude.{Result, Ok, Err, IfOk}
 use Rattle.scene_model.specs.declared.refusals.DocRefusal.{DocRefusal}
 use Rattle.scene_model.specs.declared.refusals.Report.{Report}
 use Rattle.scene_model.specs.declared.refusals.Skip.{Skip}
-use Rattle.scene_model.specs.Rulebook.{Command}
+use Rattle.scene_model.specs.Rulebook.{owning_kinds, Command}
 use Rattle.scene_model.specs.Scenes.{PlainScene, PlainFrame, Steps}
 use Rattle.scene_model.specs.Commands.{play}
 use Rattle.scene_model.specs.Frames.{all_commands, Accepts, Reaches}
@@ -38,7 +38,7 @@ frame-drifts : (limit place : ℕ) (scene after : PlainScene) (places : List ℕ
 frame-drifts limit place scene after places (last, queues, (mid, commands, rest, step, (same, none), are), accepted) =
     let asked : commands ≡ [] = step.1.1 in
     let queue : queues ≡ (place, []) ∷ [] = are ∙ (ap (λ more. (place, commands) ∷ more) none ∙ ap (λ some. (place, some) ∷ []) asked) in
-    let ends : after ≡ last = ap (led_to after) (sym accepted.played_on) ∙ ap (λ some. led_to after (play 1 (all_commands (drift_frame place) some) last)) queue in
+    let ends : after ≡ last = ap (led_to after) (sym accepted.played_on) ∙ ap (λ some. led_to after (play (owning_kinds drifting_book) 1 (all_commands (drift_frame place) some) last)) queue in
     subst (DriftsFor 1 scene) (sym (ends ∙ same)) (drifts-once place scene mid commands step)
 
 -- accepted frames, one after another

@@ -37,6 +37,7 @@ Passes seen (fills commands) = ⊥
 abbrev pub gated_book : Book
 gated_book = record {
   part_names = drifting_book.part_names;
+  owning = drifting_book.owning;
   global_names = drifting_book.global_names;
   read_part = drifting_book.read_part;
   read_global = drifting_book.read_global;

@@ -5,7 +5,7 @@ use Rattle.serde_json.specs.Find.{as_bool}
 use Rattle.scene_model.specs.Parts.{Name}
 use Rattle.scene_model.specs.Rulebook.{Facts, Described, misshapen, unknown, known, Fragment, Outcome, leaves, refuses, fills, Book}
 use Rattle.scene_model.specs.Scenes.{lives}
-use Rattle.scene_basics.specs.Names.{hp_kind, g_name, part_kinds}
+use Rattle.scene_basics.specs.Names.{hp_kind, g_name, part_kinds, owns_holder}
 use Rattle.scene_basics.specs.Numbers.{json_of, read_part, read_global, admits}
 
 abbrev pub leave_kind : Name
@@ -56,6 +56,7 @@ configured (Some hp_goes) = known (leaving hp_goes)
 abbrev pub leavers : Book
 leavers = record {
   part_names = part_kinds;
+  owning = owns_holder;
   global_names = g_name ∷ [];
   read_part = read_part;
   read_global = read_global;

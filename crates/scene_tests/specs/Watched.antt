@@ -74,6 +74,7 @@ configured access config = if is_some (as_null config) then known (record { acce
 abbrev pub watched_book : Book
 watched_book = record {
   part_names = drifting_book.part_names;
+  owning = drifting_book.owning;
   global_names = drifting_book.global_names;
   read_part = drifting_book.read_part;
   read_global = drifting_book.read_global;

@@ -1,7 +1,7 @@
 //! Documents whose frames are all done, and the texts of the scenes that they reach.
 use crate::runs::{Accepted, is_accepted};
 
-const ROWS: [Accepted; 11] = [
+pub const ROWS: [Accepted; 11] = [
     Accepted {
         document: "{\"next\":0,\"entities\":[],\"frames\":3}",
         text: "{\"entities\":[],\"globals\":{},\"next\":0}",

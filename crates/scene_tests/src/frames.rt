@@ -1,7 +1,7 @@
 //! Frames of several systems and of commands: documents with the scene that they give, or the refusal and the text before it.
 use crate::runs::{Accepted, is_accepted, is_told, run_reaches};
 
-const ROWS: [Accepted; 14] = [
+pub const ROWS: [Accepted; 14] = [
     // an entity that decays to nothing is reaped
     Accepted {
         document: "{\"next\":8,\"entities\":[{\"id\":3,\"parts\":{\"hp\":2}},{\"id\":7,\"parts\":{\"hp\":5}}],\"systems\":[{\"kind\":\"decay\",\"name\":\"d\"},{\"kind\":\"reap\",\"after\":[\"d\"]}],\"frames\":2}",
@@ -86,14 +86,14 @@ fn frames_lead_to_their_scenes(rt: HostRuntime) {
 }
 
 /// A document of which a frame is refused, the text of the scene before it, and the line that is told.
-struct Refused {
-    document: &'static str,
+pub struct Refused {
+    pub document: &'static str,
     frame: u32,
     text: &'static str,
     line: &'static str,
 }
 
-const REFUSED: [Refused; 8] = [
+pub const REFUSED: [Refused; 8] = [
     Refused {
         document: "{\"next\":2,\"entities\":[{\"id\":0,\"parts\":{\"hp\":1}},{\"id\":1,\"parts\":{\"hp\":9,\"owner\":0}}],\"systems\":[{\"kind\":\"decay\",\"name\":\"d\"},{\"kind\":\"reap\",\"after\":[\"d\"]}],\"frames\":1}",
         frame: 1,

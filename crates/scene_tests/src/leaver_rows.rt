@@ -18,14 +18,14 @@ enum End {
 }
 
 /// A document, what its run comes to, and the text that goes out.
-struct Row {
+pub struct Row {
     name: &'static str,
-    document: &'static str,
+    pub document: &'static str,
     end: End,
     text: &'static str,
 }
 
-const ROWS: [Row; 16] = [
+pub const ROWS: [Row; 16] = [
     Row {
         name: "hp goes, and other parts stay",
         document: "{\"next\":9,\"entities\":[{\"id\":8,\"parts\":{\"hp\":-4}},{\"id\":0,\"parts\":{\"hp\":5,\"pos\":1}},{\"id\":3,\"parts\":{\"hp\":2,\"owner\":0,\"vel\":-3}},{\"id\":5,\"parts\":{\"pos\":6}}],\"globals\":{\"g\":1},\"systems\":[{\"kind\":\"leave\",\"config\":true}],\"frames\":1}",

@@ -170,7 +170,7 @@ impl Rules for Leavers {
 
     ghost does = { λ leave. Makes (Some leave.hp_goes) };
 
-    ghost named_so = { λ _. record { parts = refl; globals = refl } };
+    ghost named_so = { λ _. record { parts = refl; owning = refl; globals = refl } };
 
     ghost apart = { basic-apart };
 
@@ -178,6 +178,10 @@ impl Rules for Leavers {
 
     fn part_id(kind: &str) -> ResourceId {
         Basics::part_id(kind)
+    }
+
+    fn owning(kind: &str) -> bool {
+        Basics::owning(kind)
     }
 
     fn global_id(name: &str) -> ResourceId {

@@ -2,6 +2,8 @@
 #![tactic(auto)]
 
 #[cfg(test)]
+mod bonds;
+#[cfg(test)]
 mod carrier;
 #[cfg(test)]
 mod counts;
@@ -29,13 +31,21 @@ mod memory;
 #[cfg(test)]
 mod queues;
 #[cfg(test)]
+mod readings;
+#[cfg(test)]
 mod refusals;
 #[cfg(test)]
 mod resumed;
 #[cfg(test)]
 mod runs;
 #[cfg(test)]
+mod sights;
+#[cfg(test)]
 mod texts;
+#[cfg(test)]
+mod touches;
+#[cfg(test)]
+mod traces;
 pub mod whole_runs;
 
 pub use leavers::{Leave, Leavers};

@@ -1,94 +1,190 @@
 //! Runs under smaller limits, and the places of skipped commands.
+use crate::runs::{STORES, WORKERS};
 use scene::{Counted, DocRefusal, FrameRefusal, Limits, Report, RunError, Skip, run, run_with};
 use scene_basics::Basics;
+use std::alloc::AllocError;
 use std::sync::Wait;
+use std::test::Fail;
 use std::thread::Threads;
 
-/// A document, two of its limits, what is told of the run, and the text that goes out.
+/// What is told of a run, of those things that the rows speak of.
+#[derive(Clone, Copy, PartialEq)]
+enum Told {
+    Done,
+    TooManyEntities,
+    IndicesSpent,
+    GenerationsSpent,
+    TooManyCommands,
+    Another,
+}
+
+/// A document but for its closing brace, its limits, what is told of the run, and the text that goes out.
 struct Row {
+    name: &'static str,
     document: &'static str,
-    indices: u32,
-    commands: usize,
-    told: &'static str,
+    limits: Limits,
+    told: Told,
     text: &'static str,
 }
 
-/// Three entities.
+/// Two entities, or three.
+const TWO: &str =
+    "{\"entities\":[{\"id\":0,\"parts\":{}},{\"id\":1,\"parts\":{}}],\"globals\":{},\"next\":2}";
+
 const THREE: &str =
-    "{\"next\":3,\"entities\":[{\"id\":0,\"parts\":{}},{\"id\":1,\"parts\":{}},{\"id\":2,\"parts\":{}}]}";
+    "{\"entities\":[{\"id\":0,\"parts\":{}},{\"id\":1,\"parts\":{}},{\"id\":2,\"parts\":{}}],\"globals\":{},\"next\":3}";
 
-/// Two births in one frame.
-const TWINS: &str =
-    "{\"next\":0,\"entities\":[],\"frames\":1,\"commands\":[[{\"spawn\":{}},{\"spawn\":{}}]]}";
+/// No more than two indices, so many, or one birth at each.
+const TWO_INDICES: Limits = Limits {
+    indices: 2,
+    generation: 2_147_483_647,
+    commands: 1_048_576,
+};
 
-const ROWS: [Row; 4] = [
+const THREE_INDICES: Limits = Limits {
+    indices: 3,
+    generation: 2_147_483_647,
+    commands: 1_048_576,
+};
+
+const ONE_GENERATION: Limits = Limits {
+    indices: 1,
+    generation: 1,
+    commands: 1_048_576,
+};
+
+const TWO_GENERATIONS: Limits = Limits {
+    indices: 1,
+    generation: 2,
+    commands: 1_048_576,
+};
+
+/// One command a frame, or two.
+const ONE_COMMAND: Limits = Limits {
+    indices: 16_777_216,
+    generation: 2_147_483_647,
+    commands: 1,
+};
+
+const TWO_COMMANDS: Limits = Limits {
+    indices: 16_777_216,
+    generation: 2_147_483_647,
+    commands: 2,
+};
+
+const ROWS: [Row; 7] = [
     Row {
-        document: THREE,
-        indices: 2,
-        commands: 1,
-        told: "TooManyEntities",
+        name: "a birth beside two where two is the most",
+        document: "{\"next\":2,\"entities\":[{\"id\":0,\"parts\":{}},{\"id\":1,\"parts\":{}}],\"frames\":1,\"commands\":[[{\"spawn\":{}}]]",
+        limits: TWO_INDICES,
+        told: Told::IndicesSpent,
+        text: TWO,
+    },
+    Row {
+        name: "a birth beside two where three is the most",
+        document: "{\"next\":2,\"entities\":[{\"id\":0,\"parts\":{}},{\"id\":1,\"parts\":{}}],\"frames\":1,\"commands\":[[{\"spawn\":{}}]]",
+        limits: THREE_INDICES,
+        told: Told::Done,
+        text: THREE,
+    },
+    Row {
+        name: "three that are listed where two is the most",
+        document: "{\"next\":3,\"entities\":[{\"id\":0,\"parts\":{}},{\"id\":1,\"parts\":{}},{\"id\":2,\"parts\":{}}],\"frames\":1,\"commands\":[[{\"spawn\":{}}]]",
+        limits: TWO_INDICES,
+        told: Told::TooManyEntities,
         text: "",
     },
     Row {
-        document: THREE,
-        indices: 3,
-        commands: 1,
-        told: "done",
-        text: "{\"entities\":[{\"id\":0,\"parts\":{}},{\"id\":1,\"parts\":{}},{\"id\":2,\"parts\":{}}],\"globals\":{},\"next\":3}",
+        name: "a birth after a death where each index is born once",
+        document: "{\"next\":1,\"entities\":[{\"id\":0,\"parts\":{}}],\"frames\":1,\"commands\":[[{\"kill\":0},{\"spawn\":{}}]]",
+        limits: ONE_GENERATION,
+        told: Told::GenerationsSpent,
+        text: "{\"entities\":[{\"id\":0,\"parts\":{}}],\"globals\":{},\"next\":1}",
     },
     Row {
-        document: TWINS,
-        indices: 2,
-        commands: 1,
-        told: "TooManyCommands in frame 1",
+        name: "a birth after a death where each index is born twice",
+        document: "{\"next\":1,\"entities\":[{\"id\":0,\"parts\":{}}],\"frames\":1,\"commands\":[[{\"kill\":0},{\"spawn\":{}}]]",
+        limits: TWO_GENERATIONS,
+        told: Told::Done,
+        text: "{\"entities\":[{\"id\":1,\"parts\":{}}],\"globals\":{},\"next\":2}",
+    },
+    Row {
+        name: "two commands where one is the most",
+        document: "{\"next\":0,\"entities\":[],\"frames\":1,\"commands\":[[{\"spawn\":{}},{\"spawn\":{}}]]",
+        limits: ONE_COMMAND,
+        told: Told::TooManyCommands,
         text: "{\"entities\":[],\"globals\":{},\"next\":0}",
     },
     Row {
-        document: TWINS,
-        indices: 2,
-        commands: 2,
-        told: "done",
-        text: "{\"entities\":[{\"id\":0,\"parts\":{}},{\"id\":1,\"parts\":{}}],\"globals\":{},\"next\":2}",
+        name: "two commands where two is the most",
+        document: "{\"next\":0,\"entities\":[],\"frames\":1,\"commands\":[[{\"spawn\":{}},{\"spawn\":{}}]]",
+        limits: TWO_COMMANDS,
+        told: Told::Done,
+        text: TWO,
     },
 ];
 
-/// What is told of a run, of those things that the rows speak of.
-fn told(outcome: &Result<Report, RunError>) -> &'static str {
+/// What is told of a run, where it is of its first frame or of the document.
+fn what_is_told(outcome: &Result<Report, RunError>) -> Told {
     match outcome {
         Ok(report) => match &report.refused {
-            None => "done",
-            Some((1, FrameRefusal::TooManyCommands)) => "TooManyCommands in frame 1",
-            Some(_) => "another refusal",
+            None => Told::Done,
+            Some((1, FrameRefusal::IndicesSpent)) => Told::IndicesSpent,
+            Some((1, FrameRefusal::GenerationsSpent)) => Told::GenerationsSpent,
+            Some((1, FrameRefusal::TooManyCommands)) => Told::TooManyCommands,
+            Some(_) => Told::Another,
         },
-        Err(RunError::Document(DocRefusal::TooManyEntities)) => "TooManyEntities",
-        Err(_) => "another error",
+        Err(RunError::Document(DocRefusal::TooManyEntities)) => Told::TooManyEntities,
+        Err(_) => Told::Another,
     }
 }
 
-fn holds<H: AllocGlobal + Threads + Wait + Sync>(rt: &H, row: &Row) -> bool {
-    if row.indices > 3 || row.commands > 2 {
+/// Whether a run of a document tells and writes what a row says.
+fn tells<H: AllocGlobal + Threads + Wait + Sync>(rt: &H, document: &str, row: &Row) -> bool {
+    let Limits {
+        indices,
+        generation,
+        commands,
+    } = row.limits;
+    if indices > Limits::FULL.indices || commands > Limits::FULL.commands {
         return false;
     }
-    let limits = Limits {
-        indices: row.indices,
-        generation: 1,
-        commands: row.commands,
-    };
-    let mut reader = Counted::new(row.document.as_bytes());
+    if generation < 1 {
+        return false;
+    }
+    let mut reader = Counted::new(document.as_bytes());
     let mut out = Counted::new(Vec::new(rt.alloc()));
-    let outcome = run_with(rt, Basics, limits, &mut reader, &mut out);
-    told(&outcome) == row.told && out.get_ref().as_slice() == row.text.as_bytes()
+    let outcome = run_with(rt, Basics, row.limits, &mut reader, &mut out);
+    what_is_told(&outcome) == row.told && out.get_ref().as_slice() == row.text.as_bytes()
+}
+
+/// Whether it does so with each number of workers and in each store.
+///
+/// Errors: want of memory.
+fn holds<H: AllocGlobal + Threads + Wait + Sync>(rt: &H, row: &Row) -> Result<bool, AllocError> {
+    let open = row.document;
+    let mut same = true;
+    for workers in WORKERS {
+        for store in STORES {
+            let document = format!(in rt.alloc();
+                "{open},\"workers\":{workers},\"store\":\"{store}\"}}"
+            )?;
+            same = tells(rt, document.as_str(), row) && same;
+        }
+    }
+    Ok(same)
 }
 
 #[test]
-fn limits_are_told_by_name(rt: HostRuntime) {
+fn limits_are_told_by_name(rt: HostRuntime) -> Result<(), Fail> {
     let mut wrong = None;
     for row in ROWS.as_slice() {
-        if !holds(&rt, row) {
-            wrong = Some((row.document, row.indices, row.commands));
+        if !holds(&rt, row)? {
+            wrong = Some(row.name);
         }
     }
     assert_eq!(rt; wrong, None);
+    Ok(())
 }
 
 /// Whether the skips of two frames are told, each by its frame and its place in the frame.

@@ -80,7 +80,7 @@ const ODD: [(&str, DocRefusal); 19] = [
         DocRefusal::WrongShape,
     ),
     (
-        "{\"next\":1,\"entities\":[{\"id\":0,\"parts\":{\"bond\":0}}]}",
+        "{\"next\":1,\"entities\":[{\"id\":0,\"parts\":{\"tie\":0}}]}",
         DocRefusal::UnknownKind,
     ),
     (

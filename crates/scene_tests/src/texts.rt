@@ -7,7 +7,7 @@ use scene_basics::data::Datum;
 use scene_snapshot::{KeptScene, kept_text};
 use std::alloc::{AllocError, Global};
 
-/// What is kept of an entity: its hp, its owner, its pos and its vel.
+/// What is kept of an entity: its bond, its hp, its owner, its pos and its vel.
 type Parts = &'static [Option<Datum>];
 
 /// An index, and what comes to stand there: an id with its parts, or nobody.
@@ -22,7 +22,7 @@ struct Row {
     text: &'static str,
 }
 
-const NO_PARTS: Parts = &[None, None, None, None];
+const NO_PARTS: Parts = &[None, None, None, None, None];
 
 const ROWS: [Row; 3] = [
     Row {
@@ -35,12 +35,16 @@ const ROWS: [Row; 3] = [
     Row {
         name: "entities put in out of order, one without parts",
         changes: &[
-            (0, Some((3, &[None, Some(Datum::Owner(0)), None, None]))),
+            (
+                0,
+                Some((3, &[None, None, Some(Datum::Owner(0)), None, None])),
+            ),
             (
                 6,
                 Some((
                     0,
                     &[
+                        Some(Datum::Owner(3)),
                         Some(Datum::Whole(5)),
                         None,
                         Some(Datum::Whole(-1)),
@@ -52,16 +56,28 @@ const ROWS: [Row; 3] = [
         ],
         next: 4,
         g: Some(-7),
-        text: "{\"entities\":[{\"id\":0,\"parts\":{\"hp\":5,\"pos\":-1,\"vel\":2}},{\"id\":2,\"parts\":{}},{\"id\":3,\"parts\":{\"owner\":0}}],\"globals\":{\"g\":-7},\"next\":4}",
+        text: "{\"entities\":[{\"id\":0,\"parts\":{\"bond\":3,\"hp\":5,\"pos\":-1,\"vel\":2}},{\"id\":2,\"parts\":{}},{\"id\":3,\"parts\":{\"owner\":0}}],\"globals\":{\"g\":-7},\"next\":4}",
     },
     Row {
         name: "an entity that is left out, and one that changes",
         changes: &[
-            (1, Some((1, &[Some(Datum::Whole(1)), None, None, None]))),
-            (2, Some((2, &[Some(Datum::Whole(2)), None, None, None]))),
-            (0, Some((4, &[Some(Datum::Whole(4)), None, None, None]))),
+            (
+                1,
+                Some((1, &[None, Some(Datum::Whole(1)), None, None, None])),
+            ),
+            (
+                2,
+                Some((2, &[None, Some(Datum::Whole(2)), None, None, None])),
+            ),
+            (
+                0,
+                Some((4, &[None, Some(Datum::Whole(4)), None, None, None])),
+            ),
             (2, None),
-            (1, Some((1, &[Some(Datum::Whole(11)), None, None, None]))),
+            (
+                1,
+                Some((1, &[None, Some(Datum::Whole(11)), None, None, None])),
+            ),
         ],
         next: 5,
         g: None,
@@ -75,12 +91,12 @@ fn write_parts<G>(
     index: usize,
     parts: Parts,
 ) -> Result<(), AllocError>
-    requires { kinds_kept kept.old ≡ 4 }
-    ensures { kinds_kept kept.new ≡ 4 }
+    requires { kinds_kept kept.old ≡ 5 }
+    ensures { kinds_kept kept.new ≡ 5 }
 {
     for (place, part) in parts.iter().enumerate() {
         kept.make_room(index.saturating_add(1))?;
-        if place < 4 && index < usize::MAX && kept.seat(index).is_none() {
+        if place < 5 && index < usize::MAX && kept.seat(index).is_none() {
             kept.write(place, index, *part);
         }
     }
@@ -89,8 +105,8 @@ fn write_parts<G>(
 
 /// Makes a change.
 fn make_change<G>(kept: &mut KeptScene<Datum, G>, change: &Change) -> Result<(), AllocError>
-    requires { kinds_kept kept.old ≡ 4 }
-    ensures { kinds_kept kept.new ≡ 4 }
+    requires { kinds_kept kept.old ≡ 5 }
+    ensures { kinds_kept kept.new ≡ 5 }
 {
     let index = change.0;
     let _ = kept.leave_out(index);
@@ -108,7 +124,7 @@ fn make_change<G>(kept: &mut KeptScene<Datum, G>, change: &Change) -> Result<(),
 /// The text after the changes of a row.
 fn text_after(alloc: Global, row: &Row) -> Result<Vec<u8>, AllocError> {
     let globals = Vec::from_slice(alloc, &[row.g])?;
-    let mut kept = KeptScene::new(alloc, row.next, globals, 4)?;
+    let mut kept = KeptScene::new(alloc, row.next, globals, 5)?;
     for change in row.changes {
         make_change(&mut kept, change)?;
     }

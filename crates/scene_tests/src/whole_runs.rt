@@ -9,7 +9,7 @@ mod gated;
 #[cfg(test)]
 mod memory;
 #[cfg(test)]
-mod rows;
+pub mod rows;
 mod watched;
 
 pub use crate::whole_runs::alone::drift_in_memory;

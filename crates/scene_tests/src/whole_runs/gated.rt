@@ -226,7 +226,7 @@ impl Rules for Gated {
 
     ghost does = { λ _. Passes };
 
-    ghost named_so = { λ _. record { parts = refl; globals = refl } };
+    ghost named_so = { λ _. record { parts = refl; owning = refl; globals = refl } };
 
     ghost apart = { drifting-apart };
 
@@ -234,6 +234,10 @@ impl Rules for Gated {
 
     fn part_id(kind: &str) -> ResourceId {
         Drifting::part_id(kind)
+    }
+
+    fn owning(kind: &str) -> bool {
+        Drifting::owning(kind)
     }
 
     fn global_id(name: &str) -> ResourceId {

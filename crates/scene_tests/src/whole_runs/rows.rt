@@ -76,7 +76,7 @@ const ONE_COMMAND: Limits = Limits {
     commands: 1,
 };
 
-pub const ROWS: [Row; 37] = [
+pub const ROWS: [Row; 39] = [
     Row {
         name: "no frames: ids and kinds ascend",
         rules: Under::Drifting,
@@ -94,6 +94,24 @@ pub const ROWS: [Row; 37] = [
         told: Told::Done(3),
         skips: &[],
         text: "{\"entities\":[{\"id\":0,\"parts\":{\"pos\":11,\"vel\":2}},{\"id\":1,\"parts\":{\"pos\":1}},{\"id\":2,\"parts\":{\"vel\":9}}],\"globals\":{},\"next\":3}",
+    },
+    Row {
+        name: "four billion frames in which nothing happens",
+        rules: Under::Drifting,
+        limits: Limits::FULL,
+        document: "{\"next\":1,\"entities\":[{\"id\":0,\"parts\":{\"vel\":2}}],\"frames\":4294967295",
+        told: Told::Done(4_294_967_295),
+        skips: &[],
+        text: "{\"entities\":[{\"id\":0,\"parts\":{\"vel\":2}}],\"globals\":{},\"next\":1}",
+    },
+    Row {
+        name: "commands in the first three of four billion frames, and nothing after them",
+        rules: Under::Drifting,
+        limits: Limits::FULL,
+        document: "{\"next\":1,\"entities\":[{\"id\":0,\"parts\":{\"vel\":2}}],\"commands\":[[{\"put\":{\"id\":0,\"kind\":\"pos\",\"value\":5}}],[],[{\"kill\":7},{\"take\":{\"id\":0,\"kind\":\"vel\"}}]],\"frames\":4294967295",
+        told: Told::Done(4_294_967_295),
+        skips: &[Skip { frame: 3, place: 1 }],
+        text: "{\"entities\":[{\"id\":0,\"parts\":{\"pos\":5}}],\"globals\":{},\"next\":1}",
     },
     Row {
         name: "a position goes round",

@@ -184,7 +184,7 @@ impl Rules for Watched {
 
     ghost does = { mover_does };
 
-    ghost named_so = { λ _. record { parts = refl; globals = refl } };
+    ghost named_so = { λ _. record { parts = refl; owning = refl; globals = refl } };
 
     ghost apart = { drifting-apart };
 
@@ -192,6 +192,10 @@ impl Rules for Watched {
 
     fn part_id(kind: &str) -> ResourceId {
         Drifting::part_id(kind)
+    }
+
+    fn owning(kind: &str) -> bool {
+        Drifting::owning(kind)
     }
 
     fn global_id(name: &str) -> ResourceId {

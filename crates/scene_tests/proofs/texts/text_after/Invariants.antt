@@ -2,6 +2,6 @@ use Rattle.std.proofs.Common.{◌≡◌}
 use Rattle.scene_snapshot.specs.Rows.{kinds_kept}
 use Rattle.scene_tests.proofs.texts.text_after.Given as goal
 
--- there are rows for four kinds
+-- there are rows for five kinds
 abbrev pub invariant-loop-change : goal.invariant-loop-change
-invariant-loop-change l = kinds_kept l.kept ≡ 4
+invariant-loop-change l = kinds_kept l.kept ≡ 5
