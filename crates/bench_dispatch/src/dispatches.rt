@@ -6,6 +6,7 @@ mod draws;
 mod load;
 mod outcomes;
 mod stages;
+mod standing;
 mod timing;
 
 pub use outcomes::checksums;

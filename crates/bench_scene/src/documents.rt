@@ -12,10 +12,21 @@ pub enum Work {
     Sparse,
     /// Each has a hp, and each frame has 1000 commands: half of them put a hp, a fourth each kills and spawns.
     Commands,
+    /// Each is bound to the one before it, in chains of 1000, and each frame kills the first of a chain.
+    Chains,
+    /// All are bound to the first, which the first frame kills.
+    Star,
+    /// Each second one is bound to the one before it, and each frame kills 1000 that have such a holder.
+    Bonds,
 }
 
 /// How many commands a frame has.
 const COMMANDS: u32 = 1000;
+
+/// A bond to an id.
+fn bond_to(alloc: Global, id: u32) -> Result<String, AllocError> {
+    format!(in alloc; "\"bond\":{id}")
+}
 
 /// The parts of an entity.
 fn push_parts(text: &mut String, alloc: Global, work: Work, place: u32) -> Result<(), AllocError> {
@@ -25,7 +36,10 @@ fn push_parts(text: &mut String, alloc: Global, work: Work, place: u32) -> Resul
         Work::Sparse if place.is_multiple_of(100) => {
             format!(in alloc; "\"hp\":1,\"pos\":{place},\"vel\":1")?
         }
-        Work::Sparse | Work::Commands => format!(in alloc; "\"hp\":1")?,
+        Work::Chains if !place.is_multiple_of(1000) => bond_to(alloc, place.saturating_sub(1))?,
+        Work::Star if place != 0 => bond_to(alloc, 0)?,
+        Work::Bonds if !place.is_multiple_of(2) => bond_to(alloc, place.saturating_sub(1))?,
+        _ => format!(in alloc; "\"hp\":1")?,
     };
     text.push_str(parts.as_str())
 }
@@ -56,7 +70,7 @@ fn systems_of(work: Work) -> &'static str {
         Work::Five => {
             "{\"kind\":\"pull\"},{\"kind\":\"drift\"},{\"kind\":\"decay\"},{\"kind\":\"reap\"}"
         }
-        Work::Commands => "",
+        Work::Commands | Work::Chains | Work::Star | Work::Bonds => "",
     }
 }
 
@@ -83,6 +97,42 @@ fn push_commands(
     Ok(())
 }
 
+/// The commands of a frame that kills so many entities, from an id on by a step.
+fn push_deaths(
+    text: &mut String,
+    alloc: Global,
+    first: u32,
+    step: u32,
+    count: u32,
+) -> Result<(), AllocError> {
+    for place in 0..count {
+        let dead = first.saturating_add(place.saturating_mul(step));
+        let kill = format!(in alloc; "{{\"kill\":{dead}}}")?;
+        if place != 0 {
+            text.push_str(",")?;
+        }
+        text.push_str(kill.as_str())?;
+    }
+    Ok(())
+}
+
+/// The commands of a frame.
+fn push_frame(
+    text: &mut String,
+    alloc: Global,
+    work: Work,
+    count: u32,
+    frame: u32,
+) -> Result<(), AllocError> {
+    match work {
+        Work::Commands => push_commands(text, alloc, count, frame),
+        Work::Chains => push_deaths(text, alloc, frame.saturating_mul(1000), 1, 1),
+        Work::Star => push_deaths(text, alloc, 0, 1, 1),
+        Work::Bonds => push_deaths(text, alloc, frame.saturating_mul(2 * COMMANDS), 2, COMMANDS),
+        _ => Ok(()),
+    }
+}
+
 /// The document of so many entities and frames.
 ///
 /// Errors: want of memory.
@@ -100,10 +150,10 @@ pub fn document(
     text.push_str("],\"systems\":[")?;
     text.push_str(systems_of(work))?;
     text.push_str("],\"commands\":[")?;
-    if work == Work::Commands {
+    if systems_of(work).is_empty() {
         for frame in 0..frames {
             text.push_str(if frame == 0 { "[" } else { ",[" })?;
-            push_commands(&mut text, alloc, count, frame)?;
+            push_frame(&mut text, alloc, work, count, frame)?;
             text.push_str("]")?;
         }
     }

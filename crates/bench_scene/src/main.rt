@@ -1,8 +1,9 @@
 //! Measures scenes: a document loaded, its frames, and its text.
 //!
 //! Without an argument it runs 1000 entities in each way and prints what comes of them. With the argument `times` it prints, for 1,000
-//! to 1,000,000 entities, the time of an entity loaded, in a frame and printed. With a way (`drift`, `five`, `sparse`, `commands`), a
-//! number of entities and one of frames it runs that alone and prints the length of the text, so that a tool may count its work.
+//! to 1,000,000 entities, the time of an entity loaded, in a frame and printed. With a way (`drift`, `five`, `sparse`, `commands`,
+//! `chains`, `star`, `bonds`), a number of entities and one of frames it runs that alone and prints the length of the text, so that
+//! a tool may count its work.
 #![tactic(auto)]
 
 mod documents;
@@ -17,12 +18,18 @@ use std::time::{Clock, Instant};
 use std::{env, io};
 
 /// The ways, by their names.
-const WORKS: [(&str, Work); 4] = [
+const WORKS: [(&str, Work); 7] = [
     ("drift", Work::Drift),
     ("five", Work::Five),
     ("sparse", Work::Sparse),
     ("commands", Work::Commands),
+    ("chains", Work::Chains),
+    ("star", Work::Star),
+    ("bonds", Work::Bonds),
 ];
+
+/// The numbers of entities that are timed.
+const COUNTS: [u32; 4] = [1000, 10_000, 100_000, 1_000_000];
 
 /// How many frames are timed.
 const FRAMES: u32 = 10;
@@ -112,7 +119,7 @@ fn time_work<H: AllocGlobal + Clock + Print + Threads + Wait + Sync>(
 /// The lines of times.
 fn time_all<R: AllocGlobal + Clock + Print + Threads + Wait + Sync>(rt: &R) -> io::Result<()> {
     for (name, work) in WORKS {
-        for count in [1000, 10_000, 100_000, 1_000_000] {
+        for count in COUNTS {
             time_work(rt, name, work, count, 0, "vec")?;
         }
     }

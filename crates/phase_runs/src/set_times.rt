@@ -42,9 +42,7 @@ fn find_all(set: &SharedBitSet, seat: BitSeat, count: u32) -> (BitSeat, u32)
     let mut seat = seat;
     let mut found = 0u32;
     for id in 0..count {
-        if set.contains(&mut seat, id) {
-            found = found.saturating_add(1);
-        }
+        found = found.wrapping_add(set.contains(&mut seat, id) as u32);
     }
     (seat, found)
 }

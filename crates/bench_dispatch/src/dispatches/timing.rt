@@ -1,9 +1,9 @@
 //! The times of dispatches and of plans.
-use crate::dispatches::draws;
 use crate::dispatches::load::Value;
 use crate::dispatches::stages::{
     LAYERS, LOADS, PLANNED, Stages, WAITING, WORKERS, chain_of, stages_of, waiting_of, world_of,
 };
+use crate::dispatches::{draws, standing};
 use shred::World;
 use std::io;
 use std::sync::Wait;
@@ -174,6 +174,7 @@ pub fn times<R: Print + AllocGlobal + Threads + Wait + Sync + Clock>(rt: &R) -> 
     }
     print_dispatch_times(rt)?;
     print_plan_times(rt)?;
+    standing::times(rt)?;
     print_waiting_times(rt)?;
     draws::print_time(rt)
 }
