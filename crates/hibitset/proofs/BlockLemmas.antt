@@ -7,18 +7,9 @@ use Rattle.hibitset_sets.specs.Bits.{has_bit}
 use Rattle.hibitset_sets.specs.Words.{word_of}
 use Rattle.hibitset_sets.specs.WordLemmas.{words_agree-word_of}
 
-and-false : (test : Bool) → (test && false) ≡ false
-and-false true = refl
-and-false false = refl
-
 -- a member whose word is known is told by its bit
 pub as-in-word : (words : ℕ → ℕ) (members : ℕ → Bool) (place index : ℕ) → words place ≡ word_of members 0 place → index / 64 ≡ place → members index ≡ has_bit (words (index / 64)) (index % 64)
 as-in-word words members place index held same = sym (ap (λ word. has_bit word (index % 64)) (ap words same ∙ (held ∙ ap (word_of members 0) (sym same))) ∙ words_agree-word_of members index)
-
--- what is true only where something false is, is false
-pub never-true : (test : Bool) → (test ≡ true → ⊥) → test ≡ false
-never-true true no_way = absurd (no_way refl)
-never-true false no_way = refl
 
 pub chosen : (test : Bool) (set was : Bool) → test ≡ true → (if test then set else was) ≡ set
 chosen true set was is = refl
@@ -36,11 +27,6 @@ module _ (words : ℕ → ℕ) (old : ℕ → Bool) where
   -- the blocks before one are put in
   abbrev pub in_blocks : ℕ → ℕ → Bool
   in_blocks block index = if nat_lt (index / 4096) block then has_bit (words (index / 64)) (index % 64) else old index
-
-  pub in_block-start : (block index : ℕ) → old index ≡ in_block block (64 * block) index
-  in_block-start block index = sym (other ((index / 4096 == block) && nat_lt (index / 64) (64 * block)) _ _ (dite (ℕ_discrete (index / 4096) block)
-      (λ same. let past : nat_lt (index / 64) (64 * block) ≡ false = grind (arith, same) in ap (λ test. (index / 4096 == block) && test) past ∙ and-false (index / 4096 == block))
-      (λ differ. ap (λ test. test && nat_lt (index / 64) (64 * block)) (ne_eqb (index / 4096) block differ))))
 
   pub in_block-end : (block place index : ℕ) → place ≡ 64 * block + 64 → in_block block place index ≡ (if index / 4096 == block then has_bit (words (index / 64)) (index % 64) else old index)
   in_block-end block place index last = dite (ℕ_discrete (index / 4096) block)

@@ -1,6 +1,6 @@
 -- Each atomic step on the table of a shared set keeps its rule, and what a seat with all parts knows of the words.
 use Rattle.std.proofs.Common.{◌≡◌, ◌≢◌, ℕ, zero, suc, ◌+◌, ◌*◌, ◌/◌, ◌%◌, ◌^◌, ◌<◌, Bool, true, false, eqb, ne_eqb, bit_or, List, [], ◌∷◌, ◌++◌, map, length, get_or, set, sym, refl, ap, ◌∙◌, subst, arith, ⊎_elim}
-use Rattle.std.proofs.lemmas.Bool.{true≢false}
+use Rattle.std.proofs.lemmas.Bool.{true≢false, false_from_ne_true}
 use Rattle.std.proofs.lemmas.List.Elements.{All-contains, All-weaker}
 use Rattle.std.proofs.lemmas.Nat.Bits.{bit_at-zero}
 use Rattle.std.specs.Int.{bit_at}
@@ -20,7 +20,6 @@ use Rattle.hibitset.specs.AtomicCore.{Fits, AreWordsOf, one_if, bit, with_bit, a
 use Rattle.hibitset.specs.SeatViews.{whole_view, with_caller, Lists, HasSeen, Knows, AreSettled}
 use Rattle.hibitset_sets.specs.Bits.{has_bit}
 use Rattle.hibitset.proofs.RowLemmas.{one_if-bit, has_bit-bit_at}
-use Rattle.hibitset.proofs.BlockLemmas.{never-true}
 use Rattle.hibitset.specs.SharedRule.{full, caller_of, IsView, IsShared, planning, kept, given, both, spent_view, begins, rises, ends, looks, plans, Settles}
 use Rattle.hibitset.proofs.AtomicWordLemmas.{total-set, total-push, count-total, bit-in_word, bit-lt, mask-injective}
 use Rattle.hibitset.proofs.AtomicStepLemmas.{new_reports-calls, begin-sound, rise-sound, end-sound, look-sound, come-sound, merge-sound, start-sound}
@@ -318,7 +317,7 @@ module _ (view : SeatView) (words : List ℕ) (known : Settles view words) where
 
   -- under a word of layer 1 that is zero no bit is set
   pub empty-block : (block index : ℕ) → block < 4096 → get_or words (262144 + block) 0 ≡ 0 → index / 4096 ≡ block → has_bit (get_or words (index / 64) 0) (index % 64) ≡ false
-  empty-block block index low empty same = never-true _ (λ on.
+  empty-block block index low empty same = false_from_ne_true _ (λ on.
       let above : mark full words 1 (index / 64) ≡ 1 = known.exact.over 0 index (omega arith) (omega (arith, same, low)) (has_bit-bit words index on) in
       let word : address full 1 (index / 64) / 64 ≡ 262144 + block = omega (arith, same) in
       let zero_bit : mark full words 1 (index / 64) ≡ 0 = ap (λ number. bit_at (get_or words number 0) (address full 1 (index / 64) % 64)) word ∙ (ap (λ found. bit_at found (address full 1 (index / 64) % 64)) empty ∙ bit_at-zero (address full 1 (index / 64) % 64)) in

@@ -6,4 +6,4 @@ pub use Rattle.hibitset_sets.proofs.LayoutLemmas.{contains-with, contains-withou
 pub use Rattle.hibitset_sets.proofs.StepLemmas.{left-empty}
 pub use Rattle.hibitset_sets.proofs.TakeLemmas.{placed-start, walk-without}
 pub use Rattle.hibitset_sets.proofs.WalkLemmas.{walk-same, filter-same, filter-none}
-pub use Rattle.hibitset_sets.proofs.WordWalkLemmas.{word-count, word-first, word-none, word-walk}
+pub use Rattle.hibitset_sets.proofs.WordWalkLemmas.{word-count, word-first, word-none}

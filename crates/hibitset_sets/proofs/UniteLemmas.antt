@@ -107,14 +107,6 @@ under-low (suc (suc zero)) number few low i is = omega (arith, low, is)
 under-low (suc (suc (suc zero))) number few low i is = omega (arith, low, is)
 under-low (suc (suc (suc (suc layer)))) number few low i is = absurd (omega (arith, few))
 
--- and the words under it are so many
-pub below-in : (layer number place : ℕ) → layer < 4 → layer ≢ 0 → number < words_in layer → place < 64 → 64 * number + place < words_in (layer - 1)
-below-in zero number place few some low within = absurd (some refl)
-below-in (suc zero) number place few some low within = omega (arith, low, within)
-below-in (suc (suc zero)) number place few some low within = omega (arith, low, within)
-below-in (suc (suc (suc zero))) number place few some low within = omega (arith, low, within)
-below-in (suc (suc (suc (suc layer)))) number place few some low within = absurd (omega (arith, few))
-
 -- layer 3 has one
 pub top-in : (layer number : ℕ) → number < words_in layer → layer ≡ 3 → number ≡ 0
 top-in layer number low is = let one : number < words_in 3 = subst (λ l. number < words_in l) is low in omega (arith, one)

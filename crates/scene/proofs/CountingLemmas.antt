@@ -2,7 +2,7 @@
 use Rattle.std.proofs.Common.{◌≡◌, ◌≢◌, ◌<◌, ◌≤◌, ◌+◌, ◌-◌, ◌*◌, ◌⊎◌, inl, inr, ℕ, zero, suc, min, Bool, true, false, cond, eqb, ◌||◌, List, [], ◌∷◌, length, map, take, get_or, Option, Some, None, is_some, option_map, refl, ap, sym, subst, ◌∙◌, arith}
 use Rattle.std.specs.List.{AllPairs, count_by, cons_option, filter, range_with_len}
 use Rattle.std.proofs.Math.Path.{fun_ext}
-use Rattle.std.proofs.lemmas.Bool.{false≢true, eqb-true}
+use Rattle.std.proofs.lemmas.Bool.{false≢true, eqb-true, or_cases}
 use Rattle.std.proofs.lemmas.List.FromFn.{get_or-range_with_len, length-range_with_len}
 use Rattle.std.proofs.lemmas.List.Kept.{AllPairs-filter}
 use Rattle.std.proofs.lemmas.List.Sums.{sum_by-cons, count_by_more_yes, count_by_more_no, count_by-le-length}
@@ -175,10 +175,6 @@ both-ways false true forth back = back refl
 both-ways false false forth back = refl
 
 -- one of two is true
-pub one-of : (one other : Bool) → (one || other) ≡ true → (one ≡ true) ⊎ (other ≡ true)
-one-of true other is = inl refl
-one-of false other is = inr is
-
 pub either-one : (one other : Bool) → (one ≡ true) ⊎ (other ≡ true) → (one || other) ≡ true
 either-one one other (inl is) = ap (λ b. b || other) is
 either-one one other (inr is) = ap (λ b. one || b) is ∙ by one
@@ -199,7 +195,7 @@ touched-is kinds w names watchers many marked after marks kept told only = fun_e
       | inl was ↦ inl (sym (marks index) ∙ was)
       | inr found ↦ inr (told-there kinds Frame w index names watchers.parts.items many found.0 found.1 found.2)
     ]))
-    (λ one. elim (one-of (mark_told kinds w watchers.markers.frame index) (parts_told kinds Frame w names watchers.parts.items index) one) [
+    (λ one. elim (or_cases (mark_told kinds w watchers.markers.frame index) (parts_told kinds Frame w names watchers.parts.items index) one) [
       | inl mark ↦ kept index (marks index ∙ mark)
       | inr part ↦ let found = told-some kinds Frame w index names watchers.parts.items part in told found.0 found.1 index found.2
     ]))

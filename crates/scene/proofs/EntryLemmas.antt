@@ -85,9 +85,6 @@ same-kept part_of global_of value_at book before after same =
     at None index = refl
     at (Some place) index = same.rows place index
 
-pub same-entries : {D G : Type 0} (kept : KeptScene D G) → SameEntries kept kept
-same-entries kept = record { seats = λ index. refl; rows = λ place index. refl; course = record { kinds = refl; next = refl; globals = refl }; changes = refl }
-
 -- the entries and rows are those of before, where next id and globals became others
 module _ {D G : Type 0} (before after : KeptScene D G) (next : ℕ) (globals : G) (is : IsSettled before next globals after) where
   pub settled-seats : (index : ℕ) → seat_at after index ≡ seat_at before index

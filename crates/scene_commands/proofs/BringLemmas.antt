@@ -233,13 +233,6 @@ parts-live kinds w may holder target kind refers = by (is_among kind kinds.part_
     by true (Some index) e = at (column_of kinds (seen_of w) kind index) e
     by false o e = absurd (false≢true e)
 
--- an index that nobody has needed yet has nothing to foresee
-pub unmade-foreseen : {V : Type 0} (kinds : Kinds V) (command : Command) (w : Slots V) (holders : Holders) → IsChained (end_in holders.ends) holders.links.items → holders.made ≡ false → Foresees kinds command w holders
-unmade-foreseen kinds command w holders chained unmade = record {
-  now = record { chained = chained; linked = λ made. absurd (false≢true (sym unmade ∙ made)) };
-  after = λ later acts. record { chained = chained; linked = λ made. absurd (false≢true (sym unmade ∙ made)) };
-}
-
 module _ {V : Type 0} (kinds : Kinds V) (w : Slots V) (old new : Holders) (covers : Covers kinds old w) (grows : Grows old new) where
   -- an index that grew covers what it covered
   covers-still : Covers kinds new w

@@ -116,21 +116,6 @@ pub names-apart : (names : List Name) → Ascend names → (i j : ℕ) → i < j
 names-apart names ascend i j before below = sym (is_eq-slice_cmp (name_at names i) (name_at names j)) ∙ ap is_eq (ascend i j [] before below)
 
 module _ {V : Type 0} (kinds : Kinds V) where
-  -- where no markers stand there are no readers of theirs
-  pub marks-absent : (w : Sight V) (reader : ℕ) → w kinds.markers_id ≡ None → ReadsMarkers kinds reader w w
-  marks-absent w reader none = record {
-    reads = catches-none (marker_in kinds) (marker_events_in kinds) (marker_emits_in kinds) reader (w kinds.markers_id) (ap (marker_events_in kinds) none);
-    there = λ is. is;
-    others = λ id apart. refl;
-  }
-
-  -- so of a kind of which no parts stand
-  pub kind-absent : (kind : Name) (w : Sight V) (reader : ℕ) → w (kinds.part_id kind) ≡ None → ReadsKind kinds kind reader w w
-  kind-absent kind w reader none = record {
-    reads = catches-none (column_in kinds kind) (events_in kinds kind) (emits_in kinds kind) reader (w (kinds.part_id kind)) (ap (events_in kinds kind) none);
-    others = λ id apart. refl;
-  }
-
   module _ (apart : StandApart kinds) where
     -- ---- a reader of one kind has read all
 

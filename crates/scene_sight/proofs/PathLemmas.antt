@@ -23,7 +23,3 @@ found-more (first ∷ path) step json here next e f = within (λ mid h. found-mo
 -- a path of the code and one step more
 pub found_more : (part : List code.Step) (step : code.Step) (json here next : Json) → found (map plain_step part) json ≡ Some here → behind (plain_step step) here ≡ Some next → found (map plain_step (part ++ step ∷ [])) json ≡ Some next
 found_more part step json here next e f = rw (map-append plain_step part (step ∷ [])) (found-more (map plain_step part) (plain_step step) json here next e f)
-
--- a path that finds something stands
-pub stands_there : (part : List code.Step) (json here : Json) → found (map plain_step part) json ≡ Some here → Stands json part
-stands_there part json here e = rw e refl

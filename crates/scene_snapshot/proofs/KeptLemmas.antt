@@ -8,22 +8,9 @@ use Rattle.scene_snapshot.specs.Rows.{HasRoom}
 use Rattle.scene_snapshot.specs.declared.kept.KeptScene.{KeptScene}
 
 module _ {X : Type 0} where
-  -- an empty slot more shows nothing more
-  pub pushed-none : (slots : List (Option X)) (index : ℕ) → filled (slice_get (slots ++ None ∷ []) index) ≡ filled (slice_get slots index)
-  pushed-none [] zero = refl
-  pushed-none [] (suc index) = refl
-  pushed-none (slot ∷ slots) zero = refl
-  pushed-none (slot ∷ slots) (suc index) = pushed-none slots index
-
   -- what stands at an index of the column at a place
   abbrev pub shown-at : List (Vec (Option X)) → ℕ → ℕ → Option X
   shown-at columns place index = option_and_then (λ column. filled (slice_get column.items index)) (slice_get columns place)
-
-  -- nothing stands in columns without slots
-  pub bare-columns : (columns : List (Vec (Option X))) → All (λ column. column.items ≡ []) columns → (place index : ℕ) → shown-at columns place index ≡ None
-  bare-columns [] bare place index = refl
-  bare-columns (column ∷ columns) bare zero index = ap (λ items. filled (slice_get items index)) (All-head (λ (one : Vec (Option X)). one.items ≡ []) column columns bare)
-  bare-columns (column ∷ columns) bare (suc place) index = bare-columns columns (All-tail (λ (one : Vec (Option X)). one.items ≡ []) column columns bare) place index
 
   -- a column in the place of one that shows the same shows nothing else
   pub same-columns : (columns : List (Vec (Option X))) (k : ℕ) (column d : Vec (Option X)) → k < length columns

@@ -3,11 +3,11 @@ pub use Rattle.scene_world.proofs.RollLemmas.{is-id, living-lives, same-life, li
 pub use Rattle.scene_world.proofs.StandingLemmas.{same-roll}
 pub use Rattle.scene_world.proofs.PlaceLemmas.{whole-world, lent-ids}
 pub use Rattle.scene_world.proofs.PartLemmas.{scene-set}
-pub use Rattle.scene_world.proofs.DeathLemmas.{buried-roll, buried-lived, buried-scene, buried-within}
+pub use Rattle.scene_world.proofs.DeathLemmas.{buried-roll, buried-scene, buried-within}
 pub use Rattle.scene_world.proofs.BirthLemmas.{lives-below, next-noted, noted-forgotten, next-after, born-roll, born-within, born-scene}
 pub use Rattle.scene_world.proofs.WriteLemmas.{written-roll, written-here, left-ids, left-others, left-globals, left-parts, left-lawful, set-columns, set-ids, set-parts, set-globals, set-global}
 pub use Rattle.scene_world.proofs.StepLemmas.{owned-plain}
-pub use Rattle.scene_world.proofs.ShownLemmas.{HasColumn, shown-put, shown-taken, shown-kept, reader-gained, reader-caught, takes-none, catches-none, shows-seen, shows-inserted, kind-stays, markers-stay, kind-both, markers-both, world-stays, world-both, tells-on}
-pub use Rattle.scene_world.proofs.AgeLemmas.{alive-born, ages-none, ages-both, ages-by-death, ages-by-birth}
+pub use Rattle.scene_world.proofs.ShownLemmas.{HasColumn, shown-put, shown-taken, shown-kept, reader-gained, reader-caught, shows-seen, shows-inserted, kind-stays, markers-stay, kind-both, markers-both, world-stays, world-both, tells-on}
+pub use Rattle.scene_world.proofs.AgeLemmas.{ages-none, ages-both, ages-by-death, ages-by-birth}
 pub use Rattle.scene_world.proofs.EachLemmas.{each-same, each-none, each-mapped, each-more, each-passed}
 pub use Rattle.scene_world.proofs.OwningLemmas.{same-owning}

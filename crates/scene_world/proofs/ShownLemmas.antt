@@ -124,35 +124,6 @@ module _ {V A : Type 0} (stored : A → Stored) (column : V → ℕ → Option S
   pub reader-caught : (reader : ℕ) → CatchesUp layout_part layout_log tells reader before.inner after.inner → CatchesUp column log telling reader v w
   reader-caught = catches-seen layout_part layout_log tells column log telling before.inner after.inner v w same-there was.log_is now.log_is was.tells_is now.tells_is
 
--- what has no events tells nothing
-nothing-told : (reader index : ℕ) → is_told no_log reader index ≡ false
-nothing-told reader index = by (nat_lt index 16777216)
-  where
-    by : (b : Bool) → (b && false) ≡ false
-    by true = refl
-    by false = refl
-
-module _ {V : Type 0} (column : V → ℕ → Option Stored) (log : V → Log ComponentEvent) (telling : V → Bool) (v : V) (reader : ℕ) (none : log v ≡ no_log) where
-  pub takes-none : (set : SetWithRoom) → TakesTold (log v) reader set set
-  takes-none set index = by (has_member set index) (is_told (log v) reader index) (ap (λ one. is_told one reader index) none ∙ nothing-told reader index)
-    where
-      by : (has told : Bool) → told ≡ false → has ≡ (has || told)
-      by true told is = refl
-      by false told is = sym is
-
-  pub catches-none : CatchesUp column log telling reader v v
-  catches-none = record {
-    read = ap (λ one. unread one reader) none;
-    others = λ other apart. refl;
-    caught_up = λ known. absurd (nobody (subst (λ (one : Log ComponentEvent). reader < length one.places) none known));
-    readers = λ other is. is;
-    emission = refl;
-    parts = λ index. refl;
-  }
-    where
-      nobody : reader < 0 → ⊥
-      nobody known = omega (arith, known)
-
 -- ---- what is shown of a world
 
 module _ {V : Type 0} (kinds : Kinds V) where

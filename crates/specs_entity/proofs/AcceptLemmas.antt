@@ -1,6 +1,6 @@
 -- Deletions that are accepted bit by bit, and word by word.
 use Rattle.std.proofs.Common.{◌≡◌, ◌≢◌, ◌⊎◌, ℕ, ◌+◌, ◌*◌, ◌/◌, ◌%◌, ◌<◌, ◌==◌, ◌&&◌, ◌||◌, nat_lt, Bool, true, false, Option, Some, None, unwrap_or, List, [], ◌∷◌, get_or, refl, sym, ap, ◌∙◌, arith, inl, inr, ⊎_elim, eq-eqb, ne_eqb}
-use Rattle.std.proofs.lemmas.Bool.{true≢false}
+use Rattle.std.proofs.lemmas.Bool.{true≢false, or_cases, or_left, or_right, and_parts}
 use Rattle.std.specs.FinSet as fin
 use Rattle.std.specs.Cmp.{nat_cmp_total}
 use mathlib.Core.Logic.{dite}
@@ -123,31 +123,15 @@ word-next words place word was index is = dite (ℕ_discrete (index / 64) place)
 pub no-bits : (word place index : ℕ) (was : Bool) → word ≡ 0 → was ≡ (((index / 64 == place) && has_bit word (index % 64)) || was)
 no-bits word place index was zero_word = sym (ap (λ test. ((index / 64 == place) && test) || was) (ap (λ w. has_bit w (index % 64)) zero_word ∙ has_bit-zero (index % 64)) ∙ ap (λ test. test || was) (and-false (index / 64 == place)))
 
-or-split : (one other : Bool) → (one || other) ≡ true → (one ≡ true) ⊎ (other ≡ true)
-or-split true other is = inl refl
-or-split false other is = inr is
-
-or-left : (one other : Bool) → one ≡ true → (one || other) ≡ true
-or-left true other is = refl
-or-left false other is = absurd (true≢false (sym is))
-
-or-right : (one other : Bool) → other ≡ true → (one || other) ≡ true
-or-right true other is = refl
-or-right false other is = is
-
-and-parts : (one other : Bool) → (one && other) ≡ true → (one ≡ true) × (other ≡ true)
-and-parts true other is = (refl, is)
-and-parts false other is = absurd (true≢false (sym is))
-
 -- the bits of all words and the old deletions are the listed and the old
 pub all-words : (first : ℕ) (words : ℕ → ℕ) (listed : List ℕ) (old : ℕ → Bool) → ((index : ℕ) → index < 64 * first → has_bit (words (index / 64)) (index % 64) ≡ true → (is_in listed index ≡ true) ⊎ (old index ≡ true))
     → ((index : ℕ) → is_in listed index ≡ true → (index < 64 * first) × (has_bit (words (index / 64)) (index % 64) ≡ true)) → (index : ℕ) → ((nat_lt (index / 64) first && has_bit (words (index / 64)) (index % 64)) || old index) ≡ (is_in listed index || old index)
 all-words first words listed old to from index = same-test _ _
     (λ is. ⊎_elim
-    (λ set_bit. let parts = and-parts (nat_lt (index / 64) first) _ set_bit in let low : index / 64 < first = grind (arith, parts.0) in
-    ⊎_elim (or-left (is_in listed index) (old index)) (or-right (is_in listed index) (old index)) (to index (omega (arith, low)) parts.1))
-    (or-right (is_in listed index) (old index)) (or-split (nat_lt (index / 64) first && has_bit (words (index / 64)) (index % 64)) (old index) is))
+    (λ set_bit. let parts = and_parts (nat_lt (index / 64) first) _ set_bit in let low : index / 64 < first = grind (arith, parts.0) in
+    ⊎_elim (or_left (is_in listed index) (old index)) (or_right (is_in listed index) (old index)) (to index (omega (arith, low)) parts.1))
+    (or_right (is_in listed index) (old index)) (or_cases (nat_lt (index / 64) first && has_bit (words (index / 64)) (index % 64)) (old index) is))
     (λ is. ⊎_elim
     (λ named. let there = from index named in let low : nat_lt (index / 64) first ≡ true = grind (arith, there.0) in
-    or-left (nat_lt (index / 64) first && has_bit (words (index / 64)) (index % 64)) (old index) (ap (λ test. test && has_bit (words (index / 64)) (index % 64)) low ∙ there.1))
-    (or-right (nat_lt (index / 64) first && has_bit (words (index / 64)) (index % 64)) (old index)) (or-split (is_in listed index) (old index) is))
+    or_left (nat_lt (index / 64) first && has_bit (words (index / 64)) (index % 64)) (old index) (ap (λ test. test && has_bit (words (index / 64)) (index % 64)) low ∙ there.1))
+    (or_right (nat_lt (index / 64) first && has_bit (words (index / 64)) (index % 64)) (old index)) (or_cases (is_in listed index) (old index) is))

@@ -53,19 +53,6 @@ module _ {X : Type 0} (P : X → Type 0) (xs : List X) (k : ℕ) (d : X) (inside
 
 -- ---- where those that live are
 
-not-none : (one : Option Life) → IsSome one → one ≢ None
-not-none one lives dead = false≢true (sym (ap is_some dead) ∙ lives)
-
--- below each bound that indices in use are below
-pub living-below : (births : Births) (bound : ℕ) → AreBirths births → length births.persistent ≤ bound → (index : ℕ) → IsSome (living births index) → index < bound
-living-below births bound kept used index lives = let below = used-living births kept index (not-none (living births index) lives) in omega (arith, used, below)
-
-pub roots-below : (births : Births) (bound : ℕ) (roots : List ℕ) → AreBirths births → length births.persistent ≤ bound → All (λ root. IsSome (living births root)) roots → All (λ root. root < bound) roots
-roots-below births bound roots kept used = All-weaker (λ root. IsSome (living births root)) (λ root. root < bound) (living-below births bound kept used) roots
-
-pub holders-below : (births : Births) (bound : ℕ) (links : List Link) → AreBirths births → length births.persistent ≤ bound → AreLiving births links → AreBelow links bound
-holders-below births bound links kept used live place below = living-below births bound kept used _ (live place below)
-
 -- whoever is alive lives at its index
 pub roots-live : (births : Births) (entities : List LifeAt) → All (IsAlive births) entities → All (λ root. IsSome (living births root)) (indices_of entities)
 roots-live births entities alive =

@@ -95,32 +95,6 @@ module _ (links : List Link) (link : Link) where
       before = λ place below. before-later place (last-or place below);
     }
 
-  -- who holds on to whom: as before, and by this link
-  pub holds-kept : (holder target : ℕ) → Holds links holder target → Holds more holder target
-  holds-kept holder target holds =
-      let same = old-link holds.0 holds.1 in
-      (holds.0, (let below = holds.1 in let l = long in omega (arith, below, l)), ap (λ l. l.holder) same ∙ holds.2, ap (λ l. l.target) same ∙ holds.3)
-
-  pub holds-last : (holder target : ℕ) → link.holder ≡ holder → link.target ≡ target → Holds more holder target
-  holds-last holder target of to = (length links, (let l = long in omega (arith, l)), ap (λ l. l.holder) new-link ∙ of, ap (λ l. l.target) new-link ∙ to)
-
-  pub holds-only : (holder target : ℕ) → Holds more holder target → Holds links holder target ⊎ ((link.holder ≡ holder) × (link.target ≡ target))
-  holds-only holder target holds = elim (last-or holds.0 holds.1) [
-    | inl early ↦
-        let same = sym (old-link holds.0 early) in
-        inl (holds.0, early, ap (λ l. l.holder) same ∙ holds.2, ap (λ l. l.target) same ∙ holds.3)
-    | inr last ↦
-        let same : link ≡ link_at more holds.0 = sym (ap (link_at more) last ∙ new-link) in
-        inr (ap (λ l. l.holder) same ∙ holds.2, ap (λ l. l.target) same ∙ holds.3)
-  ]
-
-  -- what holds of each holder
-  pub each-more : (P : ℕ → Type 0) → ((place : ℕ) → place < length links → P (link_at links place).holder) → P link.holder → (place : ℕ) → place < length more → P (link_at more place).holder
-  each-more P old new place below = elim (last-or place below) [
-    | inl early ↦ subst (λ l. P l.holder) (sym (old-link place early)) (old place early)
-    | inr last ↦ subst (λ l. P l.holder) (sym (ap (link_at more) last ∙ new-link)) new
-  ]
-
 -- ---- lists that have the indices of a set
 
 or-swap : (a b : Bool) → (a || b) ≡ (b || a)

@@ -91,10 +91,6 @@ module _ (key : PhaseKey) (kept : AreBirths key.before) (entity : LifeAt) where
         let within : entity.id < 64 * (setting_of key).sizes.first = subst (λ (k : PhaseKey). entity.id < 64 * (setting_of k).sizes.first) same other.1 in
         given-at can count most next (raised entity.id within other.2)) known
 
-pub true-unless : (test : Bool) → (test ≡ false → ⊥) → test ≡ true
-true-unless true no_way = refl
-true-unless false no_way = absurd (no_way refl)
-
 -- an entity that a view found is within the layers, and the view knows that one has lived at its index
 module _ (key : PhaseKey) (kept : AreBirths key.before) (entity : LifeAt) (view : EntityView) (same : view.key ≡ key) (finds : Finds view entity) where
   pub finds-within : entity.id < 64 * (setting_of key).sizes.first

@@ -1,6 +1,6 @@
 -- What a seat with all parts says of the last words of a phase.
 use Rattle.std.proofs.Common.{◌≡◌, ◌⊎◌, ℕ, zero, suc, ◌+◌, ◌*◌, ◌/◌, ◌%◌, ◌<◌, ◌≤◌, ◌==◌, ◌||◌, eqb, Bool, true, false, Option, Some, None, List, [], ◌∷◌, ◌++◌, map, length, get_or, slice_index, refl, sym, ap, ◌∙◌, subst, arith, inl, inr, ⊎_elim, eq-eqb, ne_eqb}
-use Rattle.std.proofs.lemmas.Bool.{true≢false}
+use Rattle.std.proofs.lemmas.Bool.{true≢false, or_right}
 use Rattle.std.proofs.lemmas.List.{get_or-take, get_or-append-add}
 use Rattle.std.proofs.lemmas.List.Elements.{All-contains}
 use Rattle.std.specs.Int.{bit_at}
@@ -51,11 +51,7 @@ can-fewer (suc more) few births most can = dite (ℕ_discrete few (suc more)) (�
 contains-is_in : (calls : List (ℕ × Bool)) (index : ℕ) (found : Bool) → Contains calls (index, found) → is_in (map called calls) index ≡ true
 contains-is_in [] index found at = absurd (let low = at.1 in omega arith)
 contains-is_in (call ∷ calls) index found (zero, low, is) = ap (λ test. test || is_in (map called calls) index) (eq-eqb index call.0 (sym (ap (λ (c : ℕ × Bool). c.0) is)))
-contains-is_in (call ∷ calls) index found (suc place, low, is) = or-true (index == call.0) (is_in (map called calls) index) (contains-is_in calls index found (place, omega arith, is))
-  where
-    or-true : (one other : Bool) → other ≡ true → (one || other) ≡ true
-    or-true true other is' = refl
-    or-true false other is' = is'
+contains-is_in (call ∷ calls) index found (suc place, low, is) = or_right (index == call.0) (is_in (map called calls) index) (contains-is_in calls index found (place, omega arith, is))
 
 is_in-listed : (Holds' : ℕ → Type 0) (calls : List (ℕ × Bool)) (index : ℕ) → All (λ call. Holds' call.0) calls → is_in (map called calls) index ≡ true → Holds' index
 is_in-listed Holds' [] index all is = absurd (true≢false (sym is))

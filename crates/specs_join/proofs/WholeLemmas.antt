@@ -116,14 +116,6 @@ module _ {L T S : Type 0} (part_at : L → ℕ → Option T) (events : L → Log
   whole-same now error.Memory wants i = wants.below.same i
   whole-same now (error.Refused index refusal) stopped i = stopped.below.same i
 
-  -- each that passes has a part and an item
-  pub whole-there : (top i : ℕ) → in_group (λ i. mask i && beside i) top i ≡ true → IsSome (part_at before i) × IsSome (values i)
-  whole-there top i passes =
-      let both = and_parts (mask i) (beside i) (and_parts (eqb (i / 4096) top) (mask i && beside i) passes).1 in
-      let low = (range i both.0).1 in
-      let has : is_some (joins i) ≡ true = sym (opens i low) ∙ both.1 in
-      (sym (agrees i) ∙ both.0, ap is_some (looks i low has) ∙ has)
-
   pub groups-ready : AreThere (part_at before) values whole
   groups-ready i passes =
       let both = and_parts (mask i) (beside i) (and_parts (ltb i (4096 * tops)) (mask i && beside i) passes).1 in

@@ -119,18 +119,5 @@ module _ {E : Type 0} (index_of : E → ℕ) (same_at : E → ℕ → E) where
   pub all-append : (one two : List (Block E)) → all_events index_of same_at (one ++ two) ≡ all_events index_of same_at one ++ all_events index_of same_at two
   all-append one two = flat_map-append (block_events index_of same_at) one two
 
-  pub all-next : (blocks : List (Block E)) (k : ℕ) (block : Block E) → k < length blocks → block ≡ get_or blocks k block → all_events index_of same_at (take (k + 1) blocks) ≡ all_events index_of same_at (take k blocks) ++ block_events index_of same_at block
-  all-next blocks k block within is =
-      ap (λ n. all_events index_of same_at (take n blocks)) (let next : k + 1 ≡ suc k = omega arith in next)
-      ∙ ap (all_events index_of same_at) (take-suc blocks k block within)
-      ∙ all-append (take k blocks) (get_or blocks k block ∷ [])
-      ∙ ap (λ events. all_events index_of same_at (take k blocks) ++ events) (append-nil (block_events index_of same_at (get_or blocks k block)) ∙ ap (block_events index_of same_at) (sym is))
-
-  pub all-rest : (blocks : List (Block E)) (k : ℕ) (block : Block E) → k < length blocks → block ≡ get_or blocks k block → all_events index_of same_at (drop k blocks) ≡ block_events index_of same_at block ++ all_events index_of same_at (drop (k + 1) blocks)
-  all-rest blocks k block within is =
-      ap (all_events index_of same_at) (drop-cons blocks k block within)
-      ∙ ap (λ b. block_events index_of same_at b ++ all_events index_of same_at (drop (suc k) blocks)) (sym is)
-      ∙ ap (λ n. block_events index_of same_at block ++ all_events index_of same_at (drop n blocks)) (let next : suc k ≡ k + 1 = omega arith in next)
-
   pub all-cut : (blocks : List (Block E)) (k : ℕ) → all_events index_of same_at blocks ≡ all_events index_of same_at (take k blocks) ++ all_events index_of same_at (drop k blocks)
   all-cut blocks k = ap (all_events index_of same_at) (sym (take-append-drop k blocks)) ∙ all-append (take k blocks) (drop k blocks)

@@ -2,4 +2,4 @@
 pub use Rattle.specs_layouts.proofs.DropSteps.{room-for-one}
 pub use Rattle.specs_layouts.proofs.ToCome.{walk-come}
 pub use Rattle.specs_layouts.proofs.ShowsLemmas.{more-more, shows-refl, shows-same, shows-taken, shows-trans, shows-written}
-pub use Rattle.specs_layouts.proofs.TellsLemmas.{caught-reads, tells-alike, tells-first, tells-more, tells-others}
+pub use Rattle.specs_layouts.proofs.TellsLemmas.{caught-reads, tells-alike, tells-first, tells-more}

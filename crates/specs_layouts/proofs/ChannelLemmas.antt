@@ -198,28 +198,10 @@ module _ {E : Type 0} (index_of : E → ℕ) (same_at : E → ℕ → E) where
     map-put (one ∷ some) zero place = refl
     map-put (one ∷ some) (suc k) place = ap (λ rest. event_place one ∷ rest) (map-put some k place)
 
-    set-past : (some : List ℕ) (k x : ℕ) → length some ≤ k → set some k x ≡ some
-    set-past [] k x past = refl
-    set-past (one ∷ some) zero x past = absurd (omega (arith, past))
-    set-past (one ∷ some) (suc k) x past = ap (λ rest. one ∷ rest) (set-past some k x (omega (arith, past)))
-
-    -- a reader who is moved to the end
-    pub moved-blocked : (reader : ℕ) (end : Place) → end.block ≡ length blocks → end.event ≡ count → IsBlocked index_of same_at blocks capacity (set places reader end) count
-    moved-blocked reader end block event = record {
-      counted = is.counted;
-      fits = is.fits;
-      placed = All-set (IsAt blocks) places reader end (at-end blocks end block (event ∙ is.counted)) is.placed;
-    }
-
     pub moved-view : (reader : ℕ) (end : Place) → end.event ≡ count → view blocks capacity (set places reader end) count ≡ read_by (view blocks capacity places count) reader
     moved-view reader end event =
         (λ j. record { held = all blocks; room = capacity - count; places = map-put places reader end j })
         ∙ ap (λ n. record { held = all blocks; room = capacity - count; places = set (map event_place places) reader n }) (event ∙ is.counted)
-
-    pub moved-none : (reader : ℕ) → length places ≤ reader → view blocks capacity places count ≡ read_by (view blocks capacity places count) reader
-    moved-none reader past =
-        let mapped = length-map places event_place in
-        ap (λ flat. record { held = all blocks; room = capacity - count; places = flat }) (sym (set-past (map event_place places) reader (length (all blocks)) (omega (arith, past, mapped))))
 
     -- ---- what all have read goes
 
@@ -275,9 +257,6 @@ pub record IsWriting {E : Type 0} (at : ℕ → E) (indices left : List ℕ) (be
   pub told : after ≡ with_more before (map at done)
 
 module _ {E : Type 0} (at : ℕ → E) (indices : List ℕ) (before : Log E) where
-  pub writing-first : (left : List ℕ) → left ≡ indices → IsWriting at indices left before before
-  writing-first left is = record { done = []; walk = is; told = ap (λ held. record { held = held; places = before.places }) (sym (append-nil before.held)) }
-
   -- the events of one word more
   pub writing-next : (left word later : List ℕ) (now after : Log E) → left ≡ word ++ later → after ≡ with_more now (map at word) → IsWriting at indices left before now → IsWriting at indices later before after
   writing-next left word later now after parts more is = record {
@@ -295,9 +274,6 @@ module _ {E : Type 0} (at : ℕ → E) (indices : List ℕ) (before : Log E) whe
     length is.done,
     is.told ∙ ap (λ done. with_more before (map at done)) (sym (ap (take (length is.done)) (sym is.walk) ∙ take-append-le (length is.done) is.done left (omega arith) ∙ take_all (length is.done) is.done (omega arith))),
   )
-
-  pub writing-last : (left : List ℕ) (after : Log E) → left ≡ [] → IsWriting at indices left before after → after ≡ with_more before (map at indices)
-  writing-last left after none is = is.told ∙ ap (λ done. with_more before (map at done)) (sym (append-nil is.done) ∙ ap (λ rest. is.done ++ rest) (sym none) ∙ is.walk)
 
 -- the same events of a word's indices, from whichever of them
 pub same-word : {E : Type 0} (index_of : E → ℕ) (same_at : E → ℕ → E) → ((event : E) (index : ℕ) → index_of (same_at event index) ≡ index) → ((event : E) (one other : ℕ) → same_at (same_at event one) other ≡ same_at event other)

@@ -203,7 +203,7 @@ module _ {M D P : Type 0} (load : (M → Option LifeAt) → D → Option P) (pla
 -- ---- what is saved of a world whose markers differ
 
 -- values by the place
-abbrev AreOf : {X Y : Type 0} → (X → Option Y) → List X → List Y → Type 0
+abbrev pub AreOf : {X Y : Type 0} → (X → Option Y) → List X → List Y → Type 0
 AreOf f [] [] = Unit {0}
 AreOf f [] (y ∷ ys) = ⊥
 AreOf f (x ∷ xs) [] = ⊥
@@ -214,18 +214,18 @@ of-first f x xs ys later None more is are whole = cc
 of-first f x xs ys later (Some y) None is are whole = cc
 of-first f x xs ys later (Some y) (Some rest) is are whole = subst (AreOf f (x ∷ xs)) (same_Some (y ∷ rest) ys whole) (is, later rest are)
 
-are-of : {X Y : Type 0} (f : X → Option Y) (xs : List X) (ys : List Y) → all_some (map f xs) ≡ Some ys → AreOf f xs ys
+pub are-of : {X Y : Type 0} (f : X → Option Y) (xs : List X) (ys : List Y) → all_some (map f xs) ≡ Some ys → AreOf f xs ys
 are-of f [] ys is = subst (AreOf f []) (same_Some [] ys is) tt
 are-of f (x ∷ xs) ys is = of-first f x xs ys (are-of f xs) (f x) (all_some (map f xs)) refl refl is
 
-from-of : {X Y : Type 0} (f : X → Option Y) (xs : List X) (ys : List Y) → AreOf f xs ys → (y : Y) → IsAmong y ys → (x : X) × IsAmong x xs × (f x ≡ Some y)
+pub from-of : {X Y : Type 0} (f : X → Option Y) (xs : List X) (ys : List Y) → AreOf f xs ys → (y : Y) → IsAmong y ys → (x : X) × IsAmong x xs × (f x ≡ Some y)
 from-of f (x ∷ xs) (first ∷ ys) are y (inl is) = (x, inl refl, are.0 ∙ ap Some is)
 from-of f (x ∷ xs) (first ∷ ys) are y (inr later) = let found = from-of f xs ys are.1 y later in (found.0, inr found.1, found.2)
 from-of f [] [] are y none = absurd none
 from-of f [] (first ∷ ys) are y among = absurd are
 from-of f (x ∷ xs) [] are y among = absurd are
 
-into-of : {X Y : Type 0} (f : X → Option Y) (xs : List X) (ys : List Y) → AreOf f xs ys → (x : X) → IsAmong x xs → (y : Y) × IsAmong y ys × (f x ≡ Some y)
+pub into-of : {X Y : Type 0} (f : X → Option Y) (xs : List X) (ys : List Y) → AreOf f xs ys → (x : X) → IsAmong x xs → (y : Y) × IsAmong y ys × (f x ≡ Some y)
 into-of f (first ∷ xs) (y ∷ ys) are x (inl is) = (y, inl refl, ap f (sym is) ∙ are.0)
 into-of f (first ∷ xs) (y ∷ ys) are x (inr later) = let found = into-of f xs ys are.1 x later in (found.0, inr found.1, found.2)
 into-of f [] [] are x none = absurd none
@@ -285,7 +285,7 @@ module _ {M : Type 0} (births : Births) (markers : ℕ → Option M) where
       by-test false same has = cc
 
   -- who is named is alive and bears the marker
-  named-is : (entity : LifeAt) (marker : M) → name_of births markers entity ≡ Some marker → IsAlive births entity × (markers entity.id ≡ Some marker)
+  pub named-is : (entity : LifeAt) (marker : M) → name_of births markers entity ≡ Some marker → IsAlive births entity × (markers entity.id ≡ Some marker)
   named-is entity marker is = chosen (living births entity.id) entity marker (markers entity.id) is
 
 -- ---- a list that was loaded is saved in its order

@@ -7,5 +7,7 @@ pub mod BearerLemmas
 pub mod LoadLemmas
 pub mod FindLemmas
 pub mod ImageLemmas
+pub mod AskLemmas
 pub mod RecursionLemmas
 pub mod OrderLemmas
+pub mod ReachLemmas

@@ -3,7 +3,7 @@ use Rattle.std.proofs.Common.{◌≡◌, ◌≢◌, ◌+◌, ◌<◌, ◌≤◌,
 use Rattle.std.proofs.lemmas.Bool.{cases_lt, false≢true, or_left}
 use Rattle.std.proofs.lemmas.Bool.Decides.{eqb_tells}
 use Rattle.std.proofs.lemmas.Cmp.{nat_eq_equiv}
-use Rattle.std.proofs.lemmas.List.{append-nil, length-map, map-append}
+use Rattle.std.proofs.lemmas.List.{append-nil, append_assoc, length-map, map-append}
 use Rattle.std.proofs.lemmas.Map.Keys.{IsDistinct-cons, IsDistinct-push}
 use Rattle.std.proofs.lemmas.Map.Steps.{length-le_from_distinct_below}
 use Rattle.std.specs.List.{AllByRecursion, IsDistinct, list_any}
@@ -108,6 +108,14 @@ more-behind order entity = by (order.marked entity.id)
     by false = (entity ∷ [], refl)
 
 -- ---- all of a list are asked for
+
+-- those who were in an order stand before those who came to it
+pub all-behind : (list : List LifeAt) (order : Order) → (more : List LifeAt) × ((with_all_asked order list).entities ≡ order.entities ++ more)
+all-behind [] order = ([], sym (append-nil order.entities))
+all-behind (entity ∷ rest) order =
+    let one = more-behind order entity in
+    let then = all-behind rest (with_asked order entity) in
+    (one.0 ++ then.0, then.1 ∙ (ap (λ (l : List LifeAt). l ++ then.0) one.1 ∙ append_assoc order.entities one.0 then.0))
 
 pub safe-all : (births : Births) (list : List LifeAt) (order : Order) → ((entity : LifeAt) → IsAmong entity list → IsAlive births entity) → IsSafe births order → IsSafe births (with_all_asked order list)
 safe-all births [] order alive safe = safe

@@ -1,12 +1,15 @@
 -- Who is asked for, one after the other, and what is saved of them.
 use Rattle.std.proofs.Common.{Result, Ok, Err, IfErr, IsErrOf, ◌≡◌, ◌≢◌, ◌⊎◌, ◌↔◌, ◌+◌, ◌<◌, ◌≤◌, ◌++◌, ◌||◌, ℕ, inl, inr, is_some, zero, suc, nat_eq, Bool, true, false, cond, IsSome, slice_get, length-append, List, [], ◌∷◌, length, map, Option, Some, None, option_and_then, option_map, refl, sym, ap, subst, ◌∙◌, arith}
+use Rattle.std.specs.List.{flat_map}
 use Rattle.std.proofs.lemmas.Bool.{false≢true}
 use Rattle.std.proofs.lemmas.Option.{same_Some}
 use Rattle.specs_entity.specs.Births.{Births, IsAlive, living}
+use Rattle.specs_layouts.specs.MaskedLends.{StorageMembers}
+use Rattle.specs_saveload.specs.Asked.{AsksEach, Marking, SavesReached}
 use Rattle.specs_saveload.specs.Bearing.{IsAmong}
 use Rattle.specs_saveload.specs.Orders.{AreAsked, IsReady, IsSafe}
 use Rattle.specs_saveload.proofs.ImageLemmas.{named-by}
-use Rattle.specs_saveload.proofs.OrderLemmas.{all-asked, asked-on, few, none-asked, safe-all}
+use Rattle.specs_saveload.proofs.OrderLemmas.{all-asked, all-behind, asked-on, few, none-asked, safe-all}
 use Rattle.specs_entity.specs.Life.{LifeAt}
 use Rattle.specs_entity.specs.declared.errors.Error.{Error}
 use Rattle.specs_entity.specs.declared.errors.Error.TheVariants as variant
@@ -173,6 +176,12 @@ module _ {M : Type 0} (names : LifeAt → List LifeAt) (first : Order) (before :
             asked-on names births reaching.order place entity (ap (λ (l : List LifeAt). slice_get l place) (sym reaching.is_order.entities) ∙ is) (omega (arith, same, inside)) alive reaching.asked;
       }
 
+  -- those who were reached stand before those who came
+  pub reaching-grows : (place : ℕ) (between after : ℕ → Option M) (list more : List LifeAt) (entity : LifeAt) → IsReaching place between list → ((order : Order) → IsOrder order between list → IsOrder (with_all_asked order (names entity)) after more) → (new : List LifeAt) × (more ≡ list ++ new)
+  reaching-grows place between after list more entity reaching ask =
+      let behind = all-behind (names entity) reaching.order in
+      (behind.0, (ask reaching.order reaching.is_order).entities ∙ (behind.1 ∙ ap (λ (l : List LifeAt). l ++ behind.0) (sym reaching.is_order.entities)))
+
   -- one that is named was refused its marker
   pub reaching-stops : (refused : LifeAt → Type 0) (place : ℕ) (after : ℕ → Option M) (list : List LifeAt) (entity named : LifeAt) → IsReaching place after list → slice_get list place ≡ Some entity → IsAmong named (names entity) → refused named → StopsAt names first refused
   reaching-stops refused place after list entity named reaching is among why =
@@ -248,3 +257,16 @@ module _ {M D P : Type 0} (plain : (LifeAt → Option M) → P → Option D) (re
   only-memory (order, is_reached, is_order, safe, asked) (Err error) unmarked (inl is) =
       let one = unmarked (ap Err is) in
       absurd (has-entry plain refers_to named parts_at births after order is_order.marks safe asked one.0 (subst (IsAmong one.0) is_order.entities one.1) one.2)
+
+-- what is saved of those that are reached, each of whom was asked for
+module _ {A S M I D P : Type 0} (noted : A → I → Option LifeAt) (allocates : A → LifeAt → Option I → M → A → Type 0) (id_of : M → I) (s : StorageMembers S M) (births : Births) (plain : (LifeAt → Option M) → P → Option D) (refers_to : P → List LifeAt) (parts_at : ℕ → P) (before after : Marking A S) (list : List LifeAt) where
+  pub saves-reached : (reached : (order : Order) × IsReached (λ entity. refers_to (parts_at entity.id)) (marked_first births (s.part_at before.markers.inner)) order (length order.entities) × IsOrder order (s.part_at after.markers.inner) list × IsSafe births order × AreAsked (λ entity. refers_to (parts_at entity.id)) births order (length order.entities))
+      → AsksEach noted allocates id_of s births (flat_map (λ entity. refers_to (parts_at entity.id)) list) before after → (saved : List (EntityData M D)) → all_some (map (named_entry plain parts_at births (s.part_at after.markers.inner)) list) ≡ Some saved
+      → SavesReached noted allocates id_of s births plain refers_to parts_at before after saved
+  saves-reached (order, is_reached, is_order, safe, asked) asks saved is = record {
+    order = order;
+    reached = is_reached;
+    marks = is_order.marks;
+    asks = subst (λ (l : List LifeAt). AsksEach noted allocates id_of s births (flat_map (λ entity. refers_to (parts_at entity.id)) l) before after) is_order.entities asks;
+    saved = ap (λ (l : List LifeAt). all_some (map (named_entry plain parts_at births (s.part_at after.markers.inner)) l)) (sym is_order.entities) ∙ is;
+  }

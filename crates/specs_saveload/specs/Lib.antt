@@ -17,3 +17,4 @@ pub mod Images
 pub mod Builders
 pub mod Reached
 pub mod Orders
+pub mod Asked

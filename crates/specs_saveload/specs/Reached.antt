@@ -7,7 +7,7 @@ use Rattle.specs_entity.specs.declared.errors.Error.TheVariants as variant
 use Rattle.specs_saveload.specs.declared.entity_data.EntityData.{EntityData}
 use Rattle.specs_join.specs.Joins.{join_list}
 use Rattle.specs_saveload.specs.Bearing.{IsAmong}
-use Rattle.specs_saveload.specs.Saved.{all_some, marked_at, name_of}
+use Rattle.specs_saveload.specs.Saved.{marked_at, name_of}
 
 -- which indices have a marker, and the entities to be saved, in their order
 pub record Order : Type 0 where
@@ -46,13 +46,6 @@ marked_first births markers = record { marked = λ index. is_some (markers index
 abbrev pub named_entry : {M D P : Type 0} → ((LifeAt → Option M) → P → Option D) → (ℕ → P) → Births → (ℕ → Option M) → LifeAt → Option (EntityData M D)
 named_entry plain parts_at births markers entity =
     option_and_then (λ marker. option_map (λ components. record { marker = marker; components = components }) (plain (name_of births markers) (parts_at entity.id))) (name_of births markers entity)
-
--- all that are reached are marked, and no other newly, and what is saved of them is a list
-pub record SavesReached {M D P : Type 0} (plain : (LifeAt → Option M) → P → Option D) (refers_to : P → List LifeAt) (parts_at : ℕ → P) (births : Births) (before after : ℕ → Option M) (list : List (EntityData M D)) : Type 0 where
-  pub order : Order
-  pub reached : IsReached (λ entity. refers_to (parts_at entity.id)) (marked_first births before) order (length order.entities)
-  pub marks : (index : ℕ) → is_some (after index) ≡ order.marked index
-  pub saved : all_some (map (named_entry plain parts_at births after) order.entities) ≡ Some list
 
 -- those that are reached were asked for in order, up to one that the parts at a place name, of which this is so
 pub record StopsAt (names : LifeAt → List LifeAt) (first : Order) (refused : LifeAt → Type 0) : Type 0 where

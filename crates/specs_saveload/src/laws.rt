@@ -6,6 +6,7 @@ ghost use Rattle.specs_saveload.specs.declared.form.FormError.TheVariants as ref
 ghost use Rattle.specs_entity.specs.Births.{IsAlive};
 ghost use Rattle.specs_entity.specs.declared.ids.Entity.{Entity};
 ghost use Rattle.specs_saveload.specs.Images.{IsImage, MarkersDiffer, NamesOwn, NamesUnmarked};
+ghost use Rattle.specs_saveload.specs.Asked.{SavesReached, marking_of};
 ghost use Rattle.specs_saveload.specs.Bearing.{IsAmong};
 ghost use Rattle.specs_saveload.specs.Saved.{name_of, saved};
 ghost use Rattle.specs_entity.specs.declared.errors.Error.TheVariants as error;
@@ -88,6 +89,29 @@ pub fn a_saved_list_names_its_own<M: SavedMarker, S: DeserializeComponents<M>>(
 {
     the_living_are_below_the_limit(entities);
     storages.serialize(alloc, entities, markers)
+}
+
+/// So it is of a list that is saved with all that it names: it can be loaded as above.
+pub fn a_list_saved_with_all_it_names_names_its_own<
+    M: SavedMarker,
+    S: DeserializeComponents<M>,
+    A: MarkerAllocator<M>,
+>(
+    storages: &S,
+    alloc: Global,
+    entities: &EntitiesRes,
+    markers: &mut MaskedStorage<M>,
+    allocator: &mut A,
+) -> Result<Vec<EntityData<M, S::Data>>, Error>
+    ensures ok { IfOk result (λ list. SavesReached A.noted A.allocates M.id_of M.Storage.UnprotectedStorage
+        entities.now S.plain S.refers_to (S.parts_at storages.now) (marking_of allocator.old markers.old)
+        (marking_of allocator.new markers.new) list.items) }
+    ensures apart { IfOk result (λ list. MarkersDiffer entities.now (M.Storage.part_at markers.new.inner)
+        → AreApart list.items) }
+    ensures own { IfOk result (λ list. NamesOwn S.markers_of list.items) }
+{
+    the_living_are_below_the_limit(entities);
+    storages.serialize_recursive(alloc, entities, markers, allocator)
 }
 
 /// `Unmarked` tells of a living marked entity whose parts name an entity that isn't alive or has no marker.

@@ -1,13 +1,14 @@
 //! Saving with all that is named: who is asked for is marked, and saved behind those before it.
-ghost use Rattle.std.specs.Prelude.{◌≡◌, ◌⊎◌, ◌+◌, ℕ, map, length, slice_get, Some, None, is_some};
+ghost use Rattle.std.specs.Prelude.{◌≡◌, ◌⊎◌, ◌∷◌, [], map, flat_map, slice_get, Some, None};
 ghost use Rattle.std.specs.Prelude.{IfOk, IfErr, IsErrOf, OnOk};
 ghost use Rattle.specs_entity.specs.Births.{IsAlive};
 ghost use Rattle.specs_entity.specs.declared.ids.Entity.{Entity};
 ghost use Rattle.specs_entity.specs.declared.errors.Error.TheVariants as refusal;
 ghost use Rattle.specs_saveload.specs.Bearing.{IsAmong};
 ghost use Rattle.specs_saveload.specs.Orders.{ReachesAll};
+ghost use Rattle.specs_saveload.specs.Asked.{AsksEach, AsksFor, AsksSome, LeavesMarks, SavesReached, marking_of};
 ghost use Rattle.specs_saveload.specs.Reached.{IsOrder, KeepsMarks, RefusesAsked, RefusesReached};
-ghost use Rattle.specs_saveload.specs.Reached.{Order, SavesReached, marked_first, named_entry};
+ghost use Rattle.specs_saveload.specs.Reached.{Order, marked_first, named_entry};
 ghost use Rattle.specs_saveload.specs.Reached.{with_asked, with_all_asked};
 ghost use Rattle.specs_saveload.specs.Saved.{all_some};
 
@@ -52,6 +53,10 @@ fn ask<M: SavedMarker, A: MarkerAllocator<M>>(
 ) -> Result<(), Error>
     ensures ok { OnOk result ((order : Order) → IsOrder order (M.Storage.part_at markers.old.inner) list.old.items
         → IsOrder (with_asked order entity) (M.Storage.part_at markers.new.inner) list.new.items) }
+    ensures asks { OnOk result (AsksFor A.noted A.allocates M.id_of M.Storage.UnprotectedStorage entities.now entity
+        (marking_of allocator.old markers.old) (marking_of allocator.new markers.new)) }
+    ensures leaves { IfErr result (λ error. AsksSome A.noted A.allocates M.id_of M.Storage.UnprotectedStorage entities.now A.refuses
+        (entity ∷ []) error (marking_of allocator.old markers.old) (marking_of allocator.new markers.new)) }
     ensures alive { OnOk result (IsAlive entities.now entity) }
     ensures refused { IfErr result (RefusesAsked A.refuses entities.now allocator.new entity) }
     ensures keeps { KeepsMarks (M.Storage.part_at markers.old.inner) (M.Storage.part_at markers.new.inner) }
@@ -77,6 +82,10 @@ fn ask_all<M: SavedMarker, A: MarkerAllocator<M>>(
 ) -> Result<(), Error>
     ensures ok { OnOk result ((order : Order) → IsOrder order (M.Storage.part_at markers.old.inner) list.old.items
         → IsOrder (with_all_asked order asked.items) (M.Storage.part_at markers.new.inner) list.new.items) }
+    ensures asks { OnOk result (AsksEach A.noted A.allocates M.id_of M.Storage.UnprotectedStorage entities.now asked.items
+        (marking_of allocator.old markers.old) (marking_of allocator.new markers.new)) }
+    ensures leaves { IfErr result (λ error. AsksSome A.noted A.allocates M.id_of M.Storage.UnprotectedStorage entities.now A.refuses
+        asked.items error (marking_of allocator.old markers.old) (marking_of allocator.new markers.new)) }
     ensures alive { OnOk result ((entity : Entity) → IsAmong entity asked.items → IsAlive entities.now entity) }
     ensures refused { IfErr result (λ error. (entity : Entity) × IsAmong entity asked.items
         × RefusesAsked A.refuses entities.now allocator.new entity error) }
@@ -105,6 +114,12 @@ fn ask_for_named<M: SavedMarker, S: SerializeComponents<M>, A: MarkerAllocator<M
     ensures ok { OnOk result ((order : Order) → IsOrder order (M.Storage.part_at markers.old.inner) list.old.items
         → IsOrder (with_all_asked order (S.refers_to (S.parts_at storages.now entity.id)))
         (M.Storage.part_at markers.new.inner) list.new.items) }
+    ensures asks { OnOk result (AsksEach A.noted A.allocates M.id_of M.Storage.UnprotectedStorage entities.now
+        (S.refers_to (S.parts_at storages.now entity.id))
+        (marking_of allocator.old markers.old) (marking_of allocator.new markers.new)) }
+    ensures leaves { IfErr result (λ error. AsksSome A.noted A.allocates M.id_of M.Storage.UnprotectedStorage entities.now A.refuses
+        (S.refers_to (S.parts_at storages.now entity.id)) error
+        (marking_of allocator.old markers.old) (marking_of allocator.new markers.new)) }
     ensures alive { OnOk result ((named : Entity) → IsAmong named (S.refers_to (S.parts_at storages.now entity.id))
         → IsAlive entities.now named) }
     ensures refused { IfErr result (λ error. ((named : Entity)
@@ -140,6 +155,13 @@ fn reach<M: SavedMarker, S: SerializeComponents<M>, A: MarkerAllocator<M>>(
     ensures ok { IfOk result (λ list. ReachesAll (λ entity. S.refers_to (S.parts_at storages.now entity.id))
         entities.now (marked_first entities.now (M.Storage.part_at markers.old.inner))
         (M.Storage.part_at markers.new.inner) list.items) }
+    ensures asks { IfOk result (λ list. AsksEach A.noted A.allocates M.id_of M.Storage.UnprotectedStorage entities.now
+        (flat_map (λ entity. S.refers_to (S.parts_at storages.now entity.id)) list.items)
+        (marking_of allocator.old markers.old) (marking_of allocator.new markers.new)) }
+    ensures leaves { IfErr result (λ error. LeavesMarks A.noted A.allocates M.id_of M.Storage.UnprotectedStorage entities.now A.refuses
+        (λ entity. S.refers_to (S.parts_at storages.now entity.id))
+        (marked_first entities.now (M.Storage.part_at markers.old.inner)) error
+        (marking_of allocator.old markers.old) (marking_of allocator.new markers.new)) }
     ensures refused { IfErr result (RefusesReached A.refuses (λ entity. S.refers_to (S.parts_at storages.now entity.id))
         (marked_first entities.now (M.Storage.part_at markers.old.inner)) entities.now allocator.new) }
     ensures keeps { KeepsMarks (M.Storage.part_at markers.old.inner) (M.Storage.part_at markers.new.inner) }
@@ -203,8 +225,13 @@ pub(crate) fn save_reached<M: SavedMarker, S: SerializeComponents<M>, A: MarkerA
     markers: &mut MaskedStorage<M>,
     allocator: &mut A,
 ) -> Result<Vec<EntityData<M, S::Data>>, Error>
-    ensures ok { IfOk result (λ list. SavesReached S.plain S.refers_to (S.parts_at storages.now) entities.now
-        (M.Storage.part_at markers.old.inner) (M.Storage.part_at markers.new.inner) list.items) }
+    ensures ok { IfOk result (λ list. SavesReached A.noted A.allocates M.id_of M.Storage.UnprotectedStorage entities.now
+        S.plain S.refers_to (S.parts_at storages.now)
+        (marking_of allocator.old markers.old) (marking_of allocator.new markers.new) list.items) }
+    ensures leaves { IfErr result (λ error. LeavesMarks A.noted A.allocates M.id_of M.Storage.UnprotectedStorage entities.now A.refuses
+        (λ entity. S.refers_to (S.parts_at storages.now entity.id))
+        (marked_first entities.now (M.Storage.part_at markers.old.inner)) error
+        (marking_of allocator.old markers.old) (marking_of allocator.new markers.new)) }
     ensures refused { IfErr result (RefusesReached A.refuses (λ entity. S.refers_to (S.parts_at storages.now entity.id))
         (marked_first entities.now (M.Storage.part_at markers.old.inner)) entities.now allocator.new) }
     ensures keeps { KeepsMarks (M.Storage.part_at markers.old.inner) (M.Storage.part_at markers.new.inner) }

@@ -4,7 +4,8 @@ ghost use Rattle.std.specs.Prelude.{Some, None, IsSome, IfOk, IfErr, IfSome, IsE
 ghost use Rattle.specs_entity.specs.declared.ids.Entity.{Entity};
 ghost use Rattle.specs_entity.specs.declared.errors.Error.TheVariants as refusal;
 ghost use Rattle.specs_saveload.specs.Bearing.{IsAmong};
-ghost use Rattle.specs_saveload.specs.Reached.{KeepsMarks, RefusesReached, SavesReached, marked_first};
+ghost use Rattle.specs_saveload.specs.Asked.{LeavesMarks, SavesReached, marking_of};
+ghost use Rattle.specs_saveload.specs.Reached.{KeepsMarks, RefusesReached, marked_first};
 ghost use Rattle.specs_saveload.specs.Saved.{IsEntryOf, IsSavedNext, NamesNone, entry_of, name_of, saved};
 ghost use Rattle.specs_join.specs.Joins.{living_entity};
 ghost use Rattle.specs_saveload.specs.declared.serialize.SaveRefusal.TheVariants as want;
@@ -115,7 +116,7 @@ pub trait SerializeComponents<M: SavedMarker> {
     /// marked, in the order in which they were asked for.
     ///
     /// Errors: `Unmarked` if one that is asked for isn't alive; those that `allocate` has for a marker without an id;
-    /// `Memory`. The marks that were made stay.
+    /// `Memory`. The marks that were made until then stay, and no other are made.
     final fn serialize_recursive<A: MarkerAllocator<M>>(
         &self,
         alloc: Global,
@@ -125,10 +126,15 @@ pub trait SerializeComponents<M: SavedMarker> {
     ) -> Result<Vec<EntityData<M, Self::Data>>, Error>
     where
         Self: Sized,
-        ensures ok { IfOk result (λ list. SavesReached plain refers_to (parts_at self.now) entities.now
-            (M.Storage.part_at markers.old.inner) (M.Storage.part_at markers.new.inner) list.items) }
+        ensures ok { IfOk result (λ list. SavesReached A.noted A.allocates M.id_of M.Storage.UnprotectedStorage
+            entities.now plain refers_to (parts_at self.now) (marking_of allocator.old markers.old)
+            (marking_of allocator.new markers.new) list.items) }
         ensures refused { IfErr result (RefusesReached A.refuses (λ entity. refers_to (parts_at self.now entity.id))
             (marked_first entities.now (M.Storage.part_at markers.old.inner)) entities.now allocator.new) }
+        ensures leaves { IfErr result (λ error. LeavesMarks A.noted A.allocates M.id_of M.Storage.UnprotectedStorage
+            entities.now A.refuses (λ entity. refers_to (parts_at self.now entity.id))
+            (marked_first entities.now (M.Storage.part_at markers.old.inner)) error
+            (marking_of allocator.old markers.old) (marking_of allocator.new markers.new)) }
         ensures keeps { KeepsMarks (M.Storage.part_at markers.old.inner) (M.Storage.part_at markers.new.inner) }
     {
         save_reached(self, alloc, entities, markers, allocator)

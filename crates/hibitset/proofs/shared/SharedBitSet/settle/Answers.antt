@@ -1,12 +1,12 @@
 use Rattle.std.proofs.Common.{◌≡◌, ℕ, ◌+◌, ◌/◌, ◌%◌, ◌<◌, ◌==◌, Bool, false, List, get_or, arith, sym, ap, ◌∙◌, eq-eqb, ne_eqb}
-use Rattle.std.proofs.lemmas.Bool.{true≢false}
+use Rattle.std.proofs.lemmas.Bool.{true≢false, false_from_ne_true}
 use Rattle.std.specs.Slots.{slots_items}
 use Rattle.hibitset_sets.specs.BitSet.{SetWithRoom, has_member}
 use Rattle.hibitset_sets.specs.Bits.{has_bit}
 use Rattle.hibitset.specs.declared.shared_rule.SeatView.{SeatView}
 use Rattle.hibitset.specs.SharedRule.{Settles}
 use Rattle.hibitset.proofs.SharedLemmas.{closed-settles, get_elem-get_or, old-has_bit, empty-block, settled-set}
-use Rattle.hibitset.proofs.BlockLemmas.{never-true, chosen, other, in_blocks-next, in_blocks-before, in_blocks-end}
+use Rattle.hibitset.proofs.BlockLemmas.{chosen, other, in_blocks-next, in_blocks-before, in_blocks-end}
 use Rattle.hibitset.proofs.shared.SharedBitSet.settle.Goals.{then-word-ne0, else-word-ne0}
 use Rattle.hibitset.proofs.shared.SharedBitSet.settle.Goals as goal
 
@@ -45,7 +45,7 @@ loop-block-preserved c =
                 (λ index same.
                 let low : index < 16777216 = omega (arith, same, within) in
                 let empty : has_bit (bits (index / 64)) (index % 64) ≡ false = empty-block view words known block index within (word ∙ zero) same in
-                let out : old index ≡ false = never-true (old index) (λ is. absurd (true≢false (sym (old-has_bit view words known index low (sym (old_is index) ∙ is)) ∙ empty))) in
+                let out : old index ≡ false = false_from_ne_true (old index) (λ is. absurd (true≢false (sym (old-has_bit view words known index low (sym (old_is index) ∙ is)) ∙ empty))) in
                 ap (λ (set : SetWithRoom). has_member set index) w.bits-is ∙ (was index ∙ (in_blocks-before bits old block index same ∙ (out ∙ sym empty))))
                 (λ index differ. ap (λ (set : SetWithRoom). has_member set index) w.bits-is);
             room = omega (arith, roomy, same_room);

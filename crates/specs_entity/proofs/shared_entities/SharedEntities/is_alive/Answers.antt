@@ -1,4 +1,5 @@
 use Rattle.std.proofs.Common.{rules, arith, ◌≡◌, ℕ, ◌+◌, ◌-◌, ◌*◌, ◌/◌, ◌%◌, ◌<◌, Option, Some, sym, subst, ap, ◌∙◌, inl, inr}
+use Rattle.std.proofs.lemmas.Bool.{true_from_ne_false}
 use Rattle.std.proofs.lemmas.List.Elements.{Contains-push}
 use Rattle.std.proofs.lemmas.Nat.Bits.{shr_and_one}
 use Rattle.std.specs.Int.{bit_at}
@@ -9,7 +10,7 @@ use Rattle.specs_entity.specs.declared.phase_rule.EntityView.{EntityView}
 use Rattle.specs_entity.specs.SharedPhase.{SharedPhase}
 use Rattle.specs_entity.specs.PhaseViews.{setting_of, IsAfter, IsNext, Finds, MayLive}
 use Rattle.specs_entity.proofs.PhaseReserveLemmas.{persistent-created, reach-fits, reserve-length}
-use Rattle.specs_entity.proofs.PhaseAliveLemmas.{persistent-alive, after-next, next-after, unknown, known-raised, raised-may, true-unless}
+use Rattle.specs_entity.proofs.PhaseAliveLemmas.{persistent-alive, after-next, next-after, unknown, known-raised, raised-may}
 use Rattle.specs_entity.proofs.PhaseTableLemmas.{look-allowed}
 use Rattle.specs_entity.proofs.shared_entities.SharedEntities.is_alive.Goals as goal
 
@@ -47,7 +48,7 @@ returns-in-Some-clause-known c = λ known.
     let last : c.alive-living.result ≡ alive_of (persistent_at key.before entity.id) = c.alive-living.ensures ∙ ap alive_of (same-last c.self.inside.entities key.before key.reserve c.entity.inside.id entity.id c.generation.result c.generation.ensures c.self.invariant.entities index) in
     let born : c.number-born.result ≡ number_of (persistent_at key.before entity.id) = c.number-born.ensures.value ∙ ap number_of (same-last c.self.inside.entities key.before key.reserve c.entity.inside.id entity.id c.generation-2.result c.generation-2.ensures c.self.invariant.entities index) in
     let same : c.args.seat.now.seat.me.0.key ≡ key = c.requires.key ∙ sym (ap (λ (s : SharedPhase). s.key) c.self.view_is) in
-    true-unless c.in-Some.answer (λ off. let no_way = c.told.ensures.no (c.in-Some.is ∙ ap Some off) in
+    true_from_ne_false c.in-Some.answer (λ off. let no_way = c.told.ensures.no (c.in-Some.is ∙ ap Some off) in
     unknown key c.self.invariant.kept entity c.args.seat.now.seat.me.0 same (λ alive. no_way.0 (last ∙ (alive ∙ sym (ap Some generation))))
     (λ next. no_way.1 (last ∙ next.0) (subst (λ (life : Life). IsAfter c.number-born.result life) (sym generation) (next-after key c.self.invariant.kept entity c.number-born.result born next))) known)
 
