@@ -8,6 +8,7 @@ pub mod LoadLemmas
 pub mod FindLemmas
 pub mod ImageLemmas
 pub mod AskLemmas
+pub mod RetrieveLemmas
 pub mod RecursionLemmas
 pub mod OrderLemmas
 pub mod ReachLemmas

@@ -37,6 +37,14 @@ module _ {S M : Type 0} (bearer_of : S → M → Option LifeAt) (lives : S → L
           sound = λ sound. other.sound (one.sound sound);
         }
 
+module _ {S M : Type 0} (bearer_of : S → M → Option LifeAt) (lives : S → LifeAt → Type 0) (IsSound : S → Type 0) (marker : M) (named : List M) (before after : S) where
+  -- who was asked for by some markers was by more
+  pub asks-more : Asks bearer_of lives IsSound named before after → Asks bearer_of lives IsSound (marker ∷ named) before after
+  asks-more asks = record {
+    only = λ entity is. elim (asks.only entity is) [ inl old ↦ inl old | inr one ↦ inr (one.0, inr one.1, one.2) ];
+    sound = asks.sound;
+  }
+
 -- what is refused of some markers is refused of more
 module _ {A M I : Type 0} (refuses : A → Option I → Error → Type 0) (id_of : M → I) (births : Births) (allocator : A) (named others : List M) (error : Error) where
   pub refused-left : RefusesBearers refuses id_of births allocator named error → RefusesBearers refuses id_of births allocator (named ++ others) error

@@ -1,5 +1,6 @@
 -- What the two passes of a load leave: first the entities of the entries' markers, then their parts. No public clause cites it.
 use Rattle.std.specs.Prelude.{◌≡◌, ◌≢◌, ◌⊎◌, ◌+◌, ◌<◌, ℕ, [], List, length, take, Option, Some}
+use Rattle.std.specs.List.{AllZip}
 use Rattle.specs_entity.specs.Births.{IsAlive}
 use Rattle.specs_entity.specs.Life.{LifeAt}
 use Rattle.specs_saveload.specs.declared.entity_data.EntityData.{EntityData}
@@ -11,6 +12,10 @@ use Rattle.specs_saveload.specs.Loading.{AreApart, AreInOrder, IsLoaded, StandsI
 pub record AreFound {M D : Type 0} (bearers : M → Option LifeAt) (list : List (EntityData M D)) : Type 0 where
   pub found : (entry : EntityData M D) → IsAmong entry list → (entity : LifeAt) × (bearers entry.marker ≡ Some entity)
   pub spread : (one other : EntityData M D) (entity entity' : LifeAt) → IsAmong one list → IsAmong other list → one.marker ≢ other.marker → bearers one.marker ≡ Some entity → bearers other.marker ≡ Some entity' → entity.id ≢ entity'.id
+
+-- entities bear the markers of a list's entries, one by one
+pub record AreBearers {M D : Type 0} (bearers : M → Option LifeAt) (list : List (EntityData M D)) (found : List LifeAt) : Type 0 where
+  pub each : AllZip (λ entry entity. bearers entry.marker ≡ Some entity) list found
 
 module _ {A S M I D : Type 0} (noted : A → I → Option LifeAt) (part_at : S → ℕ → Option M) (id_of : M → I) (list : List (EntityData M D)) (before after : Known A S) where
   -- the marker of each entry has its bearer, and none but these began to live, one after the other

@@ -18,3 +18,4 @@ pub mod Builders
 pub mod Reached
 pub mod Orders
 pub mod Asked
+pub mod Retrieved

@@ -1,7 +1,9 @@
 //! The entities that markers stand for in what is loaded.
 ghost use Rattle.std.specs.Prelude.{◌≡◌, [], ◌∷◌, Some, IfOk, IfErr, OnOk};
 ghost use Rattle.specs_markers.specs.Marking.{RefusesRetrieval};
-ghost use Rattle.specs_saveload.specs.Known.{AddsBearers, AddsBirth, KeepsBearers, RefusesBearers, bearer_in};
+ghost use Rattle.specs_saveload.specs.Known.{AddsBearers, AddsBirth, KeepsBearers, RefusesBearers};
+ghost use Rattle.specs_saveload.specs.Known.{bearer_in, known_of};
+ghost use Rattle.specs_saveload.specs.Retrieved.{RetrievesEach, RetrievesSome};
 
 use crate::names::SavedMarker;
 use specs_entity::{EntitiesRes, Entity, Error};
@@ -22,6 +24,13 @@ pub fn bearer<M: SavedMarker, A: MarkerAllocator<M>>(
     ensures births { IfOk result (AddsBirth entities.old entities.new) }
     ensures adds { OnOk result (AddsBearers A.noted M.Storage.part_at M.id_of
         entities.old entities.new allocator.old allocator.new markers.old markers.new (marker ∷ [])) }
+    ensures retrieves { OnOk result (RetrievesEach A.noted A.allocates M.id_of M.Storage.UnprotectedStorage
+        (marker ∷ [])
+        (known_of entities.old allocator.old markers.old) (known_of entities.new allocator.new markers.new)) }
+    ensures leaves { IfErr result (λ error. RetrievesSome A.noted A.allocates M.id_of M.Storage.UnprotectedStorage
+        A.refuses error
+        (marker ∷ []) (known_of entities.old allocator.old markers.old)
+        (known_of entities.new allocator.new markers.new)) }
     ensures keeps { KeepsBearers A.noted M.Storage.part_at M.id_of
         entities.old entities.new allocator.old allocator.new markers.old markers.new }
     ensures unborn { IfErr result (RefusesBearers A.refuses M.id_of entities.new allocator.new (marker ∷ [])) }

@@ -4,7 +4,8 @@ ghost use Rattle.std.specs.Prelude.{None, IsSome, Ok, IfOk, IfErr, OnOk, IsErrOf
 ghost use Rattle.specs_entity.specs.declared.ids.Entity.{Entity};
 ghost use Rattle.specs_entity.specs.declared.errors.Error.TheVariants as refusal;
 ghost use Rattle.specs_saveload.specs.Bearing.{IsAmong};
-ghost use Rattle.specs_saveload.specs.Known.{AddsBearers, KeepsBearers, RefusesBearers, bearer_in};
+ghost use Rattle.specs_saveload.specs.Known.{AddsBearers, KeepsBearers, RefusesBearers, bearer_in, known_of};
+ghost use Rattle.specs_saveload.specs.Retrieved.{RetrievesEach, RetrievesSome};
 
 use crate::JsonForm;
 use crate::bearers::bearer;
@@ -48,6 +49,7 @@ pub trait ConvertSaveload<M: SavedMarker>: Sized {
         ensures refused { IfErr result (λ error. (error ≡ refusal.Unmarked) ⊎ (error ≡ refusal.Memory)) };
 
     /// The value of data. Each marker in it stands for the entity that bears it, which is made where there is none.
+    /// They are looked for in the order of `markers_of`, once each.
     ///
     /// Errors: those of `bearer`, and `Memory`. Each bearer that was known stays so.
     fn convert_from<A: MarkerAllocator<M>>(
@@ -61,6 +63,13 @@ pub trait ConvertSaveload<M: SavedMarker>: Sized {
             entities.new allocator.new markers.new) saved ≡ Some value) }
         ensures adds { OnOk result (AddsBearers A.noted M.Storage.part_at M.id_of
             entities.old entities.new allocator.old allocator.new markers.old markers.new (markers_of saved)) }
+        ensures retrieves { OnOk result (RetrievesEach A.noted A.allocates M.id_of M.Storage.UnprotectedStorage
+            (markers_of saved) (known_of entities.old allocator.old markers.old)
+            (known_of entities.new allocator.new markers.new)) }
+        ensures leaves { IfErr result (λ error. RetrievesSome A.noted A.allocates M.id_of
+            M.Storage.UnprotectedStorage A.refuses
+            error (markers_of saved) (known_of entities.old allocator.old markers.old)
+            (known_of entities.new allocator.new markers.new)) }
         ensures refused { IfErr result (RefusesBearers A.refuses M.id_of entities.new allocator.new
             (markers_of saved)) }
         ensures keeps { KeepsBearers A.noted M.Storage.part_at M.id_of
@@ -68,7 +77,8 @@ pub trait ConvertSaveload<M: SavedMarker>: Sized {
 
     /// A value has data just where each entity that it names has a marker.
     ghost named: { (names : Entity → Option M) (value : Self)
-        → IsSome (plain names value) ↔ ((entity : Entity) → IsAmong entity (refers_to value) → IsSome (names entity)) };
+        → IsSome (plain names value) ↔ ((entity : Entity) → IsAmong entity (refers_to value) → IsSome
+        (names entity)) };
 
     /// Each marker that stands in the data of a value is that of an entity.
     ghost stands: { (names : Entity → Option M) (value : Self) (saved : Self.Data) (marker : M)

@@ -1,12 +1,15 @@
 //! Loading: entities and their parts made of a list of data.
-ghost use Rattle.std.specs.Prelude.{◌≡◌, ◌≢◌, ◌<◌, [], ◌∷◌, ◌++◌, ℕ, List, Option, Some, IfOk, IfErr, OnOk, OnErr};
+ghost use Rattle.std.specs.Prelude.{◌≡◌, ◌≢◌, ◌<◌, [], ◌∷◌, ◌++◌, ℕ, List, flat_map, length, map, slice_get, take};
+ghost use Rattle.std.specs.Prelude.{Option, Some, IfOk, IfErr, OnOk, OnErr};
 ghost use Rattle.specs_entity.specs.declared.ids.Entity.{Entity};
 ghost use Rattle.specs_layouts.specs.MaskedChanges.{KeepsParts, PutsIn};
 ghost use Rattle.specs_join.specs.Joins.{both};
 ghost use Rattle.specs_saveload.specs.Bearing.{IsAmong};
-ghost use Rattle.specs_saveload.specs.Finding.{Finds, FindsBefore, LoadsFound, LoadsFoundBefore};
+ghost use Rattle.specs_saveload.specs.Finding.{AreBearers, Finds, FindsBefore, LoadsFound, LoadsFoundBefore};
 ghost use Rattle.specs_saveload.specs.Known.{AddsBearers, AddsBirth, KeepsBearers, RefusesBearers, bearer_in, known_of};
 ghost use Rattle.specs_saveload.specs.Loading.{IsLoaded, Loads, LoadsBefore, RefusesEntry, RefusesLoad};
+ghost use Rattle.specs_saveload.specs.Retrieved.{RetrievesEach, RetrievesFoundSome, RetrievesLoaded};
+ghost use Rattle.specs_saveload.specs.Retrieved.{RetrievesLoadedSome, RetrievesSome};
 ghost use Rattle.specs_saveload.specs.Saved.{named_in, plain_in};
 ghost use Rattle.specs_entity.specs.Births.{IsAlive};
 
@@ -49,11 +52,19 @@ pub trait DeserializeComponents<M: SavedMarker>: SerializeComponents<M> {
             entities.new allocator.new markers.new) saved ≡ Some (Self.parts_at self.new entity.id)) }
         ensures adds { OnOk result (AddsBearers G.noted M.Storage.part_at M.id_of
             entities.old entities.new allocator.old allocator.new markers.old markers.new (markers_of saved)) }
+        ensures retrieves { OnOk result (RetrievesEach G.noted G.allocates M.id_of M.Storage.UnprotectedStorage
+            (markers_of saved) (known_of entities.old allocator.old markers.old)
+            (known_of entities.new allocator.new markers.new)) }
+        ensures leaves { IfErr result (λ error. RetrievesSome G.noted G.allocates M.id_of
+            M.Storage.UnprotectedStorage G.refuses
+            error (markers_of saved) (known_of entities.old allocator.old markers.old)
+            (known_of entities.new allocator.new markers.new)) }
         ensures refused { IfErr result (RefusesBearers G.refuses M.id_of entities.new allocator.new
             (markers_of saved)) }
         ensures keeps { KeepsBearers G.noted M.Storage.part_at M.id_of
             entities.old entities.new allocator.old allocator.new markers.old markers.new }
-        ensures others { (index : ℕ) → index ≢ entity.id → Self.parts_at self.new index ≡ Self.parts_at self.old index }
+        ensures others { (index : ℕ) → index ≢ entity.id → Self.parts_at self.new index ≡ Self.parts_at self.old
+            index }
         ensures dead { ¬ (IsAlive entities.new entity)
             → (index : ℕ) → Self.parts_at self.new index ≡ Self.parts_at self.old index };
 
@@ -61,7 +72,7 @@ pub trait DeserializeComponents<M: SavedMarker>: SerializeComponents<M> {
     /// none, entry after entry; then each has, in the same order, just the parts of its entry's data. So those that
     /// are made come in the list's order, also where the data of an entry names a later one.
     ///
-    /// It costs two look-ups of an entry's marker, and one of each marker in its data.
+    /// Each entry's marker is looked for once, and once each marker in its data.
     ///
     /// Errors: those of `EntitiesRes::create`, and of `allocate` at the id of a marker that stands in the entry, and
     /// `Memory`, with the place of the entry. Those before it are loaded, and what the refused one made and set until
@@ -79,11 +90,20 @@ pub trait DeserializeComponents<M: SavedMarker>: SerializeComponents<M> {
         ensures ok { OnOk result (Loads G.noted M.Storage.part_at M.id_of markers_of loaded list.items
             (known_of entities.old allocator.old markers.old) (known_of entities.new allocator.new markers.new)
             (Self.parts_at self.old) (Self.parts_at self.new)) }
+        ensures retrieves { OnOk result (RetrievesLoaded G.noted G.allocates M.id_of M.Storage.UnprotectedStorage
+            markers_of
+            list.items (known_of entities.old allocator.old markers.old)
+            (known_of entities.new allocator.new markers.new)) }
+        ensures leaves { IfErr result (λ refused. RetrievesLoadedSome G.noted G.allocates M.id_of
+            M.Storage.UnprotectedStorage
+            markers_of list.items G.refuses refused.place refused.error
+            (known_of entities.old allocator.old markers.old) (known_of entities.new allocator.new markers.new)) }
         ensures err { IfErr result (λ refused. LoadsBefore G.noted M.Storage.part_at M.id_of markers_of loaded
             list.items (known_of entities.old allocator.old markers.old)
             (known_of entities.new allocator.new markers.new) (Self.parts_at self.old) (Self.parts_at self.new)
             refused.place) }
-        ensures refused { IfErr result (λ refused. RefusesLoad G.noted M.Storage.part_at M.id_of markers_of list.items
+        ensures refused { IfErr result (λ refused. RefusesLoad G.noted M.Storage.part_at M.id_of markers_of
+            list.items
             (RefusesBearers G.refuses M.id_of) (known_of entities.old allocator.old markers.old)
             (known_of entities.new allocator.new markers.new) refused.place refused.error) }
     {
@@ -118,6 +138,13 @@ fn convert_part<M: SavedMarker, C: ConvertSaveload<M>, A: MarkerAllocator<M>>(
         entities.new allocator.new markers.new)) saved ≡ Some part) }
     ensures adds { OnOk result (AddsBearers A.noted M.Storage.part_at M.id_of entities.old entities.new
         allocator.old allocator.new markers.old markers.new (named_in C.markers_of saved)) }
+    ensures retrieves { OnOk result (RetrievesEach A.noted A.allocates M.id_of M.Storage.UnprotectedStorage
+        (named_in C.markers_of saved)
+        (known_of entities.old allocator.old markers.old) (known_of entities.new allocator.new markers.new)) }
+    ensures leaves { IfErr result (λ error. RetrievesSome A.noted A.allocates M.id_of M.Storage.UnprotectedStorage
+        A.refuses error
+        (named_in C.markers_of saved) (known_of entities.old allocator.old markers.old)
+        (known_of entities.new allocator.new markers.new)) }
     ensures refused { IfErr result (RefusesBearers A.refuses M.id_of entities.new allocator.new
         (named_in C.markers_of saved)) }
     ensures keeps { KeepsBearers A.noted M.Storage.part_at M.id_of
@@ -173,13 +200,21 @@ where
         ≡ Some (A.parts_at one.new entity.id, B.parts_at other.new entity.id)) }
     ensures adds { OnOk result (AddsBearers G.noted M.Storage.part_at M.id_of entities.old entities.new
         allocator.old allocator.new markers.old markers.new (A.markers_of saved.0 ++ B.markers_of saved.1)) }
+    ensures retrieves { OnOk result (RetrievesEach G.noted G.allocates M.id_of M.Storage.UnprotectedStorage
+        (A.markers_of saved.0 ++ B.markers_of saved.1) (known_of entities.old allocator.old markers.old)
+        (known_of entities.new allocator.new markers.new)) }
+    ensures leaves { IfErr result (λ error. RetrievesSome G.noted G.allocates M.id_of M.Storage.UnprotectedStorage
+        G.refuses error
+        (A.markers_of saved.0 ++ B.markers_of saved.1) (known_of entities.old allocator.old markers.old)
+        (known_of entities.new allocator.new markers.new)) }
     ensures refused { IfErr result (RefusesBearers G.refuses M.id_of entities.new allocator.new
         (A.markers_of saved.0 ++ B.markers_of saved.1)) }
     ensures keeps { KeepsBearers G.noted M.Storage.part_at M.id_of
         entities.old entities.new allocator.old allocator.new markers.old markers.new }
     ensures others { (index : ℕ) → index ≢ entity.id → A.parts_at one.new index ≡ A.parts_at one.old index }
     ensures others_too { (index : ℕ) → index ≢ entity.id → B.parts_at other.new index ≡ B.parts_at other.old index }
-    ensures dead { ¬ (IsAlive entities.new entity) → (index : ℕ) → A.parts_at one.new index ≡ A.parts_at one.old index }
+    ensures dead { ¬ (IsAlive entities.new entity) → (index : ℕ) → A.parts_at one.new index ≡ A.parts_at one.old
+        index }
     ensures dead_too { ¬ (IsAlive entities.new entity)
         → (index : ℕ) → B.parts_at other.new index ≡ B.parts_at other.old index }
 {
@@ -444,6 +479,13 @@ fn find_one<M: SavedMarker, A: MarkerAllocator<M>>(
     ensures births { IfOk result (AddsBirth entities.old entities.new) }
     ensures adds { OnOk result (AddsBearers A.noted M.Storage.part_at M.id_of
         entities.old entities.new allocator.old allocator.new markers.old markers.new (marker.now ∷ [])) }
+    ensures retrieves { OnOk result (RetrievesEach A.noted A.allocates M.id_of M.Storage.UnprotectedStorage
+        (marker.now ∷ [])
+        (known_of entities.old allocator.old markers.old) (known_of entities.new allocator.new markers.new)) }
+    ensures leaves { IfErr result (λ error. RetrievesSome A.noted A.allocates M.id_of M.Storage.UnprotectedStorage
+        A.refuses error
+        (marker.now ∷ []) (known_of entities.old allocator.old markers.old)
+        (known_of entities.new allocator.new markers.new)) }
     ensures keeps { KeepsBearers A.noted M.Storage.part_at M.id_of
         entities.old entities.new allocator.old allocator.new markers.old markers.new }
     ensures refused { IfErr result (RefusesBearers A.refuses M.id_of entities.new allocator.new (marker.now ∷ [])) }
@@ -454,46 +496,82 @@ fn find_one<M: SavedMarker, A: MarkerAllocator<M>>(
     }
 }
 
-/// Finds the entities that bear the markers of a list's entries, or makes them, one after the other.
+/// Finds the entities that bear the markers of a list's entries, or makes them, one after the other, and puts each
+/// behind those that were found before.
 fn find_all<M: SavedMarker, D, A: MarkerAllocator<M>>(
     list: &[EntityData<M, D>],
+    found: &mut Vec<Entity>,
     entities: &mut EntitiesRes,
     markers: &mut MaskedStorage<M>,
     allocator: &mut A,
 ) -> Result<(), LoadError>
+    requires none { found.old.items ≡ [] }
     ensures ok { OnOk result (Finds A.noted M.Storage.part_at M.id_of list.now
         (known_of entities.old allocator.old markers.old) (known_of entities.new allocator.new markers.new)) }
+    ensures bearers { OnOk result (AreBearers (bearer_in A.noted M.Storage.part_at M.id_of
+        entities.new allocator.new markers.new) list.now found.new.items) }
+    ensures retrieves { OnOk result (RetrievesEach A.noted A.allocates M.id_of M.Storage.UnprotectedStorage
+        (map (λ entry. entry.marker) list.now) (known_of entities.old allocator.old markers.old)
+        (known_of entities.new allocator.new markers.new)) }
     ensures err { IfErr result (λ refused. FindsBefore A.noted M.Storage.part_at M.id_of list.now
         (known_of entities.old allocator.old markers.old) (known_of entities.new allocator.new markers.new)
         refused.place) }
+    ensures bearers_before { IfErr result (λ refused. AreBearers (bearer_in A.noted M.Storage.part_at M.id_of
+        entities.new allocator.new markers.new) (take refused.place list.now) found.new.items) }
+    ensures leaves { IfErr result (λ refused. RetrievesSome A.noted A.allocates M.id_of
+        M.Storage.UnprotectedStorage A.refuses
+        refused.error (map (λ entry. entry.marker) list.now) (known_of entities.old allocator.old markers.old)
+        (known_of entities.new allocator.new markers.new)) }
     ensures refused { IfErr result (λ refused. RefusesEntry (λ components. []) list.now
         (RefusesBearers A.refuses M.id_of entities.new allocator.new) refused.place refused.error) }
 {
     for (place, entry) in list.iter().enumerate() {
-        match find_one(&entry.marker, entities, markers, allocator) {
-            Ok(_) => {}
-            Err(refusal) => return Err(LoadError {
-                place,
-                error: refusal,
-            }),
+        let entity = match find_one(&entry.marker, entities, markers, allocator) {
+            Ok(entity) => entity,
+            Err(error) => return Err(LoadError { place, error }),
+        };
+        match found.push(entity) {
+            Ok(()) => {}
+            Err(_) => {
+                let error = Error::Memory;
+                return Err(LoadError { place, error });
+            }
         }
     }
     Ok(())
 }
 
-/// Loads one entry: the parts of the entity that bears its marker, which is made where there is none.
+/// The entity at a place.
+fn found_at(found: &[Entity], place: usize) -> Entity
+    requires { place < length found.now }
+    ensures { Some result ≡ slice_get found.now place }
+{
+    found[place]
+}
+
+/// Loads one entry: the parts of the entity that bears its marker.
 fn load_one<M: SavedMarker, S: DeserializeComponents<M>, A: MarkerAllocator<M>>(
     storages: &mut S,
     alloc: Global,
+    entity: Entity,
     entry: EntityData<M, S::Data>,
     entities: &mut EntitiesRes,
     markers: &mut MaskedStorage<M>,
     allocator: &mut A,
 ) -> Result<(), Error>
+    requires bearer { bearer_in A.noted M.Storage.part_at M.id_of
+        entities.old allocator.old markers.old entry.marker ≡ Some entity }
     ensures ok { OnOk result (IsLoaded S.loaded (bearer_in A.noted M.Storage.part_at M.id_of
         entities.new allocator.new markers.new) (S.parts_at storages.new) entry) }
     ensures adds { OnOk result (AddsBearers A.noted M.Storage.part_at M.id_of entities.old entities.new
         allocator.old allocator.new markers.old markers.new (entry.marker ∷ S.markers_of entry.components)) }
+    ensures retrieves { OnOk result (RetrievesEach A.noted A.allocates M.id_of M.Storage.UnprotectedStorage
+        (S.markers_of entry.components) (known_of entities.old allocator.old markers.old)
+        (known_of entities.new allocator.new markers.new)) }
+    ensures leaves { IfErr result (λ error. RetrievesSome A.noted A.allocates M.id_of M.Storage.UnprotectedStorage
+        A.refuses error
+        (S.markers_of entry.components) (known_of entities.old allocator.old markers.old)
+        (known_of entities.new allocator.new markers.new)) }
     ensures refused { IfErr result (RefusesBearers A.refuses M.id_of entities.new allocator.new
         (entry.marker ∷ S.markers_of entry.components)) }
     ensures keeps { KeepsBearers A.noted M.Storage.part_at M.id_of
@@ -502,13 +580,11 @@ fn load_one<M: SavedMarker, S: DeserializeComponents<M>, A: MarkerAllocator<M>>(
         entities.new allocator.new markers.new entry.marker ≡ Some entity → index ≢ entity.id)
         → S.parts_at storages.new index ≡ S.parts_at storages.old index }
 {
-    let EntityData { marker, components } = entry;
-    match bearer(marker, entities, markers, allocator) {
-        Ok(entity) => storages.deserialize_entity(
-            alloc, entity, components, entities, markers, allocator,
-        ),
-        Err(error) => Err(error),
-    }
+    let EntityData {
+        marker: _,
+        components,
+    } = entry;
+    storages.deserialize_entity(alloc, entity, components, entities, markers, allocator)
 }
 
 /// Loads the entries of a list, whose entities were found, one after the other.
@@ -516,24 +592,35 @@ fn load_each<M: SavedMarker, S: DeserializeComponents<M>, A: MarkerAllocator<M>>
     storages: &mut S,
     alloc: Global,
     list: Vec<EntityData<M, S::Data>>,
+    found: &[Entity],
     entities: &mut EntitiesRes,
     markers: &mut MaskedStorage<M>,
     allocator: &mut A,
 ) -> Result<(), LoadError>
+    requires bearers { AreBearers (bearer_in A.noted M.Storage.part_at M.id_of
+        entities.old allocator.old markers.old) list.items found.now }
     ensures ok { OnOk result (LoadsFound A.noted M.Storage.part_at M.id_of S.markers_of S.loaded list.items
         (known_of entities.old allocator.old markers.old) (known_of entities.new allocator.new markers.new)
         (S.parts_at storages.old) (S.parts_at storages.new)) }
+    ensures retrieves { OnOk result (RetrievesEach A.noted A.allocates M.id_of M.Storage.UnprotectedStorage
+        (flat_map (λ entry. S.markers_of entry.components) list.items)
+        (known_of entities.old allocator.old markers.old) (known_of entities.new allocator.new markers.new)) }
     ensures err { IfErr result (λ refused. LoadsFoundBefore A.noted M.Storage.part_at M.id_of S.markers_of S.loaded
         list.items (known_of entities.old allocator.old markers.old)
         (known_of entities.new allocator.new markers.new) (S.parts_at storages.old) (S.parts_at storages.new)
         refused.place) }
+    ensures leaves { IfErr result (λ refused. RetrievesFoundSome A.noted A.allocates M.id_of
+        M.Storage.UnprotectedStorage S.markers_of
+        list.items A.refuses refused.place refused.error (known_of entities.old allocator.old markers.old)
+        (known_of entities.new allocator.new markers.new)) }
     ensures refused { IfErr result (λ refused. RefusesEntry S.markers_of list.items
         (RefusesBearers A.refuses M.id_of entities.new allocator.new) refused.place refused.error) }
 {
     let _count = list.as_slice().len();
     let mut place = 0;
     for entry in list {
-        match load_one(storages, alloc, entry, entities, markers, allocator) {
+        let entity = found_at(found, place);
+        match load_one(storages, alloc, entity, entry, entities, markers, allocator) {
             Ok(()) => place += 1,
             Err(error) => return Err(LoadError { place, error }),
         }
@@ -554,6 +641,13 @@ fn load_all<M: SavedMarker, S: DeserializeComponents<M>, A: MarkerAllocator<M>>(
     ensures ok { OnOk result (Loads A.noted M.Storage.part_at M.id_of S.markers_of S.loaded list.items
         (known_of entities.old allocator.old markers.old) (known_of entities.new allocator.new markers.new)
         (S.parts_at storages.old) (S.parts_at storages.new)) }
+    ensures retrieves { OnOk result (RetrievesLoaded A.noted A.allocates M.id_of M.Storage.UnprotectedStorage
+        S.markers_of list.items
+        (known_of entities.old allocator.old markers.old) (known_of entities.new allocator.new markers.new)) }
+    ensures leaves { IfErr result (λ refused. RetrievesLoadedSome A.noted A.allocates M.id_of
+        M.Storage.UnprotectedStorage S.markers_of
+        list.items A.refuses refused.place refused.error (known_of entities.old allocator.old markers.old)
+        (known_of entities.new allocator.new markers.new)) }
     ensures err { IfErr result (λ refused. LoadsBefore A.noted M.Storage.part_at M.id_of S.markers_of S.loaded
         list.items (known_of entities.old allocator.old markers.old)
         (known_of entities.new allocator.new markers.new) (S.parts_at storages.old) (S.parts_at storages.new)
@@ -562,11 +656,28 @@ fn load_all<M: SavedMarker, S: DeserializeComponents<M>, A: MarkerAllocator<M>>(
         (RefusesBearers A.refuses M.id_of) (known_of entities.old allocator.old markers.old)
         (known_of entities.new allocator.new markers.new) refused.place refused.error) }
 {
-    match find_all(list.as_slice(), entities, markers, allocator) {
-        Ok(()) => load_each(storages, alloc, list, entities, markers, allocator),
+    let mut found = Vec::new(alloc);
+    match find_all(list.as_slice(), &mut found, entities, markers, allocator) {
+        Ok(()) => load_each(
+            storages,
+            alloc,
+            list,
+            found.as_slice(),
+            entities,
+            markers,
+            allocator,
+        ),
         Err(refused) => {
             list.truncate(refused.place);
-            match load_each(storages, alloc, list, entities, markers, allocator) {
+            match load_each(
+                storages,
+                alloc,
+                list,
+                found.as_slice(),
+                entities,
+                markers,
+                allocator,
+            ) {
                 Ok(()) => Err(refused),
                 Err(earlier) => Err(earlier),
             }

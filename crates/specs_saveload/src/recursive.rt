@@ -55,7 +55,8 @@ fn ask<M: SavedMarker, A: MarkerAllocator<M>>(
         → IsOrder (with_asked order entity) (M.Storage.part_at markers.new.inner) list.new.items) }
     ensures asks { OnOk result (AsksFor A.noted A.allocates M.id_of M.Storage.UnprotectedStorage entities.now entity
         (marking_of allocator.old markers.old) (marking_of allocator.new markers.new)) }
-    ensures leaves { IfErr result (λ error. AsksSome A.noted A.allocates M.id_of M.Storage.UnprotectedStorage entities.now A.refuses
+    ensures leaves { IfErr result (λ error. AsksSome A.noted A.allocates M.id_of M.Storage.UnprotectedStorage
+        entities.now A.refuses
         (entity ∷ []) error (marking_of allocator.old markers.old) (marking_of allocator.new markers.new)) }
     ensures alive { OnOk result (IsAlive entities.now entity) }
     ensures refused { IfErr result (RefusesAsked A.refuses entities.now allocator.new entity) }
@@ -82,9 +83,11 @@ fn ask_all<M: SavedMarker, A: MarkerAllocator<M>>(
 ) -> Result<(), Error>
     ensures ok { OnOk result ((order : Order) → IsOrder order (M.Storage.part_at markers.old.inner) list.old.items
         → IsOrder (with_all_asked order asked.items) (M.Storage.part_at markers.new.inner) list.new.items) }
-    ensures asks { OnOk result (AsksEach A.noted A.allocates M.id_of M.Storage.UnprotectedStorage entities.now asked.items
+    ensures asks { OnOk result (AsksEach A.noted A.allocates M.id_of M.Storage.UnprotectedStorage entities.now
+        asked.items
         (marking_of allocator.old markers.old) (marking_of allocator.new markers.new)) }
-    ensures leaves { IfErr result (λ error. AsksSome A.noted A.allocates M.id_of M.Storage.UnprotectedStorage entities.now A.refuses
+    ensures leaves { IfErr result (λ error. AsksSome A.noted A.allocates M.id_of M.Storage.UnprotectedStorage
+        entities.now A.refuses
         asked.items error (marking_of allocator.old markers.old) (marking_of allocator.new markers.new)) }
     ensures alive { OnOk result ((entity : Entity) → IsAmong entity asked.items → IsAlive entities.now entity) }
     ensures refused { IfErr result (λ error. (entity : Entity) × IsAmong entity asked.items
@@ -117,7 +120,8 @@ fn ask_for_named<M: SavedMarker, S: SerializeComponents<M>, A: MarkerAllocator<M
     ensures asks { OnOk result (AsksEach A.noted A.allocates M.id_of M.Storage.UnprotectedStorage entities.now
         (S.refers_to (S.parts_at storages.now entity.id))
         (marking_of allocator.old markers.old) (marking_of allocator.new markers.new)) }
-    ensures leaves { IfErr result (λ error. AsksSome A.noted A.allocates M.id_of M.Storage.UnprotectedStorage entities.now A.refuses
+    ensures leaves { IfErr result (λ error. AsksSome A.noted A.allocates M.id_of M.Storage.UnprotectedStorage
+        entities.now A.refuses
         (S.refers_to (S.parts_at storages.now entity.id)) error
         (marking_of allocator.old markers.old) (marking_of allocator.new markers.new)) }
     ensures alive { OnOk result ((named : Entity) → IsAmong named (S.refers_to (S.parts_at storages.now entity.id))
@@ -155,14 +159,17 @@ fn reach<M: SavedMarker, S: SerializeComponents<M>, A: MarkerAllocator<M>>(
     ensures ok { IfOk result (λ list. ReachesAll (λ entity. S.refers_to (S.parts_at storages.now entity.id))
         entities.now (marked_first entities.now (M.Storage.part_at markers.old.inner))
         (M.Storage.part_at markers.new.inner) list.items) }
-    ensures asks { IfOk result (λ list. AsksEach A.noted A.allocates M.id_of M.Storage.UnprotectedStorage entities.now
+    ensures asks { IfOk result (λ list. AsksEach A.noted A.allocates M.id_of M.Storage.UnprotectedStorage
+        entities.now
         (flat_map (λ entity. S.refers_to (S.parts_at storages.now entity.id)) list.items)
         (marking_of allocator.old markers.old) (marking_of allocator.new markers.new)) }
-    ensures leaves { IfErr result (λ error. LeavesMarks A.noted A.allocates M.id_of M.Storage.UnprotectedStorage entities.now A.refuses
+    ensures leaves { IfErr result (λ error. LeavesMarks A.noted A.allocates M.id_of M.Storage.UnprotectedStorage
+        entities.now A.refuses
         (λ entity. S.refers_to (S.parts_at storages.now entity.id))
         (marked_first entities.now (M.Storage.part_at markers.old.inner)) error
         (marking_of allocator.old markers.old) (marking_of allocator.new markers.new)) }
-    ensures refused { IfErr result (RefusesReached A.refuses (λ entity. S.refers_to (S.parts_at storages.now entity.id))
+    ensures refused { IfErr result (RefusesReached A.refuses (λ entity. S.refers_to
+        (S.parts_at storages.now entity.id))
         (marked_first entities.now (M.Storage.part_at markers.old.inner)) entities.now allocator.new) }
     ensures keeps { KeepsMarks (M.Storage.part_at markers.old.inner) (M.Storage.part_at markers.new.inner) }
 {
@@ -225,14 +232,17 @@ pub(crate) fn save_reached<M: SavedMarker, S: SerializeComponents<M>, A: MarkerA
     markers: &mut MaskedStorage<M>,
     allocator: &mut A,
 ) -> Result<Vec<EntityData<M, S::Data>>, Error>
-    ensures ok { IfOk result (λ list. SavesReached A.noted A.allocates M.id_of M.Storage.UnprotectedStorage entities.now
+    ensures ok { IfOk result (λ list. SavesReached A.noted A.allocates M.id_of M.Storage.UnprotectedStorage
+        entities.now
         S.plain S.refers_to (S.parts_at storages.now)
         (marking_of allocator.old markers.old) (marking_of allocator.new markers.new) list.items) }
-    ensures leaves { IfErr result (λ error. LeavesMarks A.noted A.allocates M.id_of M.Storage.UnprotectedStorage entities.now A.refuses
+    ensures leaves { IfErr result (λ error. LeavesMarks A.noted A.allocates M.id_of M.Storage.UnprotectedStorage
+        entities.now A.refuses
         (λ entity. S.refers_to (S.parts_at storages.now entity.id))
         (marked_first entities.now (M.Storage.part_at markers.old.inner)) error
         (marking_of allocator.old markers.old) (marking_of allocator.new markers.new)) }
-    ensures refused { IfErr result (RefusesReached A.refuses (λ entity. S.refers_to (S.parts_at storages.now entity.id))
+    ensures refused { IfErr result (RefusesReached A.refuses (λ entity. S.refers_to
+        (S.parts_at storages.now entity.id))
         (marked_first entities.now (M.Storage.part_at markers.old.inner)) entities.now allocator.new) }
     ensures keeps { KeepsMarks (M.Storage.part_at markers.old.inner) (M.Storage.part_at markers.new.inner) }
 {

@@ -1,4 +1,5 @@
 use Rattle.specs_saveload.proofs.BearerLemmas.{retrieved-birth, retrieved-goes, retrieved-asks, refused-goes, unhad}
+use Rattle.specs_saveload.proofs.RetrieveLemmas.{one-refused, one-retrieved}
 use Rattle.specs_saveload.proofs.bearers.bearer.Goals as goal
 
 pub returns-in-Ok-clause-births : goal.returns-in-Ok-clause-births
@@ -15,3 +16,9 @@ returns-clause-keeps g c = refused-goes _ _ _ _ _ _ _ _ _ _ _ _ _ c.in-Err.ensur
 
 pub returns-clause-unborn : goal.returns-clause-unborn
 returns-clause-unborn g c = unhad _ _ _ _ _ _ _ _ _ _ _ _ _ c.in-Err.ensures.refused
+
+pub returns-in-Ok-clause-retrieves : goal.returns-in-Ok-clause-retrieves
+returns-in-Ok-clause-retrieves g c = one-retrieved _ _ _ _ _ _ _ _ c.in-Ok.ensures.ok
+
+pub returns-clause-leaves : goal.returns-clause-leaves
+returns-clause-leaves g c = one-refused _ _ _ _ _ _ _ _ _ c.in-Err.ensures.refused

@@ -3,6 +3,7 @@ use Rattle.std.proofs.lemmas.Result.{IfErr-weaker, on_ok_weaker}
 use Rattle.specs_saveload.specs.Known.{RefusesBearers}
 use Rattle.specs_saveload.proofs.LoadLemmas.{refused-left}
 use Rattle.specs_saveload.proofs.FindLemmas.{both-load, first-refuses, first-stops, front-refuses, front-stops, if-err-by, second-refuses, second-stops}
+use Rattle.specs_saveload.proofs.RetrieveLemmas.{bear-front, bear-shown, data-before, data-in-front, entry-shown, loaded-all, loaded-some, loaded-stops}
 use Rattle.specs_saveload.proofs.deserialize.load_all.Goals as goal
 
 pub returns-in-Ok-clause-ok : goal.returns-in-Ok-clause-ok
@@ -29,10 +30,35 @@ returns-in-Ok-load_each-clause-refused g c =
     (λ marker others. refused-left g.A.MarkerAllocator.refuses g.M.Marker.id_of c.find_all.new.entities c.find_all.new.allocator (marker ∷ []) others c.in-Err.refused.error)
     c.in-Err.ensures.refused
 
-pub returns-in-Err-load_each-clause-err : goal.returns-in-Err-load_each-clause-err
-returns-in-Err-load_each-clause-err g c =
+pub returns-clause-err : goal.returns-clause-err
+returns-clause-err g c =
     front-stops _ _ _ g.met.M.SavedMarker.by_id _ _ _ _ c.as_slice.ensures.value _ _ _ _ _ _ _ c.truncate.ensures.items c.in-Err.ensures.err _ c.in-Err-load_each.ensures.err
 
-pub returns-in-Err-load_each-clause-refused : goal.returns-in-Err-load_each-clause-refused
-returns-in-Err-load_each-clause-refused g c =
+pub returns-clause-refused : goal.returns-clause-refused
+returns-clause-refused g c =
     front-refuses _ _ _ g.met.M.SavedMarker.by_id _ _ _ _ c.as_slice.ensures.value _ _ _ _ _ _ _ c.truncate.ensures.items c.in-Err.ensures.err _ c.in-Err-load_each.ensures.err (RefusesBearers g.A.MarkerAllocator.refuses g.M.Marker.id_of) _ c.in-Err-load_each.ensures.refused
+
+pub load_each-requires : goal.load_each-requires
+load_each-requires g c = record { bearers = bear-shown _ _ _ _ _ c.as_slice.ensures.value c.as_slice-in-Ok.ensures.value c.in-Ok.ensures.bearers }
+
+pub load_each-requires-in-Err : goal.load_each-requires-in-Err
+load_each-requires-in-Err g c =
+    record { bearers = bear-front _ _ _ _ _ _ _ c.as_slice.ensures.value c.truncate.ensures.items c.as_slice-in-Err.ensures.value c.in-Err.ensures.bearers_before }
+
+pub returns-in-Ok-clause-retrieves : goal.returns-in-Ok-clause-retrieves
+returns-in-Ok-clause-retrieves g c =
+    on_ok_weaker c.load_each.result (loaded-all _ _ _ _ _ _ _ c.as_slice.ensures.value _ _ _ c.in-Ok.ensures.retrieves) c.load_each.ensures.retrieves
+
+pub returns-in-Ok-clause-leaves : goal.returns-in-Ok-clause-leaves
+returns-in-Ok-clause-leaves g c =
+    IfErr-weaker c.load_each.result _ _ (λ refused some. loaded-stops _ _ _ _ _ _ _ c.as_slice.ensures.value _ _ _ _ _ _ c.in-Ok.ensures.retrieves some) c.load_each.ensures.leaves
+
+pub returns-in-Ok-load_each-clause-leaves : goal.returns-in-Ok-load_each-clause-leaves
+returns-in-Ok-load_each-clause-leaves g c =
+    loaded-some _ _ _ _ _ _ _ c.as_slice.ensures.value _ _ _ _ _ _ _ c.in-Err.ensures.leaves
+    (data-before _ _ _ _ _ _ _ _ _ _ _ _ _ (entry-shown _ _ _ _ c.as_slice.ensures.value c.in-Err.ensures.refused.here) c.truncate.ensures.items c.in-Ok-load_each.ensures.retrieves)
+
+pub returns-clause-leaves : goal.returns-clause-leaves
+returns-clause-leaves g c =
+    loaded-some _ _ _ _ _ _ _ c.as_slice.ensures.value _ _ _ _ _ _ _ c.in-Err.ensures.leaves
+    (data-in-front _ _ _ _ _ _ _ _ _ _ _ _ _ c.truncate.ensures.items c.in-Err-load_each.ensures.leaves)

@@ -2,6 +2,7 @@ use Rattle.std.proofs.Common.{◌++◌}
 use Rattle.std.proofs.lemmas.Result.{IfErr-weaker, on_ok_weaker}
 use Rattle.specs_saveload.specs.LoadingLemmas.{three-of}
 use Rattle.specs_saveload.proofs.LoadLemmas.{asks-both, goes-both, refused-left, refused-right}
+use Rattle.specs_saveload.proofs.RetrieveLemmas.{each-both, some-first, some-second}
 use Rattle.specs_saveload.proofs.deserialize.Tuple3DeserializeComponents.deserialize_entity.Goals as goal
 
 pub returns-in-Ok-clause-ok : goal.returns-in-Ok-clause-ok
@@ -26,3 +27,19 @@ returns-in-Ok-clause-refused g c =
 pub returns-in-Err-clause-refused : goal.returns-in-Err-clause-refused
 returns-in-Err-clause-refused g c =
     refused-left g.G.MarkerAllocator.refuses g.M.Marker.id_of c.deserialize_entity.new.entities c.deserialize_entity.new.allocator (g.A.DeserializeComponents.markers_of c.args.saved.0) (g.B.DeserializeComponents.markers_of c.args.saved.1 ++ g.C.DeserializeComponents.markers_of c.args.saved.2) c.in-Err.error c.in-Err.ensures.refused
+
+pub returns-in-Ok-clause-retrieves : goal.returns-in-Ok-clause-retrieves
+returns-in-Ok-clause-retrieves g c = on_ok_weaker c.load_two.result (each-both _ _ _ _ _ _ _ _ _ c.in-Ok.ensures.retrieves) c.load_two.ensures.retrieves
+
+pub returns-in-Ok-clause-leaves : goal.returns-in-Ok-clause-leaves
+returns-in-Ok-clause-leaves g c = IfErr-weaker c.load_two.result _ _ (λ error some. some-second _ _ _ _ _ error _ _ _ _ _ c.in-Ok.ensures.retrieves some) c.load_two.ensures.leaves
+
+pub returns-in-Err-clause-leaves : goal.returns-in-Err-clause-leaves
+returns-in-Err-clause-leaves g c = some-first _ _ _ _ _ _ _ _ _ _ c.in-Err.ensures.leaves
+
+pub returns-in-Ok-clause-dead : goal.returns-in-Ok-clause-dead
+returns-in-Ok-clause-dead g c gone index =
+    let one = c.deserialize_entity.ensures.dead (λ alive. gone (c.load_two.ensures.keeps.live_on c.args.entity alive)) index in
+    let two = c.load_two.ensures.dead gone index in
+    let three = c.load_two.ensures.dead_too gone index in
+    λ i. (one i, two i, three i)

@@ -2,6 +2,7 @@ use Rattle.std.proofs.Common.{◌++◌}
 use Rattle.std.proofs.lemmas.Result.{IfErr-weaker, on_ok_weaker}
 use Rattle.specs_saveload.specs.LoadingLemmas.{both-are, both-kept}
 use Rattle.specs_saveload.proofs.LoadLemmas.{asks-both, goes-both, refused-left, refused-right}
+use Rattle.specs_saveload.proofs.RetrieveLemmas.{each-both, some-first, some-second}
 use Rattle.specs_saveload.proofs.deserialize.Tuple4DeserializeComponents.deserialize_entity.Goals as goal
 
 pub returns-in-Ok-clause-ok : goal.returns-in-Ok-clause-ok
@@ -37,3 +38,12 @@ returns-in-Ok-clause-refused g c =
 pub returns-in-Err-clause-refused : goal.returns-in-Err-clause-refused
 returns-in-Err-clause-refused g c =
     refused-left g.G.MarkerAllocator.refuses g.M.Marker.id_of c.load_two.new.entities c.load_two.new.allocator (g.A.DeserializeComponents.markers_of c.args.saved.0.0 ++ g.B.DeserializeComponents.markers_of c.args.saved.0.1) (g.C.DeserializeComponents.markers_of c.args.saved.1.0 ++ g.D.DeserializeComponents.markers_of c.args.saved.1.1) c.in-Err.error c.in-Err.ensures.refused
+
+pub returns-in-Ok-clause-retrieves : goal.returns-in-Ok-clause-retrieves
+returns-in-Ok-clause-retrieves g c = on_ok_weaker c.load_two-in-Ok.result (each-both _ _ _ _ _ _ _ _ _ c.in-Ok.ensures.retrieves) c.load_two-in-Ok.ensures.retrieves
+
+pub returns-in-Ok-clause-leaves : goal.returns-in-Ok-clause-leaves
+returns-in-Ok-clause-leaves g c = IfErr-weaker c.load_two-in-Ok.result _ _ (λ error some. some-second _ _ _ _ _ error _ _ _ _ _ c.in-Ok.ensures.retrieves some) c.load_two-in-Ok.ensures.leaves
+
+pub returns-in-Err-clause-leaves : goal.returns-in-Err-clause-leaves
+returns-in-Err-clause-leaves g c = some-first _ _ _ _ _ _ _ _ _ _ c.in-Err.ensures.leaves
