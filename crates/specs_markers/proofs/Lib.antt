@@ -2,3 +2,4 @@ pub mod NoteLemmas
 pub mod LastLemmas
 pub mod MarkingLemmas
 pub mod CallerLemmas
+pub mod BelowLemmas

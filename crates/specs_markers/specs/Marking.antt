@@ -138,6 +138,7 @@ module _ {A S M I : Type 0} (noted : A → I → Option LifeAt) (allocates : A �
     pub record RefusesMarked (refuses : A → Option I → Error → Type 0) (error : Error) : Type 0 where
       pub why : RefusesGift noted allocates id_of refuses (Some id) (newborn births) before after error
       pub unknown : IsUnknown noted s.part_at id births before had
+      pub new : ¬ (IsBorn births (newborn births))
       pub entities : births' ≡ deleted (created births) (newborn births).id
       pub live_on : LivesOn births births'
       pub storage : IsUntold s had has

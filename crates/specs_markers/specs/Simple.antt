@@ -1,5 +1,5 @@
 -- Whole numbers as ids of markers: a counter, and the entity last noted under each id.
-use Rattle.std.specs.Prelude.{◌≡◌, ◌+◌, ◌⊎◌, ℕ, max, Option, None, unwrap_or, refl}
+use Rattle.std.specs.Prelude.{◌≡◌, ◌+◌, ◌<◌, ◌⊎◌, ℕ, max, Option, None, Some, unwrap_or, refl}
 use Rattle.std.specs.Coded.{Coded, code_by, coded×, coded_ℕ}
 use Rattle.std.specs.FinMap as map
 use Rattle.std.specs.Ordering.{nat_cmp}
@@ -57,3 +57,7 @@ pub record Gives (a : Noting) (entity : LifeAt) (asked : Option ℕ) (marker : �
   pub left : ¬ (IsSpent a asked)
   pub id : marker ≡ given_id a asked
   pub allocator : after ≡ allocated a entity asked
+
+-- each id under which an entity is noted is below the one that comes next
+abbrev pub IsBelowNext : Noting → Type 0
+IsBelowNext a = (id : ℕ) (entity : LifeAt) → noted_under a id ≡ Some entity → id < a.next

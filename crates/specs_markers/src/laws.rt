@@ -1,9 +1,10 @@
 //! Laws on which callers rely. Each contract is the law.
-ghost use Rattle.std.specs.Prelude.{◌≡◌, ◌≢◌, ℕ, Some, None, IfOk, OnOk, IsSomeAnd};
+ghost use Rattle.std.specs.Prelude.{◌≡◌, ◌≢◌, ℕ, Option, Some, None, IfOk, OnOk, IsSomeAnd};
 ghost use Rattle.specs_entity.specs.Births.{IsAlive};
 ghost use Rattle.specs_entity.specs.declared.ids.Entity.{Entity};
 ghost use Rattle.specs_layouts.specs.Dense.{dense_part};
 ghost use Rattle.specs_markers.specs.Marks.{IsMarked};
+ghost use Rattle.specs_markers.specs.Simple.{Gives, IsBelowNext, Noting, none_noted, noted_under};
 
 use crate::allocator::MarkerAllocator;
 use crate::marker::Marker;
@@ -78,3 +79,13 @@ pub fn a_maintained_entity_is_found<M: Marker, A: MarkerAllocator<M>>(
 {
     allocator.maintain(entities, storage)
 }
+
+/// Of an allocator under which each noted id is below the next, as one is in which nothing is noted: so it is after each
+/// marker that is given, and what is given without asking has an id under which nothing was noted.
+pub fn a_new_id_is_above_all_that_are_noted()
+    ensures none { IsBelowNext none_noted }
+    ensures gift { (before after : Noting) (entity : Entity) (asked : Option ℕ) (marker : ℕ)
+        → Gives before entity asked marker after → IsBelowNext before → IsBelowNext after }
+    ensures new { (before after : Noting) (entity : Entity) (marker : ℕ)
+        → Gives before entity None marker after → IsBelowNext before → noted_under before marker ≡ None }
+{}

@@ -9,6 +9,7 @@ pub mod FindLemmas
 pub mod ImageLemmas
 pub mod AskLemmas
 pub mod RetrieveLemmas
+pub mod GiftLemmas
 pub mod RecursionLemmas
 pub mod OrderLemmas
 pub mod ReachLemmas

@@ -7,6 +7,11 @@ use Rattle.specs_markers.specs.Marking.{RefusesRetrieval, Retrieves}
 use Rattle.specs_saveload.specs.declared.entity_data.EntityData.{EntityData}
 use Rattle.specs_saveload.specs.Known.{Known}
 
+-- what gives markers gave some, one after the other
+pub data AreGiven {A M I : Type 0} (allocates : A → LifeAt → Option I → M → A → Type 0) (before : A) : A → Type 0 where
+  none_given : AreGiven allocates before before
+  one_given : (between after : A) (entity : LifeAt) (asked : Option I) (marker : M) → AreGiven allocates before between → allocates between entity asked marker after → AreGiven allocates before after
+
 module _ {A S M I : Type 0} (noted : A → I → Option LifeAt) (allocates : A → LifeAt → Option I → M → A → Type 0) (id_of : M → I) (s : StorageMembers S M) where
   -- the bearer of a marker was found, or made
   abbrev pub Retrieved : M → LifeAt → Known A S → Known A S → Type 0

@@ -13,6 +13,7 @@ ghost use Rattle.specs_entity.specs.declared.errors.Error.TheVariants as error;
 ghost use Rattle.specs_saveload.specs.declared.entity_data.EntityData.{EntityData};
 ghost use Rattle.specs_saveload.specs.Known.{bearer_in};
 ghost use Rattle.specs_saveload.specs.Loading.{AreApart};
+ghost use Rattle.specs_saveload.specs.Retrieved.{AreGiven};
 
 use crate::EntityData;
 use crate::deserialize::{DeserializeComponents, LoadError};
@@ -91,7 +92,28 @@ pub fn a_saved_list_names_its_own<M: SavedMarker, S: DeserializeComponents<M>>(
     storages.serialize(alloc, entities, markers)
 }
 
-/// So it is of a list that is saved with all that it names: it can be loaded as above.
+/// A load gives markers, one after the other, and does nothing else to what gives them, also where it is refused. So
+/// what each gift keeps true of it is true after a load: of a `SimpleMarkerAllocator`, that no id at which an entity is
+/// noted is as great as the one that it gives next.
+pub fn a_load_changes_what_gives_markers_by_gifts<
+    M: SavedMarker,
+    S: DeserializeComponents<M>,
+    A: MarkerAllocator<M>,
+>(
+    storages: &mut S,
+    alloc: Global,
+    list: Vec<EntityData<M, S::Data>>,
+    entities: &mut EntitiesRes,
+    markers: &mut MaskedStorage<M>,
+    allocator: &mut A,
+) -> Result<(), LoadError>
+    ensures { AreGiven A.allocates allocator.old allocator.new }
+{
+    storages.deserialize(alloc, list, entities, markers, allocator)
+}
+
+/// The data of a list that is saved with all that it names, too, names its own markers alone, and where no two living
+/// entities bear one marker it has no marker twice: so it can be loaded as above.
 pub fn a_list_saved_with_all_it_names_names_its_own<
     M: SavedMarker,
     S: DeserializeComponents<M>,
