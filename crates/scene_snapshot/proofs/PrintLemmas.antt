@@ -160,6 +160,9 @@ readable text json is back fits =
 
 -- ---- no token of a value is bad
 
+only : (token : Token) → token ≢ bad → All (λ other. other ≢ bad) (token ∷ [])
+only token apart = All-cons (λ other. other ≢ bad) token [] apart (All-nil (λ other. other ≢ bad))
+
 mutual
   pub none-bad : (one : json.Json) → All (λ token. token ≢ bad) (json_tokens one)
   none-bad json.null = only Token.null (λ e. cc)

@@ -149,6 +149,12 @@ module _ (drops_positions : Positions → List ℕ → Positions → Type 0) (dr
       record { now = d.2.0; stands = d.1 ∙ ap (λ v. Some (Some v)) d.2.1; dropped = d.2.2 }
 
   module _ (births_part : Value → Option Births) (table_part : Value → Option (List ℕ)) (births_seen : (b : Births) → births_part (EntitiesValue b) ≡ Some b) (table_seen : (k : List ℕ) → table_part (TableValue k) ≡ Some k) where
+    abbrev births_at : Place Value Births
+    births_at = place births_part EntitiesValue 0
+
+    abbrev table_at : Place Value (List ℕ)
+    table_at = place table_part TableValue 1
+
     module _ (w w1 w2 : Slots Value) (s : Stands w) (d : Dispatched w w1 s) (deleted : List Entity) (m : MergesIn births_at table_at drops deleted w1 w2) where
       same_births : m.births ≡ d.births
       same_births = same_Some m.births d.births (sym m.alive_in ∙ (ap (λ slot. option_and_then births_part (option_flatten slot)) d.entities ∙ births_seen d.births))
