@@ -6,3 +6,6 @@ pub mod AsyncLemmas
 pub mod OrderLemmas
 pub mod WaitLemmas
 pub mod NumberLemmas
+pub mod BundleLemmas
+pub mod TurnLemmas
+pub mod CallerLemmas

@@ -14,3 +14,5 @@ pub mod Waits
 pub mod Numbers
 pub mod Nothing
 pub mod Standing
+pub mod Eithers
+pub mod Bundling

@@ -1,6 +1,7 @@
 //! Laws of builders, and of systems that run one after the other, on which callers rely.
 //!
-//! The functions have no code; each contract is the law.
+//! The functions have no code; each contract is the law. Those of the crates below stand here too: `planner`, `stages`
+//! (`order_does_not_matter`), `trees` and `worlds`.
 ghost use Rattle.std.specs.Prelude.{◌≡◌, ◌≢◌, ◌++◌, ◌∷◌, ℕ, false, List, [], Option, None};
 ghost use Rattle.std.specs.List.{All, Contains, fold};
 ghost use Rattle.shred_world.specs.declared.resource_id.ResourceId.{ResourceId as Id};
@@ -18,7 +19,11 @@ ghost use Rattle.shred.specs.Histories.{Asked, system as adding, built_from, tol
 ghost use Rattle.shred.specs.Numbers.{IsUnder};
 
 use crate::System;
+pub use shred_plan::laws as planner;
+pub use shred_stages::laws as stages;
+pub use shred_trees::laws as trees;
 use shred_world::ResourceId;
+pub use shred_world::laws as worlds;
 
 /// The plan of a builder is that of what it was told, one thing after another, so the planner's laws hold of it.
 pub fn builders_plan<S>()

@@ -5,8 +5,10 @@ mod async_dispatcher;
 mod async_error;
 mod batch;
 mod builder;
+mod bundled;
 mod chained;
 mod dispatcher;
+mod either;
 mod error;
 pub mod laws;
 mod locals;
@@ -23,7 +25,9 @@ pub use async_dispatcher::AsyncDispatcher;
 pub use async_error::AsyncError;
 pub use batch::{Batch, BatchController, MultiDispatchController};
 pub use builder::DispatcherBuilder;
+pub use bundled::{BundleChange, Bundled};
 pub use dispatcher::Dispatcher;
+pub use either::Either;
 pub use error::AddError;
 pub use multi::MultiDispatcher;
 pub use nothing::{NoBatch, NoLocal};
@@ -35,7 +39,8 @@ pub use shred_cells::{
 pub use shred_crew::{Crew, Shift, Unmanned, Want, cut, with_crew as stand_by};
 pub use shred_plan::{Adding, Group, Planner, RunningTime, Stage, Way};
 pub use shred_stages::{
-    BatchAccessor, DispatchError, Pack, StagesBuilder, Stop, System, SystemId, View, run_alone,
+    BatchAccessor, DispatchError, Pack, Refusal, StagesBuilder, Stop, System, SystemId, View,
+    run_alone,
 };
 pub use shred_trees::{Leaf, Nil, Par, ParError, ParSeq, RunWithPool, Seq, par, seq};
 pub use shred_world::{

@@ -1,5 +1,5 @@
 -- What a system that is made of its bundle comes to over a world.
-use Rattle.std.proofs.Common.{◌≡◌, ◌⊎◌, inl, inr, Bool, true, false, [], ◌∷◌, refl, ap, ◌∙◌, Option, None, Result, Ok, Err}
+use Rattle.std.proofs.Common.{◌≡◌, Bool, true, false, [], ◌∷◌, refl, ap, ◌∙◌, Option, None, Result, Ok, Err}
 use Rattle.std.specs.Prelude.{if◌then◌else◌, IfOk, OnOk}
 use Rattle.std.proofs.Math.Path.{fun_ext}
 use Rattle.shred_world.specs.declared.resource_id.ResourceId.{ResourceId}
@@ -14,7 +14,9 @@ use Rattle.shred_tests.specs.declared.values.Value.{Value}
 use Rattle.shred_tests.specs.declared.values.Value.TheVariants.{NumberValue}
 use Rattle.shred_tests.specs.declared.values.Number.{Number}
 use Rattle.shred_tests.specs.Chores.{number_id, speed_id, Moves}
-use Rattle.shred_tests.specs.Bundled.{IsWanting, ChangesBundle, Advances}
+use Rattle.shred.specs.Bundling.{BundleMeets}
+use Rattle.shred.proofs.CallerLemmas.{accepted-changes}
+use Rattle.shred_tests.specs.Bundled.{Advances}
 use Rattle.shred_tests.proofs.ThreeLemmas.{moves-held}
 
 -- a value that is put where another was taken out
@@ -25,13 +27,23 @@ put-again seen id v = fun_ext (λ q. by q (same_id q id))
     by q true = refl
     by q false = refl
 
-module _ {B : Type 0} (number_of : B → Number) (lack : Holding Value → Option ResourceId) (Reads : B → Holding Value → Type 0) where
+abbrev takes : Holding Value → Holding Value
+takes w = with_slot w number_id out
+
+module _ {B : Type 0} (number_of : B → Number) (Reads : B → Holding Value → Type 0) where
+  abbrev Fits : B → Holding Value → Type 0
+  Fits bundle w = Reads bundle w × (w number_id ≡ owned (NumberValue (number_of bundle)))
+
+  abbrev gives : B → Holding Value → Holding Value
+  gives bundle w = with_slot w number_id (owned (NumberValue (number_of bundle)))
+
+  abbrev becomes : {C : Type 0} → C → B → Holding Value → Option Stop → C → B → Type 0
+  becomes change bundle held refused change_after changed = (refused ≡ None) × Advances (number_of bundle) held (number_of changed)
+
   -- a bundle of the number that was fetched, advanced and given back
-  changed-moves : (seen after : Holding Value)
-      → ChangesBundle (λ w. with_slot w number_id out) (λ bundle w. Reads bundle w × (w number_id ≡ owned (NumberValue (number_of bundle))))
-      (λ bundle w. with_slot w number_id (owned (NumberValue (number_of bundle)))) (λ bundle held refused changed. (refused ≡ None) × Advances (number_of bundle) held (number_of changed)) seen None after
-      → Moves seen after
-  changed-moves seen after changes =
+  pub advance-moves : {C : Type 0} (lack : Holding Value → Option ResourceId) (change change_after : C) (seen after : Holding Value) → BundleMeets lack takes Fits gives becomes change seen None change_after after → Moves seen after
+  advance-moves lack change change_after seen after meets =
+      let changes = accepted-changes takes Fits gives becomes lack change change_after seen after meets in
       let advances = changes.becoming.1 in
       record {
         number = number_of changes.bundle;
@@ -41,14 +53,6 @@ module _ {B : Type 0} (number_of : B → Number) (lack : Holding Value → Optio
         leaves = changes.given_back ∙ (put-again seen number_id (NumberValue (number_of changes.changed))
             ∙ ap (λ count. with_values ((number_id, NumberValue (record { 0 = count })) ∷ []) seen) advances.gains);
       }
-
-  pub advance-moves : (seen after : Holding Value)
-      → IsWanting lack seen None after
-      ⊎ ChangesBundle (λ w. with_slot w number_id out) (λ bundle w. Reads bundle w × (w number_id ≡ owned (NumberValue (number_of bundle))))
-      (λ bundle w. with_slot w number_id (owned (NumberValue (number_of bundle)))) (λ bundle held refused changed. (refused ≡ None) × Advances (number_of bundle) held (number_of changed)) seen None after
-      → Moves seen after
-  advance-moves seen after (inl wanting) = let e = wanting.refuses in cc
-  advance-moves seen after (inr changes) = changed-moves seen after changes
 
 -- what a system alone did to what it was lent, told of the world
 module _ {S : Type 0} (meets : S → Holding Value → Option Stop → S → Holding Value → Type 0) (system left : S) (does : (seen after : Holding Value) → meets system seen None left after → Moves seen after) (w w_after : Holding Value) where

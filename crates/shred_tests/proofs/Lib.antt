@@ -1,3 +1,4 @@
 pub mod BundledLemmas
 pub mod OneLemmas
+pub mod SideLemmas
 pub mod ThreeLemmas

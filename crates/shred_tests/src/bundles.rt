@@ -1,13 +1,16 @@
 //! Bundles of each form and length: what they tell, what they lack, and that what they write stays.
 use crate::bundled::run_advance;
+use crate::sides::{go_round, sides};
 use crate::values::{Kinds, Number, Score, Speed, Value, kinds_in, number_under, put_kinds};
-use shred_stages::{BatchAccessor, Stop};
+use shred_stages::{BatchAccessor, DispatchError, Stop, SystemId};
 use shred_world::{
     Accessor, DynamicSystemData, Missing, Read, ReadAccessor, ReadExpect, ResourceId, SystemData,
     World, Write, WriteAccessor, WriteExpect,
 };
 use std::alloc::{AllocError, Global};
 use std::marker::PhantomData;
+use std::sync::Wait;
+use std::thread::Threads;
 
 type One = (Write<Number>,);
 
@@ -397,6 +400,32 @@ fn a_system_is_made_of_a_bundle(rt: HostRuntime) {
     assert_eq!(rt; moved, Ok((Ok(()), (Some(8), Some(3), Some(1)))));
     let stopped = left_by_a_bundle(&rt, (Some(5), None, None));
     assert_eq!(rt; stopped, Ok((Err(Stop::Full), (Some(5), None, None))));
+}
+
+/// How a dispatch of systems of two types, and of a local one, ends over a world with these kinds, and what it leaves.
+fn left_by_sides<R: AllocGlobal + Threads + Wait + Sync>(
+    rt: &R,
+    workers: usize,
+    kinds: Kinds,
+) -> Result<(Option<DispatchError>, Kinds), AllocError> {
+    let mut world = World::empty(rt.alloc());
+    put_kinds(&mut world, kinds)?;
+    let Ok(mut dispatcher) = sides(rt.alloc(), workers) else {
+        return Err(AllocError);
+    };
+    let outcome = go_round(rt, &mut dispatcher, &mut world).err();
+    Ok((outcome, kinds_in(&world)))
+}
+
+#[test]
+fn systems_of_two_types_share_a_dispatcher(rt: HostRuntime) {
+    for workers in [1, 4] {
+        let gone = left_by_sides(&rt, workers, (Some(5), Some(3), Some(1)));
+        assert_eq!(rt; gone, Ok((None, (Some(11), Some(3), Some(2)))));
+    }
+    let stopped = left_by_sides(&rt, 1, (Some(5), None, Some(1)));
+    let error = DispatchError::System(SystemId(0), Stop::Full);
+    assert_eq!(rt; stopped, Ok((Some(error), (Some(5), None, Some(2)))));
 }
 
 /// Whether bundles under a dynamic number reach the number there, and no other.

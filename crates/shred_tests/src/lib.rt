@@ -23,6 +23,7 @@ pub mod ones;
 mod plans;
 #[cfg(test)]
 mod shared;
+pub mod sides;
 #[cfg(test)]
 mod standing;
 #[cfg(test)]

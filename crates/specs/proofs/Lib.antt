@@ -1,3 +1,4 @@
 pub mod HistoryLemmas
 pub mod SlotLemmas
 pub mod PhaseLemmas
+pub mod CallerLemmas

@@ -1,8 +1,9 @@
-use Rattle.std.proofs.Common.{is_some, refl, ap, ◌∙◌, inl, inr, subst}
-use Rattle.shred_world.specs.Bundles.{Holding}
+use Rattle.std.proofs.Common.{is_some, refl, ap, inl, inr, subst}
 use Rattle.shred_world.proofs.AnyBundleLemmas.{changed-can_give, changed-leaves, same-leaves}
 use Rattle.shred_stages.specs.Views.{error_of}
-use Rattle.shred_tests.proofs.bundled.BundledSystem.run.Goals as goal
+use Rattle.shred.specs.Bundling.{ChangesBundle}
+use Rattle.shred.proofs.BundleLemmas.{bundle-changed}
+use Rattle.shred.proofs.bundled.Bundled.turn.Goals as goal
 
 pub change-outcome-requires : goal.change-outcome-requires
 change-outcome-requires g c = record {
@@ -16,21 +17,18 @@ give_back-requires g c = record {
 
 pub returns-in-Ok-clause-meets : goal.returns-in-Ok-clause-meets
 returns-in-Ok-clause-meets g c =
-    let P : Holding g.row.V.Denot → Type 0 = λ held. g.F.Change.becomes c.in-Ok.bundle held (error_of c.change-outcome.result) c.change-outcome.new.bundle in
-    inr (record {
-      bundle = c.in-Ok.bundle;
-      changed = c.change-outcome.new.bundle;
-      fits_seen = c.in-Ok.ensures.fits;
-      becoming = subst P c.in-Ok.ensures.ok c.change-outcome.ensures.becomes;
-      given_back = c.give_back.ensures ∙ ap (g.D.SystemData.given c.change-outcome.new.bundle) c.in-Ok.ensures.ok;
-    })
+    let P : g.row.C.Denot → Type 0 = λ change. ChangesBundle g.D.SystemData.left g.D.SystemData.fits g.D.SystemData.given g.C.BundleChange.becomes change (g.W.Holder.slots c.args.view.now)
+    (error_of c.change-outcome.result) c.change-outcome.new.self (g.W.Holder.slots c.give_back.new.holder) in
+    inr (subst P c.self.view_is
+    (bundle-changed g.D.SystemData.left g.D.SystemData.fits g.D.SystemData.given g.C.BundleChange.becomes _ _ (g.W.Holder.slots c.args.view.now) _ _ _ c.in-Ok.bundle c.change-outcome.new.bundle
+    c.in-Ok.ensures.ok c.in-Ok.ensures.fits c.change-outcome.ensures.becomes c.give_back.ensures))
 
 pub returns-in-Ok-clause-leaves : goal.returns-in-Ok-clause-leaves
 returns-in-Ok-clause-leaves g c =
     changed-leaves g.met.D.SystemData.lawful _ c.change-outcome.new.bundle (g.W.Holder.slots c.args.view.now) _ c.in-Ok.ensures.fits c.change-outcome.ensures.alike c.in-Ok.ensures.ok _ c.give_back.ensures
 
 pub returns-in-Err-clause-meets : goal.returns-in-Err-clause-meets
-returns-in-Err-clause-meets g c = inl (record { wanting = ap is_some c.in-Err.ensures.missing; refuses = refl; same = c.in-Err.ensures.err })
+returns-in-Err-clause-meets g c = inl (record { wanting = ap is_some c.in-Err.ensures.missing; refuses = refl; stays = refl; same = c.in-Err.ensures.err })
 
 pub returns-in-Err-clause-leaves : goal.returns-in-Err-clause-leaves
 returns-in-Err-clause-leaves g c = same-leaves _ _ c.in-Err.ensures.err
