@@ -10,6 +10,7 @@ pub mod ImageLemmas
 pub mod AskLemmas
 pub mod RetrieveLemmas
 pub mod GiftLemmas
+pub mod StopLemmas
 pub mod RecursionLemmas
 pub mod OrderLemmas
 pub mod ReachLemmas

@@ -6,6 +6,11 @@ use Rattle.specs_saveload.specs.declared.entity_data.EntityData.{EntityData}
 use Rattle.specs_saveload.specs.Bearing.{GoesOn, IsAmong}
 use Rattle.specs_saveload.specs.Known.{IsSound, Known, LivesIn, bearer_at}
 
+-- of two kinds of parts, the first is refused and the second stays, or the first is loaded and the second is refused
+abbrev pub StopsInPair : {D E P Q : Type 0} → (load : D → Option P) → (stops : D → P → P → Type 0) → (stops_too : E → Q → Q → Type 0) → D × E → P × Q → P × Q → Type 0
+StopsInPair load stops stops_too saved before after =
+    (stops saved.0 before.0 after.0 × (after.1 ≡ before.1)) ⊎ ((load saved.0 ≡ Some after.0) × stops_too saved.1 before.1 after.1)
+
 -- an entry is loaded: the entity that bears its marker has just the parts of its data
 pub record IsLoaded {M D P : Type 0} (load : (M → Option LifeAt) → D → Option P) (bearers : M → Option LifeAt) (parts_at : ℕ → P) (entry : EntityData M D) : Type 0 where
   pub entity : LifeAt

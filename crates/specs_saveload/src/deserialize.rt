@@ -7,7 +7,7 @@ ghost use Rattle.specs_join.specs.Joins.{both};
 ghost use Rattle.specs_saveload.specs.Bearing.{IsAmong};
 ghost use Rattle.specs_saveload.specs.Finding.{AreBearers, Finds, FindsBefore, LoadsFound, LoadsFoundBefore};
 ghost use Rattle.specs_saveload.specs.Known.{AddsBearers, AddsBirth, KeepsBearers, RefusesBearers, bearer_in, known_of};
-ghost use Rattle.specs_saveload.specs.Loading.{IsLoaded, Loads, LoadsBefore, RefusesEntry, RefusesLoad};
+ghost use Rattle.specs_saveload.specs.Loading.{IsLoaded, Loads, LoadsBefore, RefusesEntry, RefusesLoad, StopsInPair};
 ghost use Rattle.specs_saveload.specs.Retrieved.{RetrievesEach, RetrievesFoundSome, RetrievesLoaded};
 ghost use Rattle.specs_saveload.specs.Retrieved.{RetrievesLoadedSome, RetrievesSome};
 ghost use Rattle.specs_saveload.specs.Saved.{named_in, plain_in};
@@ -35,10 +35,14 @@ pub trait DeserializeComponents<M: SavedMarker>: SerializeComponents<M> {
     /// The parts of data, under a map from marker to entity; none where a marker has none.
     ghost loaded: { (M → Option Entity) → Self.Data → Option Self.Parts };
 
+    /// What the parts at an index become where one of data is refused, from what they were: those before it are
+    /// loaded, and the others stay.
+    ghost stops: { (M → Option Entity) → Self.Data → Self.Parts → Self.Parts → Type 0 };
+
     /// Gives a living entity the parts of data, and takes from it those that are absent there. A dead one gets none.
     ///
-    /// Errors: those of `convert_from` at the first part that is refused, and `Memory`. No other index has other parts
-    /// than before.
+    /// Errors: those of `convert_from` at the first part that is refused, and `Memory`. The parts before it are loaded,
+    /// that one and those behind it stay, and no other index has other parts than before.
     fn deserialize_entity<G: MarkerAllocator<M>>(
         &mut self,
         alloc: Global,
@@ -63,6 +67,9 @@ pub trait DeserializeComponents<M: SavedMarker>: SerializeComponents<M> {
             (markers_of saved)) }
         ensures keeps { KeepsBearers G.noted M.Storage.part_at M.id_of
             entities.old entities.new allocator.old allocator.new markers.old markers.new }
+        ensures stops { OnErr result (IsAlive entities.old entity → stops (bearer_in G.noted M.Storage.part_at M.id_of
+            entities.new allocator.new markers.new) saved (Self.parts_at self.old entity.id)
+            (Self.parts_at self.new entity.id)) }
         ensures others { (index : ℕ) → index ≢ entity.id → Self.parts_at self.new index ≡ Self.parts_at self.old
             index }
         ensures dead { ¬ (IsAlive entities.new entity)
@@ -211,6 +218,12 @@ where
         (A.markers_of saved.0 ++ B.markers_of saved.1)) }
     ensures keeps { KeepsBearers G.noted M.Storage.part_at M.id_of
         entities.old entities.new allocator.old allocator.new markers.old markers.new }
+    ensures stops { OnErr result (IsAlive entities.old entity → StopsInPair
+        (A.loaded (bearer_in G.noted M.Storage.part_at M.id_of entities.new allocator.new markers.new))
+        (A.stops (bearer_in G.noted M.Storage.part_at M.id_of entities.new allocator.new markers.new))
+        (B.stops (bearer_in G.noted M.Storage.part_at M.id_of entities.new allocator.new markers.new))
+        saved (A.parts_at one.old entity.id, B.parts_at other.old entity.id)
+        (A.parts_at one.new entity.id, B.parts_at other.new entity.id)) }
     ensures others { (index : ℕ) → index ≢ entity.id → A.parts_at one.new index ≡ A.parts_at one.old index }
     ensures others_too { (index : ℕ) → index ≢ entity.id → B.parts_at other.new index ≡ B.parts_at other.old index }
     ensures dead { ¬ (IsAlive entities.new entity) → (index : ℕ) → A.parts_at one.new index ≡ A.parts_at one.old
@@ -234,6 +247,8 @@ impl<M: SavedMarker, C: Component + ConvertSaveload<M>> DeserializeComponents<M>
     ghost markers_of = { named_in C.markers_of };
 
     ghost loaded = { λ bearers. plain_in (C.loaded bearers) };
+
+    ghost stops = { λ bearers saved before after. after ≡ before };
 
     fn deserialize_entity<G: MarkerAllocator<M>>(
         &mut self,
@@ -268,11 +283,14 @@ impl<
 > DeserializeComponents<M> for (A, B) {
     ghost use Rattle.std.specs.Prelude.{◌++◌};
     ghost use Rattle.specs_join.specs.Joins.{both};
+    ghost use Rattle.specs_saveload.specs.Loading.{StopsInPair};
     ghost use Rattle.specs_saveload.specs.LoadingLemmas.{both-back, both-kept, both-stands};
 
     ghost markers_of = { λ saved. A.markers_of saved.0 ++ B.markers_of saved.1 };
 
     ghost loaded = { λ bearers saved. both (A.loaded bearers saved.0) (B.loaded bearers saved.1) };
+
+    ghost stops = { λ bearers. StopsInPair (A.loaded bearers) (A.stops bearers) (B.stops bearers) };
 
     fn deserialize_entity<G: MarkerAllocator<M>>(
         &mut self,
@@ -317,12 +335,17 @@ impl<
 > DeserializeComponents<M> for (A, B, C) {
     ghost use Rattle.std.specs.Prelude.{◌++◌};
     ghost use Rattle.specs_join.specs.Joins.{all_three};
+    ghost use Rattle.specs_saveload.specs.Loading.{StopsInPair};
     ghost use Rattle.specs_saveload.specs.LoadingLemmas.{three-back, three-kept, three-stands};
 
     ghost markers_of = { λ saved. A.markers_of saved.0 ++ (B.markers_of saved.1 ++ C.markers_of saved.2) };
 
     ghost loaded = { λ bearers saved. all_three (A.loaded bearers saved.0) (B.loaded bearers saved.1)
         (C.loaded bearers saved.2) };
+
+    ghost stops = { λ bearers saved before after. StopsInPair (A.loaded bearers) (A.stops bearers)
+        (StopsInPair (B.loaded bearers) (B.stops bearers) (C.stops bearers))
+        (saved.0, (saved.1, saved.2)) (before.0, (before.1, before.2)) (after.0, (after.1, after.2)) };
 
     fn deserialize_entity<G: MarkerAllocator<M>>(
         &mut self,
@@ -378,6 +401,7 @@ impl<
 > DeserializeComponents<M> for (A, B, C, D) {
     ghost use Rattle.std.specs.Prelude.{◌++◌};
     ghost use Rattle.specs_join.specs.Joins.{both};
+    ghost use Rattle.specs_saveload.specs.Loading.{StopsInPair};
     ghost use Rattle.specs_saveload.specs.LoadingLemmas.{both-back, both-kept, both-stands};
 
     ghost markers_of = { λ saved. (A.markers_of saved.0.0 ++ B.markers_of saved.0.1)
@@ -385,6 +409,10 @@ impl<
 
     ghost loaded = { λ bearers saved. both (both (A.loaded bearers saved.0.0) (B.loaded bearers saved.0.1))
         (both (C.loaded bearers saved.1.0) (D.loaded bearers saved.1.1)) };
+
+    ghost stops = { λ bearers. StopsInPair (λ two. both (A.loaded bearers two.0) (B.loaded bearers two.1))
+        (StopsInPair (A.loaded bearers) (A.stops bearers) (B.stops bearers))
+        (StopsInPair (C.loaded bearers) (C.stops bearers) (D.stops bearers)) };
 
     fn deserialize_entity<G: MarkerAllocator<M>>(
         &mut self,

@@ -2,6 +2,8 @@ use Rattle.std.proofs.lemmas.Result.{IfErr-weaker, on_ok_weaker}
 use Rattle.specs_saveload.specs.LoadingLemmas.{both-are}
 use Rattle.specs_saveload.proofs.LoadLemmas.{asks-both, goes-both, refused-left, refused-right}
 use Rattle.specs_saveload.proofs.RetrieveLemmas.{each-both, some-first, some-second}
+use Rattle.std.proofs.Common.{inl, inr, refl}
+use Rattle.specs_saveload.proofs.StopLemmas.{on-refused}
 use Rattle.specs_saveload.proofs.deserialize.load_two.Goals as goal
 
 pub returns-in-Ok-clause-ok : goal.returns-in-Ok-clause-ok
@@ -38,3 +40,12 @@ returns-in-Err-clause-leaves g c = some-first _ _ _ _ _ _ _ _ _ _ c.in-Err.ensur
 
 pub returns-in-Ok-clause-dead : goal.returns-in-Ok-clause-dead
 returns-in-Ok-clause-dead g c gone index = c.deserialize_entity.ensures.dead (λ alive. gone (c.deserialize_entity-in-Ok.ensures.keeps.live_on c.args.entity alive)) index
+
+pub returns-in-Ok-clause-stops : goal.returns-in-Ok-clause-stops
+returns-in-Ok-clause-stops g c =
+    on-refused c.deserialize_entity-in-Ok.result
+    (λ stops alive. inr (g.met.A.DeserializeComponents.kept _ _ c.args.saved.0 _ c.deserialize_entity-in-Ok.ensures.keeps.keeps (c.in-Ok.ensures.ok alive), stops (c.deserialize_entity.ensures.keeps.live_on c.args.entity alive)))
+    c.deserialize_entity-in-Ok.ensures.stops
+
+pub returns-in-Err-clause-stops : goal.returns-in-Err-clause-stops
+returns-in-Err-clause-stops g c alive = inl (c.in-Err.ensures.stops alive, refl)

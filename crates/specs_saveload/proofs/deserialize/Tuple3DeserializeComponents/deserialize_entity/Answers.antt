@@ -3,6 +3,8 @@ use Rattle.std.proofs.lemmas.Result.{IfErr-weaker, on_ok_weaker}
 use Rattle.specs_saveload.specs.LoadingLemmas.{three-of}
 use Rattle.specs_saveload.proofs.LoadLemmas.{asks-both, goes-both, refused-left, refused-right}
 use Rattle.specs_saveload.proofs.RetrieveLemmas.{each-both, some-first, some-second}
+use Rattle.std.proofs.Common.{inl, inr, refl}
+use Rattle.specs_saveload.proofs.StopLemmas.{on-refused}
 use Rattle.specs_saveload.proofs.deserialize.Tuple3DeserializeComponents.deserialize_entity.Goals as goal
 
 pub returns-in-Ok-clause-ok : goal.returns-in-Ok-clause-ok
@@ -43,3 +45,12 @@ returns-in-Ok-clause-dead g c gone index =
     let two = c.load_two.ensures.dead gone index in
     let three = c.load_two.ensures.dead_too gone index in
     λ i. (one i, two i, three i)
+
+pub returns-in-Ok-clause-stops : goal.returns-in-Ok-clause-stops
+returns-in-Ok-clause-stops g c =
+    on-refused c.load_two.result
+    (λ stops alive. inr (g.met.A.DeserializeComponents.kept _ _ c.args.saved.0 _ c.load_two.ensures.keeps.keeps (c.in-Ok.ensures.ok alive), stops (c.deserialize_entity.ensures.keeps.live_on c.args.entity alive)))
+    c.load_two.ensures.stops
+
+pub returns-in-Err-clause-stops : goal.returns-in-Err-clause-stops
+returns-in-Err-clause-stops g c alive = inl (c.in-Err.ensures.stops alive, refl)

@@ -3,6 +3,8 @@ use Rattle.std.proofs.lemmas.Result.{IfErr-weaker, on_ok_weaker}
 use Rattle.specs_saveload.specs.LoadingLemmas.{both-are, both-kept}
 use Rattle.specs_saveload.proofs.LoadLemmas.{asks-both, goes-both, refused-left, refused-right}
 use Rattle.specs_saveload.proofs.RetrieveLemmas.{each-both, some-first, some-second}
+use Rattle.std.proofs.Common.{inl, inr, refl}
+use Rattle.specs_saveload.proofs.StopLemmas.{on-refused}
 use Rattle.specs_saveload.proofs.deserialize.Tuple4DeserializeComponents.deserialize_entity.Goals as goal
 
 pub returns-in-Ok-clause-ok : goal.returns-in-Ok-clause-ok
@@ -47,3 +49,18 @@ returns-in-Ok-clause-leaves g c = IfErr-weaker c.load_two-in-Ok.result _ _ (λ e
 
 pub returns-in-Err-clause-leaves : goal.returns-in-Err-clause-leaves
 returns-in-Err-clause-leaves g c = some-first _ _ _ _ _ _ _ _ _ _ c.in-Err.ensures.leaves
+
+pub returns-in-Ok-clause-stops : goal.returns-in-Ok-clause-stops
+returns-in-Ok-clause-stops g c =
+    on-refused c.load_two-in-Ok.result
+    (λ stops alive. inr (
+      both-kept _ _ _ _ _
+          (λ part. g.met.A.DeserializeComponents.kept _ _ c.args.saved.0.0 part c.load_two-in-Ok.ensures.keeps.keeps)
+          (λ part. g.met.B.DeserializeComponents.kept _ _ c.args.saved.0.1 part c.load_two-in-Ok.ensures.keeps.keeps)
+          (c.in-Ok.ensures.ok alive),
+      stops (c.load_two.ensures.keeps.live_on c.args.entity alive),
+    ))
+    c.load_two-in-Ok.ensures.stops
+
+pub returns-in-Err-clause-stops : goal.returns-in-Err-clause-stops
+returns-in-Err-clause-stops g c alive = inl (c.in-Err.ensures.stops alive, refl)
