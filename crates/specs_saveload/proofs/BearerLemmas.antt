@@ -16,7 +16,7 @@ use Rattle.specs_saveload.proofs.KnownLemmas.{bearer-known, known-bearer}
 
 -- ---- who was born
 
-counted : (fresh : Bool) (last : Option Life) (life : Life) → living_of fresh last ≡ Some life → life.number ≤ number_of last + cond fresh 1 0
+pub counted : (fresh : Bool) (last : Option Life) (life : Life) → living_of fresh last ≡ Some life → life.number ≤ number_of last + cond fresh 1 0
 counted true last life is = let same = ap (number_of) is in omega (arith, same)
 counted false None life is = absurd (false≢true (ap is_some is))
 counted false (Some one) life is = of-lives one.lives refl

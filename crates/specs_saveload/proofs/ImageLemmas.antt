@@ -49,6 +49,7 @@ module _ {A S M I : Type 0} (noted : A → I → Option LifeAt) (part_at : S →
         record {
           alive = both.0;
           marked = both.1;
+          bears = is;
           parts = there.has ∙ ap (λ (e : LifeAt). Some (has e.id)) same;
         }
 

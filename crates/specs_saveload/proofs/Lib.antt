@@ -10,6 +10,8 @@ pub mod ImageLemmas
 pub mod AskLemmas
 pub mod RetrieveLemmas
 pub mod GiftLemmas
+pub mod GiveLemmas
+pub mod StayLemmas
 pub mod StopLemmas
 pub mod RecursionLemmas
 pub mod OrderLemmas

@@ -1,7 +1,7 @@
 -- What is known of bearers after one was asked for and then others, and entries that are loaded one after the other.
-use Rattle.std.proofs.Common.{◌≡◌, ◌≢◌, ◌+◌, ◌<◌, ℕ, suc, List, [], ◌∷◌, ◌++◌, length, take, slice_get, Option, Some, inl, inr, refl, sym, subst, ap, ◌∙◌, append-nil, append_assoc, length-append, arith}
+use Rattle.std.proofs.Common.{◌≡◌, ◌≢◌, ◌+◌, ◌<◌, ℕ, zero, suc, List, [], ◌∷◌, ◌++◌, length, take, slice_get, Option, Some, inl, inr, refl, sym, subst, ap, ◌∙◌, append-nil, append_assoc, length-append, arith}
 use Rattle.std.proofs.Math.Seq.{take-append_seam}
-use Rattle.std.proofs.lemmas.Option.{same_Some}
+use Rattle.std.proofs.lemmas.Option.{same_Some, slice_get_within}
 use Rattle.specs_saveload.specs.declared.entity_data.EntityData.{EntityData}
 use Rattle.specs_entity.specs.Births.{Births}
 use Rattle.specs_entity.specs.declared.errors.Error.{Error}
@@ -59,12 +59,18 @@ module _ {A M I : Type 0} (refuses : A → Option I → Error → Type 0) (id_of
 
 -- ---- a list that is gone through
 
-at-seam : {X : Type 0} (done rest : List X) (next : X) (place : ℕ) → length done ≡ place → slice_get (done ++ next ∷ rest) place ≡ Some next
+pub at-seam : {X : Type 0} (done rest : List X) (next : X) (place : ℕ) → length done ≡ place → slice_get (done ++ next ∷ rest) place ≡ Some next
 at-seam done rest next place is = ap (slice_get (done ++ next ∷ rest)) (sym is) ∙ by done
   where
     by : (front : List _) → slice_get (front ++ next ∷ rest) (length front) ≡ Some next
     by [] = refl
     by (first ∷ more) = by more
+
+-- what stands in the first of two lists stands at that place in both together
+pub front-get : {X : Type 0} (xs more : List X) (k : ℕ) (x : X) → slice_get xs k ≡ Some x → slice_get (xs ++ more) k ≡ Some x
+front-get [] more k x is = absurd (let less = slice_get_within [] k x is in omega (arith, less))
+front-get (y ∷ xs) more zero x is = is
+front-get (y ∷ xs) more (suc k) x is = front-get xs more k x is
 
 pub one-less : {X : Type 0} (before after : List X) (first : X) (many few : ℕ) → many ≡ length before → before ≡ first ∷ after → few + 1 ≡ many → few ≡ length after
 one-less before after first many few count is less = let sum = ap length is in omega (arith, count, sum, less)
@@ -102,10 +108,10 @@ module _ {M D : Type 0} where
   one-further : (done : List (EntityData M D)) (next : EntityData M D) (place : ℕ) → length done ≡ place → length (done ++ next ∷ []) ≡ place + 1
   one-further done next place is = let sum = length-append done (next ∷ []) in omega (arith, sum)
 
-  taken : (done left : List (EntityData M D)) (place : ℕ) → length done ≡ place → take place (done ++ left) ≡ done
+  pub taken : (done left : List (EntityData M D)) (place : ℕ) → length done ≡ place → take place (done ++ left) ≡ done
   taken done left place is = ap (λ n. take n (done ++ left)) (sym is) ∙ take-append_seam done left
 
-  taken-next : (done rest : List (EntityData M D)) (next : EntityData M D) (place : ℕ) → length done ≡ place → take (place + 1) (done ++ next ∷ rest) ≡ done ++ next ∷ []
+  pub taken-next : (done rest : List (EntityData M D)) (next : EntityData M D) (place : ℕ) → length done ≡ place → take (place + 1) (done ++ next ∷ rest) ≡ done ++ next ∷ []
   taken-next done rest next place is =
       ap (take (place + 1)) (sym (append_assoc done (next ∷ []) rest)) ∙ taken (done ++ next ∷ []) rest (place + 1) (one-further done next place is)
 

@@ -1,20 +1,19 @@
 -- Bearers that are looked for one after the other: one list after another, and what stays so.
-use Rattle.std.proofs.Common.{◌≡◌, ◌≢◌, ◌⊎◌, ◌+◌, ◌<◌, ◌≤◌, ℕ, zero, suc, Bool, true, false, cond, List, [], ◌∷◌, ◌++◌, length, map, take, drop, slice_get, get_or, Option, Some, Result, Ok, Err, IfErr, inl, inr, refl, sym, subst, ap, ◌∙◌, append-nil, append_assoc, length-append, arith}
+use Rattle.std.proofs.Common.{◌≡◌, ◌+◌, ◌<◌, ℕ, zero, suc, Bool, true, false, cond, List, [], ◌∷◌, ◌++◌, length, map, take, drop, slice_get, get_or, Option, Some, Result, Ok, Err, IfErr, inl, inr, refl, sym, subst, ap, ◌∙◌, append-nil, append_assoc, length-append, arith}
 use Rattle.std.specs.List.{AllZip, flat_map}
 use Rattle.std.proofs.Math.Seq.{take-append_seam}
 use Rattle.std.proofs.lemmas.Grind.{flat_map-append}
-use Rattle.std.proofs.lemmas.List.{map-append, take-append-drop, take-append-le, take_all, take_more}
+use Rattle.std.proofs.lemmas.List.{map-append, take-append-drop, take-append-le, take_more}
 use Rattle.std.proofs.lemmas.List.Concat.{flat_map-cons}
 use Rattle.std.proofs.lemmas.Option.{slice_get_within}
-use Rattle.specs_entity.specs.Births.{Births}
 use Rattle.specs_entity.specs.Life.{LifeAt}
 use Rattle.specs_entity.specs.declared.errors.Error.{Error}
-use Rattle.specs_layouts.specs.Masked.{Masked}
 use Rattle.specs_layouts.specs.MaskedLends.{StorageMembers}
-use Rattle.specs_markers.specs.Marking.{RefusesRetrieval, Retrieves}
+use Rattle.specs_markers.specs.Marking.{RefusesRetrieval}
 use Rattle.specs_saveload.specs.declared.entity_data.EntityData.{EntityData}
 use Rattle.specs_saveload.specs.Finding.{AreBearers}
 use Rattle.specs_saveload.specs.Known.{Known}
+use Rattle.specs_saveload.proofs.LoadLemmas.{front-get}
 use Rattle.specs_saveload.specs.Retrieved.{RefusesNext, Retrieved, Retrievals, RetrievesEach, RetrievesFoundSome, RetrievesLoaded, RetrievesLoadedSome, RetrievesSome}
 
 module _ {A S M I : Type 0} (noted : A → I → Option LifeAt) (allocates : A → LifeAt → Option I → M → A → Type 0) (id_of : M → I) (s : StorageMembers S M) where
@@ -191,10 +190,6 @@ module _ {A S M I D : Type 0} (noted : A → I → Option LifeAt) (allocates : A
         (some-second noted allocates id_of s refuses error (map marker_of (take place list)) (entry.marker ∷ map marker_of (drop (place + 1) list)) before between after each
         (some-first noted allocates id_of s refuses error (entry.marker ∷ []) (map marker_of (drop (place + 1) list)) between after some))
 
-  pub entries-all : (list : List (EntityData M D)) (place : ℕ) (before after : Known A S) → RetrievesEach noted allocates id_of s (map (λ (entry : EntityData M D). entry.marker) (take place list)) before after → length list ≤ place
-      → RetrievesEach noted allocates id_of s (map (λ (entry : EntityData M D). entry.marker) list) before after
-  entries-all list place before after each ended = subst (λ (l : List (EntityData M D)). RetrievesEach noted allocates id_of s (map marker_of l) before after) (take_all place list ended) each
-
   -- ---- what the data of entries names
 
   module _ (markers_of : D → List M) where
@@ -257,11 +252,6 @@ module _ {A S M I D : Type 0} (noted : A → I → Option LifeAt) (allocates : A
         earlier = subst (λ l. RetrievesEach noted allocates id_of s (named_by l) before after) cut each;
         own = none-retrieved noted allocates id_of s refuses error (markers_of entry.components) after;
       }
-
-      front-get : (xs more : List (EntityData M D)) (k : ℕ) (x : EntityData M D) → slice_get xs k ≡ Some x → slice_get (xs ++ more) k ≡ Some x
-      front-get [] more k x is = absurd (let less = slice_get_within [] k x is in omega (arith, less))
-      front-get (y ∷ xs) more zero x is = is
-      front-get (y ∷ xs) more (suc k) x is = front-get xs more k x is
 
       -- what stops among the first entries of a list stops in it
       pub data-in-front : (list front : List (EntityData M D)) (far place : ℕ) (before after : Known A S) → front ≡ take far list → RetrievesFoundSome noted allocates id_of s markers_of front refuses place error before after → RetrievesFoundSome noted allocates id_of s markers_of list refuses place error before after

@@ -6,7 +6,7 @@ use Rattle.specs_entity.specs.Life.{LifeAt}
 use Rattle.specs_saveload.specs.declared.entity_data.EntityData.{EntityData}
 use Rattle.specs_saveload.specs.Bearing.{GoesOn, IsAmong}
 use Rattle.specs_saveload.specs.Known.{IsSound, Known, LivesIn, bearer_at}
-use Rattle.specs_saveload.specs.Loading.{AreApart, AreInOrder, IsLoaded, StandsIn}
+use Rattle.specs_saveload.specs.Loading.{AreApart, AreInOrder, GivesEach, IsLoaded, RefusesParts, StandsIn}
 
 -- the marker of each entry of a list has its bearer, and those of different markers are at different indices
 pub record AreFound {M D : Type 0} (bearers : M → Option LifeAt) (list : List (EntityData M D)) : Type 0 where
@@ -49,3 +49,9 @@ module _ {A S M I D P : Type 0} (noted : A → I → Option LifeAt) (part_at : S
     pub keeps : GoesOn (bearer_at noted part_at id_of) LivesIn before after
     pub loaded : AreFound (bearer_at noted part_at id_of before) list → AreApart list → (entry : EntityData M D) → IsAmong entry (take place list) → IsLoaded load (bearer_at noted part_at id_of after) has entry
     pub others : (index : ℕ) → ((entry : EntityData M D) (entity : LifeAt) → IsAmong entry (take (place + 1) list) → bearer_at noted part_at id_of after entry.marker ≡ Some entity → index ≢ entity.id) → has index ≡ had index
+
+-- the entries before a place were given their parts, one after the other, and then those of the one there are refused
+pub record GivesThenRefuses {M D P C : Type 0} (load : (M → Option LifeAt) → D → Option P) (gives : ℕ → P → C → C → Type 0) (bearers : M → Option LifeAt) (stops : (M → Option LifeAt) → D → ℕ → C → C → Type 0) (list : List (EntityData M D)) (place : ℕ) (before after : C) : Type 0 where
+  pub between : C
+  pub each : GivesEach load gives bearers (take place list) before between
+  pub refused : RefusesParts load gives bearers stops list place between after

@@ -26,10 +26,11 @@ pub record NamesUnmarked {M P : Type 0} (refers_to : P → List LifeAt) (parts_a
   pub unmarked : name_of births markers named ≡ None
 
 module _ {M D P : Type 0} (load : (M → Option LifeAt) → D → Option P) (list : List (EntityData M D)) (births : Births) (markers : ℕ → Option M) (bearers : M → Option LifeAt) (had has : ℕ → P) where
-  -- an entity is alive, bears the marker of an entry, and has just the parts of its data
+  -- an entity is alive, bears the marker of an entry and is known by it, and has just the parts of its data
   pub record IsImageOf (entry : EntityData M D) (entity : LifeAt) : Type 0 where
     pub alive : IsAlive births entity
     pub marked : markers entity.id ≡ Some entry.marker
+    pub bears : bearers entry.marker ≡ Some entity
     pub parts : load bearers entry.components ≡ Some (has entity.id)
 
   -- there is an entity for each entry, and no other; each marker stands for the entity that bears it; and other indices have what they had

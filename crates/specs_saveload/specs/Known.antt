@@ -40,6 +40,10 @@ module _ {A S M I : Type 0} (noted : A → I → Option LifeAt) (part_at : S →
     pub named : (marker : M) (entity : LifeAt) → bearer_at known marker ≡ Some entity → option_map id_of (part_at known.markers.inner entity.id) ≡ Some (id_of marker)
     pub born : (id : I) (entity : LifeAt) → noted known.allocator id ≡ Some entity → IsBorn known.births entity
 
+-- a marker stands only where an entity lives
+pub record IsClean {A S M : Type 0} (part_at : S → ℕ → Option M) (known : Known A S) : Type 0 where
+  pub unmarked : (index : ℕ) → living known.births index ≡ None → part_at known.markers.inner index ≡ None
+
 module _ {A S M I : Type 0} (noted : A → I → Option LifeAt) (part_at : S → ℕ → Option M) (id_of : M → I) where
   -- the entity that bears a marker
   abbrev pub bearer_in : Births → A → Masked S → M → Option LifeAt

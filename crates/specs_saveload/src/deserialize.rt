@@ -2,12 +2,14 @@
 ghost use Rattle.std.specs.Prelude.{◌≡◌, ◌≢◌, ◌<◌, [], ◌∷◌, ◌++◌, ℕ, List, flat_map, length, map, slice_get, take};
 ghost use Rattle.std.specs.Prelude.{Option, Some, IfOk, IfErr, OnOk, OnErr};
 ghost use Rattle.specs_entity.specs.declared.ids.Entity.{Entity};
-ghost use Rattle.specs_layouts.specs.MaskedChanges.{KeepsParts, PutsIn};
 ghost use Rattle.specs_join.specs.Joins.{both};
 ghost use Rattle.specs_saveload.specs.Bearing.{IsAmong};
 ghost use Rattle.specs_saveload.specs.Finding.{AreBearers, Finds, FindsBefore, LoadsFound, LoadsFoundBefore};
-ghost use Rattle.specs_saveload.specs.Known.{AddsBearers, AddsBirth, KeepsBearers, RefusesBearers, bearer_in, known_of};
-ghost use Rattle.specs_saveload.specs.Loading.{IsLoaded, Loads, LoadsBefore, RefusesEntry, RefusesLoad, StopsInPair};
+ghost use Rattle.specs_saveload.specs.Finding.{GivesThenRefuses};
+ghost use Rattle.specs_saveload.specs.Loading.{AreGivenParts, GivesEach, GivesEntry, GivesPart, GivesUntil};
+ghost use Rattle.specs_saveload.specs.Loading.{StaysAsItWas};
+ghost use Rattle.specs_saveload.specs.Known.{AddsBearers, AddsBirth, IsClean, KeepsBearers, RefusesBearers, bearer_in, known_of};
+ghost use Rattle.specs_saveload.specs.Loading.{IsLoaded, Loads, LoadsBefore, RefusesEntry, RefusesLoad, StaysSound, StopsInPair};
 ghost use Rattle.specs_saveload.specs.Retrieved.{RetrievesEach, RetrievesFoundSome, RetrievesLoaded};
 ghost use Rattle.specs_saveload.specs.Retrieved.{RetrievesLoadedSome, RetrievesSome};
 ghost use Rattle.specs_saveload.specs.Saved.{named_in, plain_in};
@@ -35,9 +37,12 @@ pub trait DeserializeComponents<M: SavedMarker>: SerializeComponents<M> {
     /// The parts of data, under a map from marker to entity; none where a marker has none.
     ghost loaded: { (M → Option Entity) → Self.Data → Option Self.Parts };
 
-    /// What the parts at an index become where one of data is refused, from what they were: those before it are
-    /// loaded, and the others stay.
-    ghost stops: { (M → Option Entity) → Self.Data → Self.Parts → Self.Parts → Type 0 };
+    /// What giving an index these parts makes of the storages, the events with it that tell of each.
+    ghost gives: { ℕ → Self.Parts → Self → Self → Type 0 };
+
+    /// What is left of the storages where one of the parts of data is refused to an index: those before it are given,
+    /// the others stay.
+    ghost stops: { (M → Option Entity) → Self.Data → ℕ → Self → Self → Type 0 };
 
     /// Gives a living entity the parts of data, and takes from it those that are absent there. A dead one gets none.
     ///
@@ -67,13 +72,14 @@ pub trait DeserializeComponents<M: SavedMarker>: SerializeComponents<M> {
             (markers_of saved)) }
         ensures keeps { KeepsBearers G.noted M.Storage.part_at M.id_of
             entities.old entities.new allocator.old allocator.new markers.old markers.new }
+        ensures gives { OnOk result (IsAlive entities.old entity → AreGivenParts
+            (loaded (bearer_in G.noted M.Storage.part_at M.id_of entities.new allocator.new markers.new) saved)
+            (gives entity.id) self.old self.new) }
         ensures stops { OnErr result (IsAlive entities.old entity → stops (bearer_in G.noted M.Storage.part_at M.id_of
-            entities.new allocator.new markers.new) saved (Self.parts_at self.old entity.id)
-            (Self.parts_at self.new entity.id)) }
+            entities.new allocator.new markers.new) saved entity.id self.old self.new) }
         ensures others { (index : ℕ) → index ≢ entity.id → Self.parts_at self.new index ≡ Self.parts_at self.old
             index }
-        ensures dead { ¬ (IsAlive entities.new entity)
-            → (index : ℕ) → Self.parts_at self.new index ≡ Self.parts_at self.old index };
+        ensures dead { ¬ (IsAlive entities.new entity) → self.new ≡ self.old };
 
     /// Loads the entries of a list. First the entity that bears an entry's marker is found, or made where there is
     /// none, entry after entry; then each has, in the same order, just the parts of its entry's data. So those that
@@ -113,6 +119,15 @@ pub trait DeserializeComponents<M: SavedMarker>: SerializeComponents<M> {
             list.items
             (RefusesBearers G.refuses M.id_of) (known_of entities.old allocator.old markers.old)
             (known_of entities.new allocator.new markers.new) refused.place refused.error) }
+        ensures gives { OnOk result (GivesEach loaded gives (bearer_in G.noted M.Storage.part_at M.id_of
+            entities.new allocator.new markers.new) list.items self.old self.new) }
+        ensures stops { IfErr result (λ refused. GivesUntil loaded gives (bearer_in G.noted M.Storage.part_at M.id_of
+            entities.new allocator.new markers.new) stops list.items refused.place self.old self.new) }
+        ensures clean { OnOk result (IsClean M.Storage.part_at (known_of entities.old allocator.old markers.old)
+            → IsClean M.Storage.part_at (known_of entities.new allocator.new markers.new)) }
+        ensures stays { OnErr result (StaysSound G.noted M.Storage.part_at M.id_of markers_of list.items
+            (known_of entities.old allocator.old markers.old)
+            (known_of entities.new allocator.new markers.new)) }
     {
         load_all(self, alloc, list, entities, markers, allocator)
     }
@@ -173,8 +188,10 @@ fn settle<C: Component>(
     part: Option<C>,
 ) -> Result<(), AllocError>
     requires { id < 16777216 }
-    ensures ok { OnOk result (PutsIn C.Storage.part_at storage.old id part storage.new) }
-    ensures err { OnErr result (KeepsParts C.Storage.part_at storage.old storage.new) }
+    ensures ok { OnOk result (GivesPart C.Storage.part_at C.Storage.emits C.Storage.events id part storage.old
+        storage.new) }
+    ensures err { OnErr result (StaysAsItWas C.Storage.part_at C.Storage.emits C.Storage.events storage.old
+        storage.new) }
 {
     match part {
         Some(part) => {
@@ -218,18 +235,24 @@ where
         (A.markers_of saved.0 ++ B.markers_of saved.1)) }
     ensures keeps { KeepsBearers G.noted M.Storage.part_at M.id_of
         entities.old entities.new allocator.old allocator.new markers.old markers.new }
+    ensures gives { OnOk result (IsAlive entities.old entity → AreGivenParts
+        (A.loaded (bearer_in G.noted M.Storage.part_at M.id_of entities.new allocator.new markers.new) saved.0)
+        (A.gives entity.id) one.old one.new) }
+    ensures gives_too { OnOk result (IsAlive entities.old entity → AreGivenParts
+        (B.loaded (bearer_in G.noted M.Storage.part_at M.id_of entities.new allocator.new markers.new) saved.1)
+        (B.gives entity.id) other.old other.new) }
     ensures stops { OnErr result (IsAlive entities.old entity → StopsInPair
         (A.loaded (bearer_in G.noted M.Storage.part_at M.id_of entities.new allocator.new markers.new))
-        (A.stops (bearer_in G.noted M.Storage.part_at M.id_of entities.new allocator.new markers.new))
-        (B.stops (bearer_in G.noted M.Storage.part_at M.id_of entities.new allocator.new markers.new))
-        saved (A.parts_at one.old entity.id, B.parts_at other.old entity.id)
-        (A.parts_at one.new entity.id, B.parts_at other.new entity.id)) }
+        (A.gives entity.id)
+        (λ saved. A.stops (bearer_in G.noted M.Storage.part_at M.id_of entities.new allocator.new markers.new) saved
+        entity.id)
+        (λ saved. B.stops (bearer_in G.noted M.Storage.part_at M.id_of entities.new allocator.new markers.new) saved
+        entity.id)
+        saved (one.old, other.old) (one.new, other.new)) }
     ensures others { (index : ℕ) → index ≢ entity.id → A.parts_at one.new index ≡ A.parts_at one.old index }
     ensures others_too { (index : ℕ) → index ≢ entity.id → B.parts_at other.new index ≡ B.parts_at other.old index }
-    ensures dead { ¬ (IsAlive entities.new entity) → (index : ℕ) → A.parts_at one.new index ≡ A.parts_at one.old
-        index }
-    ensures dead_too { ¬ (IsAlive entities.new entity)
-        → (index : ℕ) → B.parts_at other.new index ≡ B.parts_at other.old index }
+    ensures dead { ¬ (IsAlive entities.new entity) → one.new ≡ one.old }
+    ensures dead_too { ¬ (IsAlive entities.new entity) → other.new ≡ other.old }
 {
     let (first, second) = saved;
     match one.deserialize_entity(alloc, entity, first, entities, markers, allocator) {
@@ -241,6 +264,7 @@ where
 /// The parts of one kind.
 impl<M: SavedMarker, C: Component + ConvertSaveload<M>> DeserializeComponents<M>
     for MaskedStorage<C> {
+    ghost use Rattle.specs_saveload.specs.Loading.{GivesPart, StaysAsItWas};
     ghost use Rattle.specs_saveload.specs.Saved.{named_in, plain_in};
     ghost use Rattle.specs_saveload.specs.LoadingLemmas.{option-back, option-kept, option-stands};
 
@@ -248,7 +272,11 @@ impl<M: SavedMarker, C: Component + ConvertSaveload<M>> DeserializeComponents<M>
 
     ghost loaded = { λ bearers. plain_in (C.loaded bearers) };
 
-    ghost stops = { λ bearers saved before after. after ≡ before };
+    ghost gives = { λ index part before after. GivesPart C.Storage.part_at C.Storage.emits C.Storage.events index
+        part before after };
+
+    ghost stops = { λ bearers saved index before after. StaysAsItWas C.Storage.part_at C.Storage.emits C.Storage.events
+        before after };
 
     fn deserialize_entity<G: MarkerAllocator<M>>(
         &mut self,
@@ -290,7 +318,11 @@ impl<
 
     ghost loaded = { λ bearers saved. both (A.loaded bearers saved.0) (B.loaded bearers saved.1) };
 
-    ghost stops = { λ bearers. StopsInPair (A.loaded bearers) (A.stops bearers) (B.stops bearers) };
+    ghost gives = { λ index parts before after. A.gives index parts.0 before.0 after.0
+        × B.gives index parts.1 before.1 after.1 };
+
+    ghost stops = { λ bearers saved index before after. StopsInPair (A.loaded bearers) (A.gives index)
+        (λ saved. A.stops bearers saved index) (λ saved. B.stops bearers saved index) saved before after };
 
     fn deserialize_entity<G: MarkerAllocator<M>>(
         &mut self,
@@ -343,8 +375,13 @@ impl<
     ghost loaded = { λ bearers saved. all_three (A.loaded bearers saved.0) (B.loaded bearers saved.1)
         (C.loaded bearers saved.2) };
 
-    ghost stops = { λ bearers saved before after. StopsInPair (A.loaded bearers) (A.stops bearers)
-        (StopsInPair (B.loaded bearers) (B.stops bearers) (C.stops bearers))
+    ghost gives = { λ index parts before after. A.gives index parts.0 before.0 after.0
+        × B.gives index parts.1 before.1 after.1 × C.gives index parts.2 before.2 after.2 };
+
+    ghost stops = { λ bearers saved index before after. StopsInPair (A.loaded bearers) (A.gives index)
+        (λ saved. A.stops bearers saved index)
+        (StopsInPair (B.loaded bearers) (B.gives index) (λ saved. B.stops bearers saved index)
+        (λ saved. C.stops bearers saved index))
         (saved.0, (saved.1, saved.2)) (before.0, (before.1, before.2)) (after.0, (after.1, after.2)) };
 
     fn deserialize_entity<G: MarkerAllocator<M>>(
@@ -410,9 +447,18 @@ impl<
     ghost loaded = { λ bearers saved. both (both (A.loaded bearers saved.0.0) (B.loaded bearers saved.0.1))
         (both (C.loaded bearers saved.1.0) (D.loaded bearers saved.1.1)) };
 
-    ghost stops = { λ bearers. StopsInPair (λ two. both (A.loaded bearers two.0) (B.loaded bearers two.1))
-        (StopsInPair (A.loaded bearers) (A.stops bearers) (B.stops bearers))
-        (StopsInPair (C.loaded bearers) (C.stops bearers) (D.stops bearers)) };
+    ghost gives = { λ index parts before after. A.gives index parts.0.0 before.0 after.0
+        × B.gives index parts.0.1 before.1 after.1 × C.gives index parts.1.0 before.2 after.2
+        × D.gives index parts.1.1 before.3 after.3 };
+
+    ghost stops = { λ bearers saved index before after. StopsInPair
+        (λ two. both (A.loaded bearers two.0) (B.loaded bearers two.1))
+        (λ two before after. A.gives index two.0 before.0 after.0 × B.gives index two.1 before.1 after.1)
+        (StopsInPair (A.loaded bearers) (A.gives index) (λ saved. A.stops bearers saved index)
+        (λ saved. B.stops bearers saved index))
+        (StopsInPair (C.loaded bearers) (C.gives index) (λ saved. C.stops bearers saved index)
+        (λ saved. D.stops bearers saved index))
+        saved ((before.0, before.1), (before.2, before.3)) ((after.0, after.1), (after.2, after.3)) };
 
     fn deserialize_entity<G: MarkerAllocator<M>>(
         &mut self,
@@ -607,6 +653,12 @@ fn load_one<M: SavedMarker, S: DeserializeComponents<M>, A: MarkerAllocator<M>>(
     ensures elsewhere { (index : ℕ) → ((entity : Entity) → bearer_in A.noted M.Storage.part_at M.id_of
         entities.new allocator.new markers.new entry.marker ≡ Some entity → index ≢ entity.id)
         → S.parts_at storages.new index ≡ S.parts_at storages.old index }
+    ensures gives { OnOk result (GivesEntry S.loaded S.gives (bearer_in A.noted M.Storage.part_at M.id_of
+        entities.new allocator.new markers.new) entry storages.old storages.new) }
+    ensures stops { OnErr result ((bearer_in A.noted M.Storage.part_at M.id_of
+        entities.new allocator.new markers.new entry.marker ≡ Some entity)
+        × S.stops (bearer_in A.noted M.Storage.part_at M.id_of entities.new allocator.new markers.new)
+        entry.components entity.id storages.old storages.new) }
 {
     let EntityData {
         marker: _,
@@ -643,6 +695,11 @@ fn load_each<M: SavedMarker, S: DeserializeComponents<M>, A: MarkerAllocator<M>>
         (known_of entities.new allocator.new markers.new)) }
     ensures refused { IfErr result (λ refused. RefusesEntry S.markers_of list.items
         (RefusesBearers A.refuses M.id_of entities.new allocator.new) refused.place refused.error) }
+    ensures gives { OnOk result (GivesEach S.loaded S.gives (bearer_in A.noted M.Storage.part_at M.id_of
+        entities.new allocator.new markers.new) list.items storages.old storages.new) }
+    ensures stops { IfErr result (λ refused. GivesThenRefuses S.loaded S.gives (bearer_in A.noted M.Storage.part_at
+        M.id_of entities.new allocator.new markers.new) S.stops list.items refused.place storages.old
+        storages.new) }
 {
     let _count = list.as_slice().len();
     let mut place = 0;
@@ -683,6 +740,11 @@ fn load_all<M: SavedMarker, S: DeserializeComponents<M>, A: MarkerAllocator<M>>(
     ensures refused { IfErr result (λ refused. RefusesLoad A.noted M.Storage.part_at M.id_of S.markers_of list.items
         (RefusesBearers A.refuses M.id_of) (known_of entities.old allocator.old markers.old)
         (known_of entities.new allocator.new markers.new) refused.place refused.error) }
+    ensures gives { OnOk result (GivesEach S.loaded S.gives (bearer_in A.noted M.Storage.part_at M.id_of
+        entities.new allocator.new markers.new) list.items storages.old storages.new) }
+    ensures stops { IfErr result (λ refused. GivesUntil S.loaded S.gives (bearer_in A.noted M.Storage.part_at
+        M.id_of entities.new allocator.new markers.new) S.stops list.items refused.place storages.old
+        storages.new) }
 {
     let mut found = Vec::new(alloc);
     match find_all(list.as_slice(), &mut found, entities, markers, allocator) {

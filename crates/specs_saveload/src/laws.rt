@@ -46,7 +46,7 @@ pub fn none_is_written_as_null<T: JsonForm>(alloc: Global, value: &T) -> Result<
 /// A list whose markers differ, and whose data names its own markers alone, is loaded where nobody lives and nothing
 /// is noted: then there is one entity for each entry and no other. Each bears its entry's marker and has just the
 /// parts of its data, in which each marker stands for the entity that bears it. Where no index waits to be used again,
-/// as in a new world, it is the same list when it is saved again.
+/// as in a new world, it is the same list when it is saved again. What gives markers changed by gifts alone.
 pub fn a_loaded_list_is_saved_again<
     M: SavedMarker,
     S: DeserializeComponents<M>,
@@ -68,6 +68,7 @@ pub fn a_loaded_list_is_saved_again<
         (S.parts_at storages.old) (S.parts_at storages.new)) }
     ensures back { OnOk result (entities.old.cache ≡ [] → saved S.plain (S.parts_at storages.new) entities.new
         (M.Storage.part_at markers.new.inner) ≡ Some list.items) }
+    ensures given { AreGiven A.allocates allocator.old allocator.new }
 {
     let result = storages.deserialize(alloc, list, entities, markers, allocator);
     the_living_are_below_the_limit(entities);

@@ -4,6 +4,7 @@ use Rattle.specs_saveload.specs.Known.{RefusesBearers}
 use Rattle.specs_saveload.proofs.LoadLemmas.{refused-left}
 use Rattle.specs_saveload.proofs.FindLemmas.{both-load, first-refuses, first-stops, front-refuses, front-stops, if-err-by, second-refuses, second-stops}
 use Rattle.specs_saveload.proofs.RetrieveLemmas.{bear-front, bear-shown, data-before, data-in-front, entry-shown, loaded-all, loaded-some, loaded-stops}
+use Rattle.specs_saveload.proofs.GiveLemmas.{give-before, give-in-front, give-until}
 use Rattle.specs_saveload.proofs.deserialize.load_all.Goals as goal
 
 pub returns-in-Ok-clause-ok : goal.returns-in-Ok-clause-ok
@@ -62,3 +63,12 @@ pub returns-clause-leaves : goal.returns-clause-leaves
 returns-clause-leaves g c =
     loaded-some _ _ _ _ _ _ _ c.as_slice.ensures.value _ _ _ _ _ _ _ c.in-Err.ensures.leaves
     (data-in-front _ _ _ _ _ _ _ _ _ _ _ _ _ c.truncate.ensures.items c.in-Err-load_each.ensures.leaves)
+
+pub returns-in-Ok-clause-stops : goal.returns-in-Ok-clause-stops
+returns-in-Ok-clause-stops g c = IfErr-weaker c.load_each.result _ _ (λ refused then. give-until _ _ _ _ _ _ _ _ then) c.load_each.ensures.stops
+
+pub returns-in-Ok-load_each-clause-stops : goal.returns-in-Ok-load_each-clause-stops
+returns-in-Ok-load_each-clause-stops g c = give-before _ _ _ _ _ _ _ _ _ c.truncate.ensures.items c.in-Ok-load_each.ensures.gives
+
+pub returns-clause-stops : goal.returns-clause-stops
+returns-clause-stops g c = give-in-front _ _ _ _ _ _ _ _ _ _ c.truncate.ensures.items c.in-Err-load_each.ensures.stops

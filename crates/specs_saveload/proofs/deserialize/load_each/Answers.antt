@@ -2,6 +2,7 @@ use Rattle.std.proofs.Common.{◌≡◌, length, refl, sym, ap, ◌∙◌, arith
 use Rattle.std.specs.Vec.Iter.{into_iter_len}
 use Rattle.specs_saveload.proofs.LoadLemmas.{loading-begins, loading-ends, loading-goes-on, loading-refuses, loading-stops, none-left, one-less, place-inside}
 use Rattle.specs_saveload.proofs.RetrieveLemmas.{bear-at, data-all, data-next, data-stops}
+use Rattle.specs_saveload.proofs.GiveLemmas.{give-all, give-next, give-stops}
 use Rattle.specs_saveload.proofs.deserialize.load_each.Goals as goal
 
 pub loop-entry-init : goal.loop-entry-init
@@ -11,6 +12,7 @@ loop-entry-init g c =
       len = into.1 ∙ (sym c.as_slice-count.ensures.len ∙ (ap length c.as_slice-count.ensures.value ∙ ap length (sym into.0)));
       loading = loading-begins _ _ _ _ _ _ _ _ _ into.0;
       each = record { steps = refl };
+      given = record { steps = refl };
     }
 
 pub overflow_add-place : goal.overflow_add-place
@@ -39,6 +41,7 @@ loop-entry-preserved g c =
       len = one-less _ _ c.in-Some.entry _ _ c.loop-entry.invariant.len c.in-Some.ensures.steps.0 c.in-Some.ensures.steps.1;
       loading = loading-goes-on _ _ _ _ _ _ _ g.met.S.DeserializeComponents.kept _ _ _ c.in-Some.entry _ _ _ _ _ loading c.in-Some.ensures.steps.0 c.load_one.ensures.keeps c.load_one.ensures.elsewhere c.in-Ok.ensures.adds c.in-Ok.ensures.ok;
       each = data-next _ _ _ _ _ _ _ _ _ c.in-Some.entry _ _ _ _ loading.whole c.in-Some.ensures.steps.0 loading.count c.loop-entry.invariant.each c.in-Ok.ensures.retrieves;
+      given = give-next _ _ g.met.S.DeserializeComponents.kept _ _ c.load_one.ensures.keeps.keeps _ _ _ _ c.in-Some.entry _ _ _ _ loading.whole c.in-Some.ensures.steps.0 loading.count c.loop-entry.invariant.given c.in-Ok.ensures.gives;
     }
 
 pub returns-in-Err-clause-err : goal.returns-in-Err-clause-err
@@ -62,3 +65,13 @@ returns-clause-retrieves g c =
 pub returns-in-Err-clause-refused : goal.returns-in-Err-clause-refused
 returns-in-Err-clause-refused g c =
     loading-refuses _ _ _ _ _ _ _ g.met.S.DeserializeComponents.kept _ _ _ c.in-Some.entry _ _ _ _ _ c.loop-entry.invariant.loading c.in-Some.ensures.steps.0 c.load_one.ensures.keeps c.load_one.ensures.elsewhere _ _ c.in-Err.ensures.refused
+
+pub returns-clause-gives : goal.returns-clause-gives
+returns-clause-gives g c =
+    let loading = c.loop-entry.invariant.loading in
+    give-all _ _ _ _ _ _ _ _ _ loading.whole (none-left _ _ c.loop-entry.invariant.len c.in-None.ensures.steps.0) loading.count c.loop-entry.invariant.given
+
+pub returns-in-Err-clause-stops : goal.returns-in-Err-clause-stops
+returns-in-Err-clause-stops g c =
+    let loading = c.loop-entry.invariant.loading in
+    give-stops _ _ g.met.S.DeserializeComponents.kept _ _ c.load_one.ensures.keeps.keeps _ _ _ _ _ c.in-Some.entry _ _ _ _ _ loading.whole c.in-Some.ensures.steps.0 loading.count c.loop-entry.invariant.given c.in-Err.ensures.stops

@@ -4,6 +4,7 @@ use Rattle.specs_saveload.proofs.LoadLemmas.{asks-both, goes-both, refused-left,
 use Rattle.specs_saveload.proofs.RetrieveLemmas.{each-both, some-first, some-second}
 use Rattle.std.proofs.Common.{inl, inr, refl}
 use Rattle.specs_saveload.proofs.StopLemmas.{on-refused}
+use Rattle.specs_saveload.proofs.GiveLemmas.{given-kept}
 use Rattle.specs_saveload.proofs.deserialize.load_two.Goals as goal
 
 pub returns-in-Ok-clause-ok : goal.returns-in-Ok-clause-ok
@@ -39,13 +40,23 @@ pub returns-in-Err-clause-leaves : goal.returns-in-Err-clause-leaves
 returns-in-Err-clause-leaves g c = some-first _ _ _ _ _ _ _ _ _ _ c.in-Err.ensures.leaves
 
 pub returns-in-Ok-clause-dead : goal.returns-in-Ok-clause-dead
-returns-in-Ok-clause-dead g c gone index = c.deserialize_entity.ensures.dead (λ alive. gone (c.deserialize_entity-in-Ok.ensures.keeps.live_on c.args.entity alive)) index
+returns-in-Ok-clause-dead g c gone = c.deserialize_entity.ensures.dead (λ alive. gone (c.deserialize_entity-in-Ok.ensures.keeps.live_on c.args.entity alive))
 
 pub returns-in-Ok-clause-stops : goal.returns-in-Ok-clause-stops
 returns-in-Ok-clause-stops g c =
     on-refused c.deserialize_entity-in-Ok.result
-    (λ stops alive. inr (g.met.A.DeserializeComponents.kept _ _ c.args.saved.0 _ c.deserialize_entity-in-Ok.ensures.keeps.keeps (c.in-Ok.ensures.ok alive), stops (c.deserialize_entity.ensures.keeps.live_on c.args.entity alive)))
+    (λ stops alive. inr (given-kept _ _ _ _ _ (λ parts. g.met.A.DeserializeComponents.kept _ _ c.args.saved.0 parts c.deserialize_entity-in-Ok.ensures.keeps.keeps) (c.in-Ok.ensures.gives alive), stops (c.deserialize_entity.ensures.keeps.live_on c.args.entity alive)))
     c.deserialize_entity-in-Ok.ensures.stops
 
 pub returns-in-Err-clause-stops : goal.returns-in-Err-clause-stops
 returns-in-Err-clause-stops g c alive = inl (c.in-Err.ensures.stops alive, refl)
+
+pub returns-in-Ok-clause-gives : goal.returns-in-Ok-clause-gives
+returns-in-Ok-clause-gives g c =
+    on_ok_weaker c.deserialize_entity-in-Ok.result
+    (λ given alive. given-kept _ _ _ _ _ (λ parts. g.met.A.DeserializeComponents.kept _ _ c.args.saved.0 parts c.deserialize_entity-in-Ok.ensures.keeps.keeps) (c.in-Ok.ensures.gives alive))
+    c.deserialize_entity-in-Ok.ensures.gives
+
+pub returns-in-Ok-clause-gives_too : goal.returns-in-Ok-clause-gives_too
+returns-in-Ok-clause-gives_too g c =
+    on_ok_weaker c.deserialize_entity-in-Ok.result (λ given alive. given (c.deserialize_entity.ensures.keeps.live_on c.args.entity alive)) c.deserialize_entity-in-Ok.ensures.gives

@@ -1,4 +1,6 @@
 use Rattle.std.proofs.lemmas.Result.{on_ok_weaker}
+use Rattle.specs_saveload.specs.declared.deserialize.LoadError.{LoadError}
+use Rattle.specs_saveload.proofs.GiftLemmas.{load-given}
 use Rattle.specs_saveload.proofs.ImageLemmas.{loaded-image, saved-again}
 use Rattle.specs_saveload.proofs.laws.a_loaded_list_is_saved_again.Goals as goal
 
@@ -13,3 +15,6 @@ returns-clause-back g c =
     on_ok_weaker c.deserialize-result.result
     (λ loads none. saved-again _ _ _ g.met.M.SavedMarker.by_id _ _ _ _ _ _ _ loads c.requires.nobody c.requires.unknown c.requires.apart c.requires.own _ g.met.S.DeserializeComponents.back c.the_living_are_below_the_limit.ensures none)
     c.deserialize-result.ensures.ok
+
+pub returns-clause-given : goal.returns-clause-given
+returns-clause-given g c = load-given _ _ _ _ _ _ _ _ _ c.deserialize-result.result (λ (refused : LoadError). refused.place) (λ (refused : LoadError). refused.error) c.deserialize-result.ensures.retrieves c.deserialize-result.ensures.leaves

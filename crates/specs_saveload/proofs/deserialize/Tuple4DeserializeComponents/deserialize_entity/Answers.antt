@@ -5,6 +5,7 @@ use Rattle.specs_saveload.proofs.LoadLemmas.{asks-both, goes-both, refused-left,
 use Rattle.specs_saveload.proofs.RetrieveLemmas.{each-both, some-first, some-second}
 use Rattle.std.proofs.Common.{inl, inr, refl}
 use Rattle.specs_saveload.proofs.StopLemmas.{on-refused}
+use Rattle.specs_saveload.proofs.GiveLemmas.{given-kept, on_ok_both, pair-given}
 use Rattle.specs_saveload.proofs.deserialize.Tuple4DeserializeComponents.deserialize_entity.Goals as goal
 
 pub returns-in-Ok-clause-ok : goal.returns-in-Ok-clause-ok
@@ -26,12 +27,30 @@ pub returns-in-Ok-clause-keeps : goal.returns-in-Ok-clause-keeps
 returns-in-Ok-clause-keeps g c = goes-both _ _ _ _ _ c.load_two.ensures.keeps c.load_two-in-Ok.ensures.keeps
 
 pub returns-in-Ok-clause-dead : goal.returns-in-Ok-clause-dead
-returns-in-Ok-clause-dead g c gone index =
-    let one = c.load_two.ensures.dead (λ alive. gone (c.load_two-in-Ok.ensures.keeps.live_on c.args.entity alive)) index in
-    let two = c.load_two.ensures.dead_too (λ alive. gone (c.load_two-in-Ok.ensures.keeps.live_on c.args.entity alive)) index in
-    let three = c.load_two-in-Ok.ensures.dead gone index in
-    let four = c.load_two-in-Ok.ensures.dead_too gone index in
-    λ i. ((one i, two i), (three i, four i))
+returns-in-Ok-clause-dead g c gone =
+    let one = c.load_two.ensures.dead (λ alive. gone (c.load_two-in-Ok.ensures.keeps.live_on c.args.entity alive)) in
+    let two = c.load_two.ensures.dead_too (λ alive. gone (c.load_two-in-Ok.ensures.keeps.live_on c.args.entity alive)) in
+    let three = c.load_two-in-Ok.ensures.dead gone in
+    let four = c.load_two-in-Ok.ensures.dead_too gone in
+    λ i. (one i, two i, three i, four i)
+
+pub returns-in-Ok-clause-gives : goal.returns-in-Ok-clause-gives
+returns-in-Ok-clause-gives g c =
+    on_ok_both c.load_two-in-Ok.result
+    (λ three four alive.
+    let later = c.load_two.ensures.keeps.live_on c.args.entity alive in
+    let front = pair-given _ _ _ _ _ _ _ _
+    (given-kept _ _ _ _ _ (λ parts. g.met.A.DeserializeComponents.kept _ _ c.args.saved.0.0 parts c.load_two-in-Ok.ensures.keeps.keeps) (c.in-Ok.ensures.gives alive))
+    (given-kept _ _ _ _ _ (λ parts. g.met.B.DeserializeComponents.kept _ _ c.args.saved.0.1 parts c.load_two-in-Ok.ensures.keeps.keeps) (c.in-Ok.ensures.gives_too alive)) in
+    let third = three later in
+    let fourth = four later in
+    record {
+      value = (front.value, (third.value, fourth.value));
+      loaded = both-are _ _ front.value (third.value, fourth.value) front.loaded (both-are _ _ third.value fourth.value third.loaded fourth.loaded);
+      given = (front.given.0, front.given.1, third.given, fourth.given);
+    })
+    c.load_two-in-Ok.ensures.gives
+    c.load_two-in-Ok.ensures.gives_too
 
 pub returns-in-Ok-clause-refused : goal.returns-in-Ok-clause-refused
 returns-in-Ok-clause-refused g c =
@@ -54,10 +73,9 @@ pub returns-in-Ok-clause-stops : goal.returns-in-Ok-clause-stops
 returns-in-Ok-clause-stops g c =
     on-refused c.load_two-in-Ok.result
     (λ stops alive. inr (
-      both-kept _ _ _ _ _
-          (λ part. g.met.A.DeserializeComponents.kept _ _ c.args.saved.0.0 part c.load_two-in-Ok.ensures.keeps.keeps)
-          (λ part. g.met.B.DeserializeComponents.kept _ _ c.args.saved.0.1 part c.load_two-in-Ok.ensures.keeps.keeps)
-          (c.in-Ok.ensures.ok alive),
+      pair-given _ _ _ _ _ _ _ _
+          (given-kept _ _ _ _ _ (λ parts. g.met.A.DeserializeComponents.kept _ _ c.args.saved.0.0 parts c.load_two-in-Ok.ensures.keeps.keeps) (c.in-Ok.ensures.gives alive))
+          (given-kept _ _ _ _ _ (λ parts. g.met.B.DeserializeComponents.kept _ _ c.args.saved.0.1 parts c.load_two-in-Ok.ensures.keeps.keeps) (c.in-Ok.ensures.gives_too alive)),
       stops (c.load_two.ensures.keeps.live_on c.args.entity alive),
     ))
     c.load_two-in-Ok.ensures.stops
