@@ -29,6 +29,8 @@ mod limits;
 #[cfg(test)]
 mod memory;
 #[cfg(test)]
+mod pictures;
+#[cfg(test)]
 mod queues;
 #[cfg(test)]
 mod readings;

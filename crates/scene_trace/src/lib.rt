@@ -4,6 +4,7 @@
 //! `trace` runs a document on a `Scene`. Before each frame the scene is put into a second world, where its systems run
 //! alone: what they change there, and what waits in their queues, is what they do in the frame. The commands are then
 //! followed over a plain scene. `put_together` makes the scene after a frame of the one before it and the trace.
+//! A `Recorder` makes of the frames what a page shows, and `outline_of` tells the plan of a document.
 #![tactic(auto)]
 
 mod acting;
@@ -12,7 +13,9 @@ mod events;
 mod following;
 mod leads;
 mod lines;
+mod outline;
 mod plain;
+mod recording;
 mod together;
 mod tracing;
 mod turning;
@@ -23,6 +26,9 @@ pub use events::{
     Refusal,
 };
 pub use lines::{frame_jsons, frame_lines};
+pub use outline::{Outline, outline_of};
 pub use plain::{Part, Parts, Plain};
+pub use recording::Recorder;
+pub use scene_document::LoadError;
 pub use together::put_together;
 pub use tracing::{Halted, TraceError, Watcher, trace};

@@ -266,7 +266,7 @@ fn fall_text(
 }
 
 /// What led to a refusal, in words.
-fn lead_text(alloc: Global, lead: &Lead, kinds: &Kinds) -> Result<String, AllocError> {
+pub(crate) fn lead_text(alloc: Global, lead: &Lead, kinds: &Kinds) -> Result<String, AllocError> {
     match lead {
         Lead::Gone(holder, kind, gone, fall) => {
             let fell = fall_text(alloc, *gone, *fall, kinds)?;
@@ -341,6 +341,23 @@ fn events_of(alloc: Global, frame: &FrameTrace, kinds: &Kinds) -> Result<Vec<Eve
     }
     refusal_events(alloc, frame, kinds, &mut events)?;
     Ok(events)
+}
+
+/// What the commands of a frame did, a sentence for each thing.
+pub(crate) fn deed_sentences(
+    alloc: Global,
+    frame: &FrameTrace,
+    kinds: &Kinds,
+) -> Result<Vec<String>, AllocError> {
+    let mut events = Vec::new(alloc);
+    for deed in &frame.deeds {
+        deed_events(alloc, deed, kinds, &mut events)?;
+    }
+    let mut sentences = Vec::new(alloc);
+    for event in events {
+        sentences.push(event.sentence)?;
+    }
+    Ok(sentences)
 }
 
 /// A line for each thing that happened in a frame, with its end.

@@ -19,6 +19,13 @@ use std::thread::Threads;
 
 /// Who sees the frames of a run.
 pub trait Watcher {
+    /// Takes in the scene before the first frame.
+    ///
+    /// Errors: where it wants no more.
+    fn begin(&mut self, _first: &Plain) -> Result<(), Halted> {
+        Ok(())
+    }
+
     /// Takes in what happened in a frame: the scene before it, its trace, and the scene after it, as the engine has
     /// them, with the kinds of the systems.
     ///
@@ -198,6 +205,9 @@ where
     let turned = turn(rt, rules, limits, &text, before, course)?;
     drop(scene.run_frame(rt));
     let refused = refusal_of(scene);
+    if let Some(FrameRefusal::Memory) = refused {
+        return Err(LoadError::Memory);
+    }
     let frame = match turned {
         Some(turned) => traced(alloc, rules, number, before, turned, course, refused)?,
         None => refused_early(alloc, number, refused)?,
@@ -226,6 +236,7 @@ where
 {
     let text = scene.snapshot(rt.alloc())?;
     let mut before = plain_text(rt.alloc(), rules, limits, &text)?;
+    watcher.begin(&before)?;
     for _ in 0..last {
         let Some((frame, after)) = next_frame(rt, rules, limits, course, scene, &before)? else {
             break;
@@ -236,7 +247,7 @@ where
     Ok(())
 }
 
-/// Runs the document in these bytes, and shows each frame up to the last one of these to a watcher, as it was done; but
+/// Runs the document in these bytes, and shows its first scene and each frame up to the last one of these to a watcher, as it was done; but
 /// not those at the end of a run in which nothing can happen. The rules are given twice, once for the run and once to
 /// look.
 ///

@@ -25,6 +25,19 @@ pub(crate) enum Asked<'a> {
         file: &'a str,
         frames: Frames,
         json: bool,
+        progress: bool,
+    },
+    /// The plan of a document, as SVG or as text, to a file or to standard output.
+    Plan {
+        file: &'a str,
+        svg: bool,
+        output: Option<&'a str>,
+    },
+    /// A page of the run of a document, to a file or to standard output.
+    Draw {
+        file: &'a str,
+        output: Option<&'a str>,
+        progress: bool,
     },
     /// Frames, by words that name none.
     NoFrames(&'a str),
@@ -69,12 +82,16 @@ fn told<R: Print + Eprint>(rt: &R, error: &Error) -> Status {
 fn matches_in<'a>(alloc: Global, words: &'a [String]) -> Result<ArgMatches<'a>, Error> {
     let check = check_command(alloc)?;
     let trace = trace_command(alloc)?;
+    let plan = plan_command(alloc)?;
+    let draw = draw_command(alloc)?;
     Command::new(alloc, "sceneview")
         .version("1.0")
-        .about("Shows scenes: where a document is wrong, and what a run did")
+        .about("Shows scenes: where a document is wrong, what a run did, and pictures of it")
         .subcommand_required(true)
         .subcommand(check)?
         .subcommand(trace)?
+        .subcommand(plan)?
+        .subcommand(draw)?
         .try_get_matches_from(words)
 }
 
@@ -104,20 +121,71 @@ fn trace_command<'a>(alloc: Global) -> Result<Command<'a>, AllocError> {
         .long("frames")
         .value_name("A..B")
         .help("Tell frames A to B alone, counted from 1");
-    let file = Arg::new(alloc, "file")
-        .value_name("FILE")
-        .required(true)
-        .help("The document; - is standard input");
     Command::new(alloc, "trace")
         .about("Tells frame by frame what happened in the run of a document, and why")
         .arg(json)?
         .arg(frames)?
-        .arg(file)
+        .arg(progress_flag(alloc))?
+        .arg(document(alloc))
+}
+
+fn plan_command<'a>(alloc: Global) -> Result<Command<'a>, AllocError> {
+    let svg = Arg::new(alloc, "svg")
+        .long("svg")
+        .action(ArgAction::SetTrue)
+        .help("Draw it as SVG");
+    Command::new(alloc, "plan")
+        .about(
+            "Tells which systems of a document run side by side: a line for each stage, by their places",
+        )
+        .arg(svg)?
+        .arg(output(alloc))?
+        .arg(document(alloc))
+}
+
+fn draw_command<'a>(alloc: Global) -> Result<Command<'a>, AllocError> {
+    Command::new(alloc, "draw")
+        .about("Draws a page of HTML of the run of a document")
+        .arg(output(alloc))?
+        .arg(progress_flag(alloc))?
+        .arg(document(alloc))
+}
+
+fn document<'a>(alloc: Global) -> Arg<'a> {
+    Arg::new(alloc, "file")
+        .value_name("FILE")
+        .required(true)
+        .help("The document; - is standard input")
+}
+
+fn output<'a>(alloc: Global) -> Arg<'a> {
+    Arg::new(alloc, "output")
+        .short('o')
+        .long("output")
+        .value_name("FILE")
+        .help("Write to this file, and not to standard output")
+}
+
+fn progress_flag<'a>(alloc: Global) -> Arg<'a> {
+    Arg::new(alloc, "progress")
+        .long("progress")
+        .action(ArgAction::SetTrue)
+        .help("Tell on standard error, once a second, how far the run is")
 }
 
 fn asked_by<'a>(alloc: Global, matches: &ArgMatches<'a>) -> Result<Asked<'a>, AllocError> {
     match matches.subcommand() {
         Some(("trace", trace)) => Ok(trace_by(trace)),
+        Some(("plan", plan)) => Ok(Asked::Plan {
+            file: plan.get_str("file").unwrap_or("-"),
+            svg: plan.get_flag("svg"),
+            output: plan.get_str("output"),
+        }),
+        Some(("draw", draw)) => Ok(Asked::Draw {
+            file: draw.get_str("file").unwrap_or("-"),
+            output: draw.get_str("output"),
+            progress: draw.get_flag("progress"),
+        }),
         Some((_, check)) => check_by(alloc, check),
         None => Ok(Asked::NoFrames("")),
     }
@@ -137,16 +205,24 @@ fn check_by<'a>(alloc: Global, check: &ArgMatches<'a>) -> Result<Asked<'a>, Allo
 fn trace_by<'a>(trace: &ArgMatches<'a>) -> Asked<'a> {
     let file = trace.get_str("file").unwrap_or("-");
     let json = trace.get_flag("json");
-    let Some(words) = trace.get_str("frames") else {
-        let frames = Frames {
-            first: 1,
-            last: u32::MAX,
-        };
-        return Asked::Trace { file, frames, json };
+    let progress = trace.get_flag("progress");
+    let all = Frames {
+        first: 1,
+        last: u32::MAX,
     };
-    match frames_in(words) {
-        Some(frames) => Asked::Trace { file, frames, json },
-        None => Asked::NoFrames(words),
+    let words = trace.get_str("frames");
+    let frames = match words {
+        Some(words) => frames_in(words),
+        None => Some(all),
+    };
+    match frames {
+        Some(frames) => Asked::Trace {
+            file,
+            frames,
+            json,
+            progress,
+        },
+        None => Asked::NoFrames(words.unwrap_or("")),
     }
 }
 

@@ -11,7 +11,7 @@ use std::rt::Files;
 /// The kinds of systems of the program's rules.
 const KINDS: [&str; 5] = ["drift", "pull", "decay", "reap", "bud"];
 
-/// Lists the faults of each document, and answers how the program ends.
+/// Lists the faults of each document, and answers how the program ends. Where the output cannot be written, it goes no further.
 pub(crate) fn check_all<R: Files + Input + Print + Eprint + AllocGlobal>(
     rt: &R,
     files: &[&str],
@@ -22,6 +22,9 @@ pub(crate) fn check_all<R: Files + Input + Print + Eprint + AllocGlobal>(
         let status = check_one(rt, *file, json);
         if status > worst {
             worst = status;
+        }
+        if status == Status::Unwritten {
+            break;
         }
     }
     worst

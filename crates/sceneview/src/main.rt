@@ -1,23 +1,39 @@
-//! Shows what is wrong with the documents of scenes, and what their runs did, under the program's rules.
+//! Shows what is wrong with the documents of scenes, what their runs did, and pictures of both, under the program's rules.
 //!
-//! The statuses: 0 where no document has a fault, 1 where one has, 2 for bad arguments, 3 where a document could not be
-//! read, 4 where memory was wanting, 5 where there is no document of a name, 6 where it is a folder, 7 where the output
-//! could not be written. Of many documents the greatest is the program's. Each but 0, and 1 of `check`, has a line on
-//! standard error. A refused frame is among what `trace` tells.
+//! The statuses, and the line of each on standard error:
+//!
+//! - 0: all was done; none.
+//! - 1: a document has a fault, `FILE: document refused: NAME` of `trace`, `plan` and `draw`, and none of `check`, which lists it; or
+//!   `draw` drew up to a frame that was refused, `FILE: frame N refused: CAUSE`. A refused frame is among what `trace` tells.
+//! - 2: bad arguments; what is wrong with them.
+//! - 3: a document could not be read, `FILE: read failed`.
+//! - 4: memory was wanting, `out of memory`.
+//! - 5: there is no document of a name, `FILE: no such file`.
+//! - 6: it is a folder, `FILE: is a folder`.
+//! - 7: the output could not be written, `write failed`.
+//! - 8: the file of `-o` could not be written, `FILE: cannot be written`.
+//!
+//! Of many documents the greatest is the program's; where the output cannot be written, those behind are left.
 #![tactic(auto)]
 
 mod arguments;
 mod checking;
+mod drawing;
+mod planning;
+mod progress;
 mod reading;
 mod status;
 mod tracing;
+mod writing;
 
 use crate::arguments::{Asked, Stop, asked_in};
 use crate::checking::check_all;
+use crate::drawing::draw_one;
+use crate::planning::plan_one;
 use crate::status::Status;
 use crate::tracing::trace_one;
 use std::process::ExitCode;
-use std::rt::{Env, Files};
+use std::rt::{Clock, Env, Files};
 use std::sync::Wait;
 use std::thread::Threads;
 
@@ -26,7 +42,7 @@ fn main(rt: HostRuntime) -> ExitCode {
 }
 
 /// Does what the words of the command line ask for.
-fn view<R: Files + Env + Input + Print + Eprint + AllocGlobal + Threads + Wait + Sync>(
+fn view<R: Files + Env + Input + Print + Eprint + AllocGlobal + Clock + Threads + Wait + Sync>(
     rt: &R,
 ) -> Status {
     let Ok(words) = words_of(rt) else {
@@ -34,7 +50,22 @@ fn view<R: Files + Env + Input + Print + Eprint + AllocGlobal + Threads + Wait +
     };
     match asked_in(rt, words.as_slice()) {
         Ok(Asked::Check { files, json }) => check_all(rt, &files, json),
-        Ok(Asked::Trace { file, frames, json }) => trace_one(rt, file, frames, json),
+        Ok(
+            Asked::Trace {
+                file,
+                frames,
+                json,
+                progress,
+            },
+        ) => trace_one(rt, file, frames, json, progress),
+        Ok(Asked::Plan { file, svg, output }) => plan_one(rt, file, svg, output),
+        Ok(
+            Asked::Draw {
+                file,
+                output,
+                progress,
+            },
+        ) => draw_one(rt, file, output, progress),
         Ok(Asked::NoFrames(words)) => status::tell_no_frames(rt, words),
         Err(Stop(status)) => status,
     }

@@ -11,6 +11,7 @@ pub(crate) enum Status {
     NoFile,
     Folder,
     Unwritten,
+    Unmade,
 }
 
 impl Status {
@@ -28,6 +29,7 @@ pub(crate) fn tell<R: Eprint>(rt: &R, status: Status, name: &str) -> Status {
         Status::NoFile => eprintln!(rt; "{name}: no such file"),
         Status::Folder => eprintln!(rt; "{name}: is a folder"),
         Status::Unwritten => eprintln!(rt; "write failed"),
+        Status::Unmade => eprintln!(rt; "{name}: cannot be written"),
     };
     status
 }
@@ -35,6 +37,12 @@ pub(crate) fn tell<R: Eprint>(rt: &R, status: Status, name: &str) -> Status {
 /// Tells the refusal of a document by a line on standard error.
 pub(crate) fn tell_refused<R: Eprint>(rt: &R, file: &str, refusal: &str) -> Status {
     let _ = eprintln!(rt; "{file}: document refused: {refusal}");
+    Status::Faults
+}
+
+/// Tells that a frame was refused, and why, by a line on standard error.
+pub(crate) fn tell_frame<R: Eprint>(rt: &R, file: &str, frame: u32, cause: &str) -> Status {
+    let _ = eprintln!(rt; "{file}: frame {frame} refused: {cause}");
     Status::Faults
 }
 

@@ -9,6 +9,7 @@ use specs_join::{AntiStorage, Join, JoinIter, JoinParIter, MaybeJoin, ParJoin};
 use specs_layouts::{BTreeStorage, DenseVecStorage, HashMapStorage, MaskedStorage, TryDefault};
 use std::alloc::Global;
 use std::marker::Brand;
+use std::sync::atomic::{AtomicU64, Ordering};
 use std::sync::ledger::{Blank, Ledger};
 use std::thread::Threads;
 
@@ -598,4 +599,50 @@ fn a_join_of_entities_has_the_living(rt: HostRuntime) {
         <((), &EntitiesRes) as Join>::is_unconstrained(),
     ];
     assert_eq!(rt; (is_walked, constraints), (true, [true, false]));
+}
+
+/// How often an item looks for the others at most.
+const LOOKS: u32 = 1_000_000_000;
+
+/// Comes to a meeting, and tells whether it sees that so many came.
+fn sees_all(came: &AtomicU64, expected: u64) -> bool {
+    came.fetch_add(1, Ordering::SeqCst);
+    for _look in 0..LOOKS {
+        if came.load(Ordering::SeqCst) >= expected {
+            return true;
+        }
+    }
+    false
+}
+
+/// Which items of so many, each collected by a worker of its own, see that all others are being collected.
+fn items_that_meet<R: Threads + Sync>(rt: &R, alloc: Global, items: u32) -> Option<Vec<bool>> {
+    let mut storage = MaskedStorage::new(alloc, DenseVecStorage::unwrap_default(alloc));
+    for place in 0..items {
+        let index = place.wrapping_mul(64);
+        if index < 16777216 {
+            let _ = storage.insert(index, Speed(index)).is_ok();
+        }
+    }
+    let came = AtomicU64::new(0);
+    JoinParIter(&storage)
+        .collect(rt, alloc, items as usize, |_speed: &Speed| {
+            sees_all(&came, items as u64)
+        })
+        .ok()
+}
+
+// A join that is cut into fewer parts than there are workers is caught here: an item then waits for one that comes after it in
+// its own part.
+#[test]
+fn gate_join(rt: HostRuntime) {
+    for items in [2u32, 4, 8] {
+        match items_that_meet(&rt, rt.alloc(), items) {
+            Some(met) => {
+                assert_eq!(rt; met.len(), items as usize, "{items} items");
+                assert!(rt; met.iter().all(|met| *met), "{items} items");
+            }
+            None => assert!(rt; false, "{items} items: want of memory"),
+        }
+    }
 }
