@@ -1,6 +1,6 @@
 //! What is saved of worlds, and what is saved again once they were loaded into new ones.
 use crate::kinds::{Health, Owner};
-use crate::round::saved_and_loaded_again;
+use crate::round::{marked_after_a_round, saved_and_loaded_again};
 use serde_json::Value;
 use specs_entity::{EntitiesRes, Entity, Error};
 use specs_layouts::{DenseVecStorage, MaskedStorage, TryDefault, VecStorage};
@@ -8,7 +8,7 @@ use specs_markers::{Marker, MarkerAllocator, SimpleMarker, SimpleMarkerAllocator
 use specs_saveload::laws::{an_unmarked_refusal_names_one, one_entity_is_saved_as_in_the_whole};
 use specs_saveload::{
     DeserializeComponents, EntityData, FormError, JsonForm, MarkedBuilder, Marks, PartForms,
-    SerializeComponents,
+    SerializeComponents, list_from_value,
 };
 use std::alloc::{AllocError, Global};
 
@@ -534,19 +534,9 @@ fn list_of(
     text: &str,
 ) -> Result<Vec<EntityData<SimpleMarker<Net>, Data>>, FormError> {
     let Ok(json) = Value::from_str(alloc, text) else {
-        return Err(FormError::Shape);
+        return Err(FormError::whole());
     };
-    let mut list = Vec::new(alloc);
-    if let Some(values) = json.as_array() {
-        for value in values {
-            let entry = EntityData::from_value(alloc, value)?;
-            match list.push(entry) {
-                Ok(()) => {}
-                Err(_) => return Err(FormError::Memory),
-            }
-        }
-    }
-    Ok(list)
+    list_from_value(alloc, &json)
 }
 
 /// Whether lists are loaded as their row says.
@@ -583,4 +573,25 @@ fn lists_are_loaded_by_rows(rt: HostRuntime) {
         }
     }
     assert_eq!(rt; wrong, None);
+}
+
+/// The id of the marker that an entity gets which is made after a world of two that own each other was saved and loaded.
+fn marked_after_two(alloc: Global) -> Result<Option<u64>, Error> {
+    let mut world = empty(alloc, 100);
+    for step in &[Create, Create, Mark(0), Mark(1), Own(0, 1), Own(1, 0)] {
+        take(&mut world, step)?;
+    }
+    let mut new = parts(alloc);
+    marked_after_a_round(
+        alloc,
+        &world.parts,
+        &world.entities,
+        &world.markers,
+        &mut new,
+    )
+}
+
+#[test]
+fn a_marker_after_a_load_is_new(rt: HostRuntime) {
+    assert!(rt; matches!(marked_after_two(rt.alloc()), Ok(Some(2))));
 }

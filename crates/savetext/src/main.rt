@@ -10,6 +10,7 @@ use specs_layouts::{DenseVecStorage, MaskedStorage, TryDefault, VecStorage};
 use specs_markers::{MarkerAllocator, SimpleMarker, SimpleMarkerAllocator};
 use specs_saveload::{
     DeserializeComponents, EntityData, FormError, JsonForm, PartForms, SerializeComponents,
+    list_from_value,
 };
 use std::alloc::{AllocError, Global};
 use std::io;
@@ -108,27 +109,16 @@ fn list_of(
     text: &str,
 ) -> Result<Vec<EntityData<SimpleMarker<Saved>, Data>>, FormError> {
     let Ok(json) = Value::from_str(alloc, text) else {
-        return Err(FormError::Shape);
+        return Err(FormError::whole());
     };
-    let Some(values) = json.as_array() else {
-        return Err(FormError::Shape);
-    };
-    let mut list = Vec::new(alloc);
-    for value in values {
-        let entry = EntityData::from_value(alloc, value)?;
-        match list.push(entry) {
-            Ok(()) => {}
-            Err(_) => return Err(FormError::Memory),
-        }
-    }
-    Ok(list)
+    list_from_value(alloc, &json)
 }
 
 /// An empty world into which a text was loaded, or none where the text is no list of entities.
 fn loaded(alloc: Global, text: &str) -> Result<Option<World>, Error> {
     let list = match list_of(alloc, text) {
         Ok(list) => list,
-        Err(FormError::Shape) => return Ok(None),
+        Err(FormError::Shape(_)) => return Ok(None),
         Err(FormError::Memory) => return Err(Error::Memory),
     };
     let mut world = empty(alloc);

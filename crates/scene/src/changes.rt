@@ -39,20 +39,32 @@ pub(crate) struct RowChange<D> {
     found: Vec<(u64, Option<D>)>,
 }
 
-/// How many members a set has, for the room that a list of them takes.
-fn members_of(set: &BitSet) -> usize {
+/// How many bits of words are set.
+fn ones_of(words: &[u64]) -> usize {
     let mut count = 0usize;
-    for word in set.layer0_as_slice() {
+    for word in words {
         count = count.saturating_add(word.count_ones() as usize);
     }
     count
+}
+
+/// For how many members a list of a set's makes room at first: for all, or, where less than half of its words have one, for
+/// as many as there are such words, since a look at each word would cost more than a list that grows.
+fn room_of(set: &BitSet) -> usize {
+    let words = set.layer0_as_slice();
+    let used = ones_of(set.layer1_as_slice());
+    if used < words.len() / 2 {
+        used
+    } else {
+        ones_of(words)
+    }
 }
 
 /// The members of a set, each behind itself, ascending. Errors: want of memory.
 fn indices_of_set(set: &BitSet, alloc: Global) -> Result<Vec<(u64, u32)>, AllocError>
     ensures { IfOk result (λ indices. indices.items ≡ behind_themselves (walk (has_member set.now))) }
 {
-    let mut indices = Vec::with_capacity(alloc, members_of(set))?;
+    let mut indices = Vec::with_capacity(alloc, room_of(set))?;
     for index in set.iter() {
         indices.push((u64::from(index), index))?;
     }

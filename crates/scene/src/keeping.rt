@@ -140,7 +140,8 @@ fn write_row<R: Rules, G>(
     requires known { is_among kind.now R.columns.part_names ≡ true }
     requires indices { All (λ pair. pair.0 ≡ pair.1) indices.now }
     requires within { All (λ pair. pair.1 < count) indices.now }
-    requires all { (index : ℕ) → IsSome (part_at (kinds_by R.Rules R.Value.SceneValue) (seen_of world.now) index kind.now)
+    requires all { (index : ℕ)
+        → IsSome (part_at (kinds_by R.Rules R.Value.SceneValue) (seen_of world.now) index kind.now)
         → IsAmong (map (λ pair. pair.1) indices.now) index }
     requires kinds { place < kinds_kept kept.old }
     requires room { HasRoom count kept.old }

@@ -32,6 +32,7 @@ pub use scene_model::{
     RunningTime, Skip, Skips, SystemAccess, Text,
 };
 pub use scene_world::{
-    AnyStore, QueueValue, Rules, SceneMarker, SceneMarkerAllocator, SceneStorage, SceneValue, Store,
+    AnyStore, QueueValue, Rules, SceneMarker, SceneMarkerAllocator, SceneStorage, SceneValue,
+    Store, WorldRules,
 };
 pub use shred_stages::Stop;

@@ -96,7 +96,8 @@ where
         → refusal_of indices plain ≡ None → scene_in R.Rules R.Value.SceneValue world ≡ first_scene plain) }
     ensures bounded { IfOk result (λ world. (plain : Draft) → (indices : ℕ)
         → IsDraft R.part_of R.global_of R.kind_of R.config_of (R.book rules.now) plain draft.now
-        → refusal_of indices plain ≡ None → IsBounded limits.indices (unsigned_abs limits.generation) (unlisted_in plain)
+        → refusal_of indices plain ≡ None
+        → IsBounded limits.indices (unsigned_abs limits.generation) (unlisted_in plain)
         (roll_of (kinds_by R.Rules R.Value.SceneValue) (seen_of world))) }
 {
     let births = limits.generation.unsigned_abs();

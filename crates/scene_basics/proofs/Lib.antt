@@ -1,5 +1,4 @@
 pub mod ColumnLemmas
-pub mod KnownLemmas
 pub mod AddLemmas
 pub mod SightLemmas
 pub mod AskedLemmas

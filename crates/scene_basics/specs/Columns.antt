@@ -18,7 +18,7 @@ use Rattle.scene_basics.specs.declared.data.Datum.{Datum}
 use Rattle.scene_basics.specs.declared.values.Whole.{Whole}
 use Rattle.scene_basics.specs.declared.values.Owner.{Owner}
 use Rattle.scene_basics.specs.declared.values.Value.{Value}
-use Rattle.scene_basics.specs.declared.values.Value.TheVariants.{QueueValue}
+use Rattle.scene_basics.specs.declared.values.Value.TheVariants.{EntitiesValue, AllocatorValue, QueueValue}
 use Rattle.scene_basics.specs.Names.{bond_kind, hp_kind, owner_kind, pos_kind, g_name, part_kinds, reference_kinds, owns_holder}
 use Rattle.scene_basics.specs.Numbers.{json_of, part_of}
 use Rattle.scene_basics.specs.Values.{births_in, markers_in, noting_in, queue_in, numbers_in, owners_in, global_in, whole_at, owner_at}
@@ -89,6 +89,8 @@ basic_places = record {
   noting = noting_in;
   queue = queue_in;
   queue_value = QueueValue;
+  entities_value = EntitiesValue;
+  allocator_value = AllocatorValue;
 }
 
 -- both together

@@ -12,9 +12,9 @@ ghost use Rattle.scene_basics.specs.Adding.{gained, addend, ShowsNumbers, Adds, 
 ghost use Rattle.scene_basics.specs.Adding.{StopsAdding};
 
 use crate::columns::part_id;
-use crate::data::Gain;
-use crate::known::id_known;
+use crate::data::{Datum, Gain};
 use crate::values::{Value, Whole};
+use scene_world::known::id_known;
 use scene_world::{AnyStore, change_parts};
 use shred_stages::Stop;
 use shred_world::{Holder, ResourceId};
@@ -160,7 +160,7 @@ fn take_numbers<W: Holder<Value>>(view: &mut W, kind: &str) -> Option<MaskedStor
 fn overflow_at<H: AllocGlobal, W: Holder<Value>>(rt: &H, view: &W, index: u32) -> Stop
     ensures { SaysOverflow (W.slots view.now) index result }
 {
-    if id_known(view, index).is_none() {
+    if id_known::<Value, Datum, W>(view, index).is_none() {
         return Stop::Memory;
     }
     match String::from_str(rt.alloc(), "overflow") {

@@ -14,10 +14,10 @@ ghost use Rattle.scene_basics.specs.Asked.{number_seen, number_under, asks_where
 
 use crate::columns::part_id;
 use crate::data::{Ask, Datum, HP, POS};
-use crate::known::{ids_in_order, index_under};
 use crate::values::{Value, Whole};
 use hibitset::{BitSet, BitSetLike};
 use scene_model::{Command, Queue};
+use scene_world::known::{ids_in_order, index_under};
 use scene_world::{AnyStore, stop_for};
 use shred_stages::Stop;
 use shred_world::Holder;
@@ -40,7 +40,7 @@ fn number_at<W: Holder<Value>>(view: &W, kind: &str, index: u32) -> Option<i64>
 fn number_of<W: Holder<Value>>(view: &W, kind: &str, id: u64) -> Option<i64>
     ensures { result ≡ number_under (W.slots view.now) kind.now id }
 {
-    let index = index_under(view, id)?;
+    let index = index_under::<Value, Datum, W>(view, id)?;
     number_at(view, kind, index)
 }
 
@@ -192,7 +192,7 @@ fn ids_asking<W: Holder<Value>>(alloc: Global, view: &W, ask: Ask) -> Result<Vec
         return Ok(Vec::new(alloc));
     };
     let indices = indices_asking(alloc, numbers, ask)?;
-    ids_in_order(alloc, view, indices.as_slice())
+    ids_in_order::<Value, Datum, W>(alloc, view, indices.as_slice())
 }
 
 /// Asks for what is asked of each entity, in the order of the ids. It looks at the hp of each, and else at those alone for

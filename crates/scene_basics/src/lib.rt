@@ -10,7 +10,6 @@ mod adding;
 mod asking;
 mod columns;
 pub mod data;
-mod known;
 pub mod laws;
 pub mod lines;
 pub mod program;

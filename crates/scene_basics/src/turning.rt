@@ -18,27 +18,21 @@ use crate::rules::{Basics, is_reference_kind};
 use crate::values::Value;
 use hibitset_sets::BitSet;
 use scene_model::Queue;
-use scene_world::{Rules, Store};
+use scene_world::{Rules, Store, WorldRules};
 use shred_stages::Stop;
 use shred_world::{Holder, ResourceId, World};
 use specs_entity::Entity;
 use specs_layouts::ReaderId;
 use std::alloc::{AllocError, Global};
 
-impl Rules for Basics {
+impl WorldRules for Basics {
     type Value = Value;
 
     ghost columns = { basic_columns };
 
-    ghost sense = { λ _. sense_of basics };
-
-    ghost does = { λ system. Makes (Some system) };
-
     ghost named_so = { λ _. record { parts = refl; owning = refl; globals = refl } };
 
     ghost apart = { basic-apart };
-
-    ghost of_book = { λ rules system made. law-of_book system };
 
     fn part_id(kind: &str) -> ResourceId {
         part_id(kind)
@@ -175,6 +169,14 @@ impl Rules for Basics {
             _ => None,
         }
     }
+}
+
+impl Rules for Basics {
+    ghost sense = { λ _. sense_of basics };
+
+    ghost does = { λ system. Makes (Some system) };
+
+    ghost of_book = { λ rules system made. law-of_book system };
 
     fn run<H: AllocGlobal, W: Holder<Value>>(
         rt: &H,

@@ -57,12 +57,12 @@ puts-at before after index part puts at = by (eqb at index) refl
     by false e = puts.others at (λ same. true≢false (sym (eq-eqb at index same) ∙ e)) ∙ sym (ap (λ b. cond b part (before at)) e)
 
 -- what is read of entities, and of an allocator of ids, that stand in a world
-module _ {V : Type 0} (kinds : Kinds V) (w : Slots V) (v : V) where
-  pub births-read : (births : Births) → seen_of w kinds.entities_id ≡ Some v → kinds.births v ≡ Some births → (roll_of kinds (seen_of w)).births ≡ births
-  births-read births stands is = ap (λ held. unwrap_or (option_and_then kinds.births held) (none_born 0 0)) stands ∙ ap (λ o. unwrap_or o (none_born 0 0)) is
+module _ {V : Type 0} (kinds : Kinds V) (w : Slots V) where
+  pub births-read : (births : Births) → option_and_then kinds.births (seen_of w kinds.entities_id) ≡ Some births → (roll_of kinds (seen_of w)).births ≡ births
+  births-read births is = ap (λ o. unwrap_or o (none_born 0 0)) is
 
-  pub noting-read : (noting : Noting) → seen_of w kinds.allocator_id ≡ Some v → kinds.noting v ≡ Some noting → (roll_of kinds (seen_of w)).noting ≡ noting
-  noting-read noting stands is = ap (λ held. unwrap_or (option_and_then kinds.noting held) none_noted) stands ∙ ap (λ o. unwrap_or o none_noted) is
+  pub noting-read : (noting : Noting) → option_and_then kinds.noting (seen_of w kinds.allocator_id) ≡ Some noting → (roll_of kinds (seen_of w)).noting ≡ noting
+  noting-read noting is = ap (λ o. unwrap_or o none_noted) is
 
 module _ {V : Type 0} (kinds : Kinds V) (w later : Slots V) (was back : V) where
   -- markers of which one is another, or is taken out
@@ -83,61 +83,62 @@ module _ {V : Type 0} (kinds : Kinds V) (w later : Slots V) (was back : V) where
     others = others;
   }
 
+module _ {V : Type 0} (kinds : Kinds V) (w later : Slots V) where
   -- an allocator that forgot an id
-  pub forgets : seen_of w kinds.allocator_id ≡ Some was → seen_of later kinds.allocator_id ≡ Some back → ((other : ResourceId) → same_id other kinds.allocator_id ≡ false → seen_of later other ≡ seen_of w other)
-      → (before after : Noting) → kinds.noting was ≡ Some before → kinds.noting back ≡ Some after → (id : ℕ) → after ≡ record { next = before.next; noted = slots.remove before.noted id }
+  pub forgets : (before after : Noting) → option_and_then kinds.noting (seen_of w kinds.allocator_id) ≡ Some before → option_and_then kinds.noting (seen_of later kinds.allocator_id) ≡ Some after
+      → ((other : ResourceId) → same_id other kinds.allocator_id ≡ false → seen_of later other ≡ seen_of w other) → (id : ℕ) → after ≡ record { next = before.next; noted = slots.remove before.noted id }
       → Forgets kinds id (seen_of w) (seen_of later)
-  forgets stood stands others before after old new id gone = record {
+  forgets before after old new others id gone = record {
     next = ap (λ n. n.next) now-is ∙ ap (λ n. n.next) gone ∙ ap (λ n. n.next) (sym was-is);
     noted = λ other.
         ap (λ n. noted_under n other) now-is ∙ ap (λ n. noted_under n other) gone ∙ noted-forgotten before id other
         ∙ ap (λ n. but_at id None (noted_under n) other) (sym was-is);
-    there = subst (λ o. IsSome o) (sym (ap (option_and_then kinds.noting) stands ∙ new)) refl;
+    there = subst (λ o. IsSome o) (sym new) refl;
     others = others;
   }
     where
       was-is : (roll_of kinds (seen_of w)).noting ≡ before
-      was-is = noting-read kinds w was before stood old
+      was-is = noting-read kinds w before old
 
       now-is : (roll_of kinds (seen_of later)).noting ≡ after
-      now-is = noting-read kinds later back after stands new
+      now-is = noting-read kinds later after new
 
   -- entities of which one died
-  pub lets-die : seen_of w kinds.entities_id ≡ Some was → seen_of later kinds.entities_id ≡ Some back → ((other : ResourceId) → same_id other kinds.entities_id ≡ false → seen_of later other ≡ seen_of w other)
-      → (before after : Births) → kinds.births was ≡ Some before → kinds.births back ≡ Some after → (entity : LifeAt) → LivesBut (is_named (entity ∷ [])) before after → Continues before after → after ≡ all_buried before (entity.id ∷ [])
+  pub lets-die : (before after : Births) → option_and_then kinds.births (seen_of w kinds.entities_id) ≡ Some before → option_and_then kinds.births (seen_of later kinds.entities_id) ≡ Some after
+      → ((other : ResourceId) → same_id other kinds.entities_id ≡ false → seen_of later other ≡ seen_of w other) → (entity : LifeAt) → LivesBut (is_named (entity ∷ [])) before after → Continues before after → after ≡ all_buried before (entity.id ∷ [])
       → LetsDie kinds entity.id (seen_of w) (seen_of later)
-  lets-die stood stands others before after old new entity lives continues buried = record {
+  lets-die before after old new others entity lives continues buried = record {
     lives = λ at.
         ap (λ b. living b at) now-is ∙ lives at ∙ ap (λ b. cond b None (living before at)) (only (eqb at entity.id))
         ∙ ap (λ b. cond (eqb at entity.id) None (living b at)) (sym was-is);
     births = λ at. subst (λ b. count b at ≤ count (roll_of kinds (seen_of later)).births at) (sym was-is) (subst (λ b. count before at ≤ count b at) (sym now-is) (continues.births at));
-    there = subst (λ o. IsSome o) (sym (ap (option_and_then kinds.births) stands ∙ new)) refl;
+    there = subst (λ o. IsSome o) (sym new) refl;
     others = others;
     grows = subst (λ b. Grows b (roll_of kinds (seen_of later)).births 0 0) (sym was-is) (subst (λ b. Grows before b 0 0) (sym now-is) (grows-by-death before after entity.id buried));
   }
     where
       was-is : (roll_of kinds (seen_of w)).births ≡ before
-      was-is = births-read kinds w was before stood old
+      was-is = births-read kinds w before old
 
       now-is : (roll_of kinds (seen_of later)).births ≡ after
-      now-is = births-read kinds later back after stands new
+      now-is = births-read kinds later after new
 
       only : (b : Bool) → (b || false) ≡ b
       only true = refl
       only false = refl
 
-  -- entities that were taken out to see who falls with one of them
-  pub falls : seen_of w kinds.entities_id ≡ Some was → seen_of later kinds.entities_id ≡ Some back → ((other : ResourceId) → same_id other kinds.entities_id ≡ false → seen_of later other ≡ seen_of w other)
-      → (before after : Births) → kinds.births was ≡ Some before → kinds.births back ≡ Some after → after ≡ before → (entity : LifeAt) (pairs : List (LifeAt × LifeAt)) (entities : List LifeAt) → IsClosure before (entity ∷ []) pairs entities
+  -- entities that were lent to see who falls with one of them
+  pub falls : (before after : Births) → option_and_then kinds.births (seen_of w kinds.entities_id) ≡ Some before → option_and_then kinds.births (seen_of later kinds.entities_id) ≡ Some after
+      → ((other : ResourceId) → same_id other kinds.entities_id ≡ false → seen_of later other ≡ seen_of w other) → after ≡ before → (entity : LifeAt) (pairs : List (LifeAt × LifeAt)) (entities : List LifeAt) → IsClosure before (entity ∷ []) pairs entities
       → Falls kinds entity pairs (seen_of w) (seen_of later) entities
-  falls stood stands others before after old new same entity pairs entities closure = record {
+  falls before after old new others same entity pairs entities closure = record {
     closure = subst (λ births. IsClosure births (entity ∷ []) pairs entities) (sym was-is) closure;
     keeps = record {
-      births = births-read kinds later back after stands new ∙ same ∙ sym was-is;
-      there = subst (λ o. IsSome o) (sym (ap (option_and_then kinds.births) stands ∙ new)) refl;
+      births = births-read kinds later after new ∙ same ∙ sym was-is;
+      there = subst (λ o. IsSome o) (sym new) refl;
       others = others;
     };
   }
     where
       was-is : (roll_of kinds (seen_of w)).births ≡ before
-      was-is = births-read kinds w was before stood old
+      was-is = births-read kinds w before old

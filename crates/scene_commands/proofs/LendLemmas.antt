@@ -7,7 +7,7 @@ use Rattle.std.specs.Option.{option_flatten, option_copied_mut, OnSome}
 use denote.Ref.{MutBor}
 use Rattle.shred_world.specs.declared.resource_id.ResourceId.{ResourceId}
 use Rattle.shred_world.specs.ResourceIds.{same_id}
-use Rattle.shred_world.specs.Worlds.{Slots, value_at}
+use Rattle.shred_world.specs.Worlds.{Slots, resource_at, value_at}
 use Rattle.shred_world.specs.Bundles.{readable, slot_of}
 use Rattle.shred_world.proofs.CallerLemmas.{ids_total, get-insert_here}
 use Rattle.shred_world.proofs.WorldLemmas.{on_some}
@@ -44,6 +44,22 @@ module _ {V : Type 0} (w later : Slots V) (id : ResourceId) (was left : V) (stoo
 -- a value that was lent for writing stood there
 stood-there : {V : Type 0} (w : Slots V) (id : ResourceId) (lent : Option (MutBor V)) (value : MutBor V) → lent ≡ Some value → option_copied_mut lent ≡ value_at w id → value_at w id ≡ Some value.now
 stood-there w id lent value is stood = sym stood ∙ ap option_copied_mut is
+
+-- a resource that was lent for writing is there as it was left
+module _ {V A : Type 0} (w later : Slots V) (id asked : ResourceId) (at_id : asked ≡ id) (part : V → Option A) (wrapped : A → V) (seen : (a : A) → part (wrapped a) ≡ Some a)
+    (lent : Option (MutBor A)) (it : MutBor A) (is : lent ≡ Some it) (copied : option_copied_mut lent ≡ resource_at part w asked) (left : A) (puts_back : OnSome lent (later ≡ slots.insert w asked (Some (wrapped left)))) where
+  leaves-it : later ≡ slots.insert w id (Some (wrapped left))
+  leaves-it = on_some lent it _ is puts_back ∙ ap (λ i. slots.insert w i (Some (wrapped left))) at_id
+
+  pub held-before : option_and_then part (seen_of w id) ≡ Some it.now
+  held-before = ap (option_and_then part) (seen-value w id) ∙ sym (copied ∙ ap (resource_at part w) at_id) ∙ ap option_copied_mut is
+
+  pub held-after : option_and_then part (seen_of later id) ≡ Some left
+  held-after = ap (option_and_then part) (seen-value later id ∙ ap (λ m. value_at m id) leaves-it ∙ ap option_flatten (get-insert_here w id (Some (wrapped left)))) ∙ seen left
+
+  pub held-elsewhere : (other : ResourceId) → same_id other id ≡ false → seen_of later other ≡ seen_of w other
+  held-elsewhere other apart = ap (λ slot. readable (slot_of slot))
+      (ap (λ m. slots.get m other) leaves-it ∙ slots.get-insert ids_total w id (Some (wrapped left)) other ∙ ap (λ b. cond b (Some (Some (wrapped left))) (slots.get w other)) apart)
 
 module _ {V : Type 0} (kinds : Kinds V) (w later : Slots V) (kind : Name) (id : ResourceId) (at_kind : id ≡ kinds.part_id kind)
     (lent : Option (MutBor V)) (value : MutBor V) (is : lent ≡ Some value) (copied : option_copied_mut lent ≡ value_at w id) (left : V) (puts_back : OnSome lent (later ≡ slots.insert w id (Some left))) where

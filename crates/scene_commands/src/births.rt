@@ -14,6 +14,7 @@ ghost use Rattle.scene_commands.specs.Acts.{seen_of, MayAct, Acts, StaysElsewher
 ghost use Rattle.scene_commands.specs.Newborns.{RefusesLife, RefusesSpawn, ComesToLife, GetsId, Marks, GivesPart};
 ghost use Rattle.scene_commands.specs.Newborns.{GivesParts, Settles};
 
+use crate::lending::{allocator_at, entities_at};
 use crate::looking::entities_under;
 use crate::parts::put_at;
 use scene_model::{DocumentRules, FrameRefusal};
@@ -88,26 +89,13 @@ pub fn bring_to_life<R: Rules>(world: &mut World<R::Value>) -> Result<Entity, Fr
     ensures refused { IfErr result
         (RefusesLife (roll_of (kinds_by R.Rules R.Value.SceneValue) (seen_of world.old)).births) }
 {
-    let id = <R::Value as SceneValue<R::Data>>::entities_id();
-    let Some(value) = world.take_raw(id) else {
+    let place = <R::Value as SceneValue<R::Data>>::entities_id();
+    let Some(entities) = entities_at::<R>(world, place) else {
         return Err(FrameRefusal::Memory);
     };
-    match <R::Value as SceneValue<R::Data>>::unwrap_entities(value) {
-        Ok(mut entities) => {
-            let outcome = entities.allocate();
-            world.put_back(
-                id,
-                <R::Value as SceneValue<R::Data>>::wrap_entities(entities),
-            );
-            match outcome {
-                Ok(entity) => Ok(entity),
-                Err(error) => Err(refusal_of(error)),
-            }
-        }
-        Err(other) => {
-            world.put_back(id, other);
-            Err(FrameRefusal::Memory)
-        }
+    match entities.allocate() {
+        Ok(entity) => Ok(entity),
+        Err(error) => Err(refusal_of(error)),
     }
 }
 
@@ -116,27 +104,14 @@ fn give_id<R: Rules>(world: &mut World<R::Value>, entity: Entity) -> Result<u64,
     ensures { IfOk result (λ id. GetsId (kinds_by R.Rules R.Value.SceneValue) entity id (seen_of world.old)
         (seen_of world.new)) }
 {
-    let id = <R::Value as SceneValue<R::Data>>::allocator_id();
-    let Some(value) = world.take_raw(id) else {
+    let place = <R::Value as SceneValue<R::Data>>::allocator_id();
+    let Some(allocator) = allocator_at::<R>(world, place) else {
         return Err(AllocError);
     };
-    match <R::Value as SceneValue<R::Data>>::unwrap_allocator(value) {
-        Ok(mut allocator) => {
-            let outcome = allocator.allocate(entity, None);
-            world.put_back(
-                id,
-                <R::Value as SceneValue<R::Data>>::wrap_allocator(allocator),
-            );
-            match outcome {
-                Ok(marker) => Ok(marker.id()),
-                Err(error) => {
-                    drop(error);
-                    Err(AllocError)
-                }
-            }
-        }
-        Err(other) => {
-            world.put_back(id, other);
+    match allocator.allocate(entity, None) {
+        Ok(marker) => Ok(marker.id()),
+        Err(error) => {
+            drop(error);
             Err(AllocError)
         }
     }

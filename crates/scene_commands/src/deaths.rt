@@ -11,6 +11,7 @@ ghost use Rattle.scene_commands.specs.Links.{Covers};
 ghost use Rattle.scene_commands.specs.Owning.{HaveDied, IsKilled};
 
 use crate::holders::Holders;
+use crate::lending::{allocator_at, entities_at};
 use crate::looking::entity_under;
 use crate::owning::{dying_with, make_holders, owning_among};
 use crate::parts::take_at;
@@ -68,23 +69,11 @@ fn forget<R: Rules>(world: &mut World<R::Value>, id: u64) -> Result<(), AllocErr
         (Forgets (kinds_by R.Rules R.Value.SceneValue) id (seen_of world.old) (seen_of world.new)) }
 {
     let place = <R::Value as SceneValue<R::Data>>::allocator_id();
-    let Some(value) = world.take_raw(place) else {
+    let Some(allocator) = allocator_at::<R>(world, place) else {
         return Err(AllocError);
     };
-    match <R::Value as SceneValue<R::Data>>::unwrap_allocator(value) {
-        Ok(mut allocator) => {
-            allocator.forget(id);
-            world.put_back(
-                place,
-                <R::Value as SceneValue<R::Data>>::wrap_allocator(allocator),
-            );
-            Ok(())
-        }
-        Err(other) => {
-            world.put_back(place, other);
-            Err(AllocError)
-        }
-    }
+    allocator.forget(id);
+    Ok(())
 }
 
 /// Lets an entity of a world die. Errors: where it isn't alive, or the world has no entities, told as want of memory.
@@ -92,24 +81,14 @@ fn let_die<R: Rules>(world: &mut World<R::Value>, entity: Entity) -> Result<(), 
     ensures { OnOk result
         (LetsDie (kinds_by R.Rules R.Value.SceneValue) entity.id (seen_of world.old) (seen_of world.new)) }
 {
-    let id = <R::Value as SceneValue<R::Data>>::entities_id();
-    let Some(value) = world.take_raw(id) else {
+    let place = <R::Value as SceneValue<R::Data>>::entities_id();
+    let Some(entities) = entities_at::<R>(world, place) else {
         return Err(AllocError);
     };
-    match <R::Value as SceneValue<R::Data>>::unwrap_entities(value) {
-        Ok(mut entities) => {
-            let outcome = entities.kill(&[entity]);
-            world.put_back(
-                id,
-                <R::Value as SceneValue<R::Data>>::wrap_entities(entities),
-            );
-            match outcome {
-                Ok(()) => Ok(()),
-                Err(_) => Err(AllocError),
-            }
-        }
-        Err(other) => {
-            world.put_back(id, other);
+    match entities.kill(&[entity]) {
+        Ok(()) => Ok(()),
+        Err(error) => {
+            drop(error);
             Err(AllocError)
         }
     }

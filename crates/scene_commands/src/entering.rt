@@ -6,6 +6,7 @@ ghost use Rattle.scene_commands.specs.Becoming.{Becomes};
 ghost use Rattle.scene_commands.specs.Notes.{NotesUnder};
 ghost use Rattle.scene_world.specs.Members.{kinds_by};
 
+use crate::lending::allocator_at;
 use crate::{bring_to_life, entity_under, mark};
 use scene_document::EntityDraft;
 use scene_world::{Rules, SceneValue};
@@ -23,27 +24,14 @@ fn note_under<R: Rules>(
     ensures { OnOk result (NotesUnder (kinds_by R.Rules R.Value.SceneValue) entity given (seen_of world.old)
         (seen_of world.new)) }
 {
-    let id = <R::Value as SceneValue<R::Data>>::allocator_id();
-    let Some(value) = world.take_raw(id) else {
+    let place = <R::Value as SceneValue<R::Data>>::allocator_id();
+    let Some(allocator) = allocator_at::<R>(world, place) else {
         return Err(AllocError);
     };
-    match <R::Value as SceneValue<R::Data>>::unwrap_allocator(value) {
-        Ok(mut allocator) => {
-            let outcome = allocator.allocate(entity, Some(given));
-            world.put_back(
-                id,
-                <R::Value as SceneValue<R::Data>>::wrap_allocator(allocator),
-            );
-            match outcome {
-                Ok(_) => Ok(()),
-                Err(error) => {
-                    drop(error);
-                    Err(AllocError)
-                }
-            }
-        }
-        Err(other) => {
-            world.put_back(id, other);
+    match allocator.allocate(entity, Some(given)) {
+        Ok(_) => Ok(()),
+        Err(error) => {
+            drop(error);
             Err(AllocError)
         }
     }

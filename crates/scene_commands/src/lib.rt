@@ -11,6 +11,7 @@ mod globals;
 mod gone;
 mod holders;
 pub mod laws;
+mod lending;
 mod lists;
 mod load;
 mod looking;

@@ -13,6 +13,7 @@ ghost use Rattle.scene_commands.specs.Owning.{Falls, AreDying};
 
 use crate::gone::id_marked;
 use crate::holders::Holders;
+use crate::lending::entities_at;
 use crate::naming::holders_in;
 use crate::reaching::reached_from;
 use scene_world::{Rules, SceneValue};
@@ -220,26 +221,13 @@ fn fallen_with<R: Rules>(
     ensures { IfOk result (λ entities. Falls (kinds_by R.Rules R.Value.SceneValue) entity pairs.now
         (seen_of world.old) (seen_of world.new) entities.items) }
 {
-    let id = <R::Value as SceneValue<R::Data>>::entities_id();
-    let Some(value) = world.take_raw(id) else {
+    let place = <R::Value as SceneValue<R::Data>>::entities_id();
+    let Some(entities) = entities_at::<R>(world, place) else {
         return Err(AllocError);
     };
-    match <R::Value as SceneValue<R::Data>>::unwrap_entities(value) {
-        Ok(mut entities) => {
-            let outcome = entities.closure(&[entity], pairs);
-            world.put_back(
-                id,
-                <R::Value as SceneValue<R::Data>>::wrap_entities(entities),
-            );
-            match outcome {
-                Ok(fallen) => Ok(fallen),
-                Err(_) => Err(AllocError),
-            }
-        }
-        Err(other) => {
-            world.put_back(id, other);
-            Err(AllocError)
-        }
+    match entities.closure(&[entity], pairs) {
+        Ok(fallen) => Ok(fallen),
+        Err(_) => Err(AllocError),
     }
 }
 

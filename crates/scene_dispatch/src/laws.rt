@@ -37,7 +37,10 @@ use shred_world::ResourceId;
 
 /// Where there is no batch, a plan's run of systems and batches is its run of the systems.
 pub fn without_batches_a_plan_is_its_systems<V, S: System<V>, B: System<V>>()
-    ensures { (stages : List (Stage ResourceId)) (before after : State V (Work S B)) (refused : Option (ℕ × Stop)) → HasNoBatch before.systems → StagesRun ⟦<Work<S, B> as System<V>>⟧.meets stages before refused after → HasNoBatch after.systems × StagesRun S.meets stages (without_batches before) refused (without_batches after) }
+    ensures { (stages : List (Stage ResourceId)) (before after : State V (Work S B)) (refused : Option (ℕ × Stop))
+        → HasNoBatch before.systems → StagesRun ⟦<Work<S, B> as System<V>>⟧.meets stages before refused after
+        → HasNoBatch after.systems
+        × StagesRun S.meets stages (without_batches before) refused (without_batches after) }
 {}
 
 /// Local systems that run over a world in which a scene stands are the chain of their turns over the scene, in their order.
@@ -46,7 +49,10 @@ pub fn local_systems_take_their_turns<R: Rules>(rules: &R)
 where
     R::Value: Drop,
     ensures { (locals left : List _) (before after : Holding R.Value) (refused : Option (ℕ × Stop))
-        → LocalsAreLent R.Rules R.Value.SceneValue locals → LocalsStand R.Rules R.Value.SceneValue locals rules.now before → LocalsRun ⟦<PlacedLocal<R> as RunNow<R::Value>>⟧.meets 0 locals before refused left after → LocalsCome R.Rules R.Value.SceneValue locals rules.now before refused left after }
+        → LocalsAreLent R.Rules R.Value.SceneValue locals
+        → LocalsStand R.Rules R.Value.SceneValue locals rules.now before
+        → LocalsRun ⟦<PlacedLocal<R> as RunNow<R::Value>>⟧.meets 0 locals before refused left after
+        → LocalsCome R.Rules R.Value.SceneValue locals rules.now before refused left after }
 {}
 
 /// Two planners that are told alike, whatever their ids are, make plans of one shape: stage for stage and group for

@@ -149,8 +149,9 @@ fn add_staged<R: Rules>(
 where
     R::Value: Drop,
     requires known { AreKnown (kinds_by R.Rules R.Value.SceneValue) (R.declared made.system) }
-    ensures { OnOk result (builder.new ≡ with_placed ⟦<ResourceId as PartialEq>⟧.eq ⟦<Placed<R> as System<R::Value>>⟧.read_list ⟦<Placed<R> as System<R::Value>>⟧.write_list builder.old (record
-        { position = place; system = made.system }) (R.said_time made.system) name.now (texts after.now)) }
+    ensures { OnOk result (builder.new ≡ with_placed ⟦<ResourceId as PartialEq>⟧.eq
+        ⟦<Placed<R> as System<R::Value>>⟧.read_list ⟦<Placed<R> as System<R::Value>>⟧.write_list builder.old
+        (record { position = place; system = made.system }) (R.said_time made.system) name.now (texts after.now)) }
 {
     builder
         .add(place, made.system, name, after)

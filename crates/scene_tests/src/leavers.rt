@@ -16,7 +16,9 @@ ghost use Rattle.scene_tests.specs.LeaverLaws.{law-leaving_is_known};
 
 use crate::leaving::turn;
 use hibitset_sets::BitSet;
-use scene::{DocumentRules, Queue, ReadError, Rules, RunningTime, Stop, Store, SystemAccess};
+use scene::{
+    DocumentRules, Queue, ReadError, Rules, RunningTime, Stop, Store, SystemAccess, WorldRules,
+};
 use scene_basics::data::{Datum, G, HP};
 use scene_basics::{Basics, Value};
 use serde_json::Value as Json;
@@ -161,20 +163,14 @@ impl DocumentRules for Leavers {
     ghost declares_known = { λ _. law-leaving_is_known };
 }
 
-impl Rules for Leavers {
+impl WorldRules for Leavers {
     type Value = Value;
 
     ghost columns = { basic_columns };
 
-    ghost sense = { λ _. sense_of leavers };
-
-    ghost does = { λ leave. Makes (Some leave.hp_goes) };
-
     ghost named_so = { λ _. record { parts = refl; owning = refl; globals = refl } };
 
     ghost apart = { basic-apart };
-
-    ghost of_book = { λ rules leave made. record { is = tt; sense_so = refl; does_so = λ f o did. did } };
 
     fn part_id(kind: &str) -> ResourceId {
         Basics::part_id(kind)
@@ -249,6 +245,14 @@ impl Rules for Leavers {
     fn as_global<'a>(name: &str, value: &'a Value) -> Option<&'a i64> {
         Basics::as_global(name, value)
     }
+}
+
+impl Rules for Leavers {
+    ghost sense = { λ _. sense_of leavers };
+
+    ghost does = { λ leave. Makes (Some leave.hp_goes) };
+
+    ghost of_book = { λ rules leave made. record { is = tt; sense_so = refl; does_so = λ f o did. did } };
 
     fn run<H: AllocGlobal, W: Holder<Value>>(
         rt: &H,

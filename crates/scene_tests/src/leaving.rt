@@ -11,7 +11,7 @@ ghost use Rattle.scene_basics.specs.Adding.{ShowsNumbers};
 ghost use Rattle.scene_tests.specs.Leaving.{AreThose, TakesHp, TakesHpIf, SetsGlobal, TakesAndSets};
 
 use hibitset::BitSetLike;
-use scene::Rules;
+use scene::WorldRules;
 use scene_basics::data::{G, HP};
 use scene_basics::{Basics, Value, Whole};
 use shred_world::Holder;

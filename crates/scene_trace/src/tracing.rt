@@ -247,9 +247,9 @@ where
     Ok(())
 }
 
-/// Runs the document in these bytes, and shows its first scene and each frame up to the last one of these to a watcher, as it was done; but
-/// not those at the end of a run in which nothing can happen. The rules are given twice, once for the run and once to
-/// look.
+/// Runs the document in these bytes, and shows its first scene and each frame up to the last one of these to a watcher,
+/// as it was done; but not those at the end of a run in which nothing can happen. The rules are given twice, once for
+/// the run and once to look.
 ///
 /// Errors: `Document`, with the least refusal that stands, where no frame was run; `Halted`; `Memory`.
 pub fn trace<R: Rules + Drop + Send + Sync, H: AllocGlobal + Threads + Wait + Sync, W: Watcher>(

@@ -11,3 +11,4 @@ pub use Rattle.scene_world.proofs.ShownLemmas.{HasColumn, shown-put, shown-taken
 pub use Rattle.scene_world.proofs.AgeLemmas.{ages-none, ages-both, ages-by-death, ages-by-birth}
 pub use Rattle.scene_world.proofs.EachLemmas.{each-same, each-none, each-mapped, each-more, each-passed}
 pub use Rattle.scene_world.proofs.OwningLemmas.{same-owning}
+pub use Rattle.scene_world.proofs.KnownLemmas.{none-noted, none-lives, lent-none, lent-some, found-give}

@@ -15,3 +15,4 @@ pub mod WriteLemmas
 pub mod EachLemmas
 pub mod ShownLemmas
 pub mod AgeLemmas
+pub mod KnownLemmas

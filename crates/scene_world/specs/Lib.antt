@@ -21,3 +21,4 @@ pub mod Chains
 pub mod Writes
 pub mod Stops
 pub mod Members
+pub mod Known

@@ -13,7 +13,8 @@ use Rattle.scene_model.specs.Queues.{plain_commands, waiting}
 use Rattle.scene_world.specs.Stored.{Stored}
 use Rattle.scene_world.specs.Standing.{Kinds}
 
--- where a scene's entities, their markers, the allocator of ids and the queues stand, and what is read of each
+-- where a scene's entities, their markers, the allocator of ids and the queues stand, what is read of each, and the values
+-- that hold them
 pub record Places (V D : Type 0) : Type 0 where
   pub entities_id : ResourceId
   pub markers_id : ResourceId
@@ -26,6 +27,8 @@ pub record Places (V D : Type 0) : Type 0 where
   pub noting : V → Option Noting
   pub queue : V → Option (Queue D)
   pub queue_value : Queue D → V
+  pub entities_value : Births → V
+  pub allocator_value : Noting → V
 
 -- where the parts and globals of rules stand, under their names, whether references of a kind own their holder, and what is read of each
 pub record Columns (V : Type 0) : Type 0 where

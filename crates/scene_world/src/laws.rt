@@ -84,8 +84,9 @@ pub fn a_birth_is_a_spawn<V>()
         → IsRoll (roll_of kinds w) → AreBelow (roll_of kinds w) → Bears kinds entity parts w later
         → IsRoll (roll_of kinds later) }
     ensures scene { (owning : List Name) (kinds : Kinds V) (w now : Sight V) (entity : LifeAt)
-        (parts : Name → Option Stored) (given : List (Name × Part)) → IsRoll (roll_of kinds w) → AreBelow (roll_of kinds w)
-        → Bears kinds entity parts w now → HaveLiving (plain_of kinds w) given → HasNextId (roll_of kinds w)
+        (parts : Name → Option Stored) (given : List (Name × Part)) → IsRoll (roll_of kinds w)
+        → AreBelow (roll_of kinds w) → Bears kinds entity parts w now
+        → HaveLiving (plain_of kinds w) given → HasNextId (roll_of kinds w)
         → AreGiven kinds w parts given → apply owning (spawn given) (plain_of kinds w) ≡ changed (plain_of kinds now) }
 {}
 

@@ -4,6 +4,7 @@
 
 pub mod any_store;
 pub mod changes;
+pub mod known;
 pub mod laws;
 pub mod marker;
 pub mod parts;
@@ -19,7 +20,7 @@ pub use marker::{SceneMarker, SceneMarkerAllocator, no_markers};
 pub use parts::{SceneStorage, scene_storage};
 pub use placed::Placed;
 pub use readers::{catch_up_reader, gain_reader, told_indices};
-pub use rules::Rules;
+pub use rules::{Rules, WorldRules};
 pub use scene_model::Store;
 pub use stops::stop_for;
 pub use value::{QueueValue, SceneValue};

@@ -13,17 +13,12 @@ use specs_entity::Entity;
 use specs_layouts::ReaderId;
 use std::alloc::{AllocError, Global};
 
-/// Rules over a world: where the parts and globals of documents stand there, how they are put in and read, and systems
-/// that run over what they are lent of it.
+/// Where the parts and globals of documents stand in a world, how they are put in and read.
 ///
-/// `columns` says where the parts and globals stand, and what is read there. A system carries its own meaning, for a
-/// dispatcher owns it apart from the rules that made it: `sense` is what it knows of its rules, and `does` what it may
-/// make of what it is lent.
-pub trait Rules: DocumentRules {
+/// `columns` says where the parts and globals stand, and what is read there.
+pub trait WorldRules: DocumentRules {
     ghost use Rattle.std.specs.Prelude.{ℕ};
     ghost use Rattle.scene_model.specs.Parts.{Name};
-    ghost use Rattle.scene_model.specs.Rulebook.{Fragment, Outcome};
-    ghost use Rattle.scene_model.specs.Queues.{waiting, plain_commands};
     ghost use Rattle.specs_layouts.specs.Shows.{Shows};
     ghost use Rattle.hibitset_sets.specs.BitSet.{has_member};
     ghost use Rattle.scene_world.specs.Telling.{GainsReader, CatchesUp, TakesTold, TakesSome};
@@ -31,19 +26,12 @@ pub trait Rules: DocumentRules {
     ghost use Rattle.scene_world.specs.Places.{Columns, kinds_of};
     ghost use Rattle.scene_world.specs.Putting.{named_in, HasValue, PutsIn, TakesOut, SameColumn, part_read};
     ghost use Rattle.scene_world.specs.Putting.{AreReadAt, Registers, AreNamedIn};
-    ghost use Rattle.scene_world.specs.Turns.{Sense, Runs, IsOfBook, meaning_of};
 
     /// What a world holds.
     type Value: SceneValue<Self::Data>;
 
     /// Where parts and globals stand, and what is read there.
     ghost columns: { Columns Self.Value };
-
-    /// What a system knows of its rules.
-    ghost sense: { Self.System → Sense };
-
-    /// What a system may make of what it is lent.
-    ghost does: { Self.System → Fragment → Outcome → Type 0 };
 
     /// Where the parts of a kind of the rules stand: under a kind number of their own and the dynamic number 0.
     fn part_id(kind: &str) -> ResourceId
@@ -196,6 +184,29 @@ pub trait Rules: DocumentRules {
     fn as_global<'a>(name: &str, value: &'a Self::Value) -> Option<&'a Self::Global>
         ensures { option_map Self.global_of (option_copied result) ≡ columns.value name.now value.now };
 
+    /// The parts and globals are those of the rules.
+    ghost named_so: { (rules : Self) → AreNamedIn columns (Self.book rules) };
+
+    /// No two of the values of a scene stand under one id.
+    ghost apart: { StandApart (kinds_of ⟦<Self::Value as SceneValue<Self::Data>>⟧.places Self.part_of columns) };
+}
+
+/// Rules over a world, whose systems run over what they are lent of it.
+///
+/// A system carries its own meaning, for a dispatcher owns it apart from the rules that made it: `sense` is what it knows
+/// of its rules, and `does` what it may make of what it is lent.
+pub trait Rules: WorldRules {
+    ghost use Rattle.scene_model.specs.Rulebook.{Fragment, Outcome};
+    ghost use Rattle.scene_model.specs.Queues.{waiting, plain_commands};
+    ghost use Rattle.scene_world.specs.Places.{kinds_of};
+    ghost use Rattle.scene_world.specs.Turns.{Sense, Runs, IsOfBook, meaning_of};
+
+    /// What a system knows of its rules.
+    ghost sense: { Self.System → Sense };
+
+    /// What a system may make of what it is lent.
+    ghost does: { Self.System → Fragment → Outcome → Type 0 };
+
     /// Runs a system on what it is lent of a world, with an empty queue for its commands.
     ///
     /// Where what it is lent is fit (ids ascend, parts stand at them and nowhere else and are of their kinds,
@@ -211,16 +222,10 @@ pub trait Rules: DocumentRules {
         queue: &mut Queue<Self::Data>,
     ) -> Result<(), Stop>
         requires empty { waiting queue.old ≡ [] }
-        ensures runs { Runs (kinds_of ⟦<Self::Value as SceneValue<Self::Data>>⟧.places Self.part_of columns)
+        ensures runs { Runs (kinds_of ⟦<Self::Value as SceneValue<Self::Data>>⟧.places Self.part_of Self.columns)
             (meaning_of 0 Self.kind_of Self.config_of Self.declared sense does) system.old (W.slots view.old)
             (error_of result) system.new (W.slots view.new) (plain_commands Self.part_of (waiting queue.new)) }
         ensures leaves { Leaves (W.slots view.old) (W.slots view.new) };
-
-    /// The parts and globals are those of the rules.
-    ghost named_so: { (rules : Self) → AreNamedIn columns (Self.book rules) };
-
-    /// No two of the values of a scene stand under one id.
-    ghost apart: { StandApart (kinds_of ⟦<Self::Value as SceneValue<Self::Data>>⟧.places Self.part_of columns) };
 
     /// A system that rules made knows what they are, and does what they say of its kind and configuration.
     ghost of_book: { (rules : Self) (system : Self.System) → Self.made_by rules system

@@ -1,8 +1,13 @@
 //! What a world of a scene holds beside the parts and globals of its rules.
 ghost use Rattle.std.specs.Prelude.{◌≡◌, ℕ, false, Some, None, IfOk, IfErr, OnErr, IfSome, IfNone, option_copied};
-ghost use Rattle.std.specs.Option.{option_and_then, option_map_or};
+ghost use Rattle.std.specs.Option.{option_and_then, option_copied_mut, option_map_or};
+ghost use Rattle.std.specs.Borrow.{LendsIf, sem};
 ghost use Rattle.shred_world.specs.ResourceIds.{id_of};
+ghost use Rattle.specs_entity.specs.Births.{Births};
+ghost use Rattle.specs_entity.specs.contracts.entities_res.EntitiesRes.{the_row as entities_row};
 ghost use Rattle.specs_layouts.specs.Channels.{no_log};
+ghost use Rattle.specs_markers.specs.Simple.{Noting};
+ghost use Rattle.scene_world.specs.contracts.marker.SceneMarkerAllocator.{the_row as allocator_row};
 ghost use Rattle.scene_world.specs.Markers.{marker_at, marker_log, marker_tells};
 
 use crate::{SceneMarker, SceneMarkerAllocator};
@@ -89,10 +94,12 @@ pub trait SceneValue<D: Drop>: Sized {
     fn wrap_entities(entities: EntitiesRes) -> Self
         ensures { places.births result ≡ Some entities };
 
-    /// Takes the entities out of a value, or hands back a value that holds none.
-    fn unwrap_entities(value: Self) -> Result<EntitiesRes, Self>
-        ensures entities { IfOk result (λ entities. places.births value ≡ Some entities) }
-        ensures handed_back { IfErr result (λ other. other ≡ value) };
+    /// The entities that a value holds, if it holds them, for writing: it holds what they are left as.
+    fn entities_mut(value: &mut Self) -> Option<&mut EntitiesRes>
+        ensures* writes_back { sem 𝓛 (LendsIf Self.row entities_row value.entry result places.entities_value
+            value.old) }
+        ensures value { option_copied_mut result ≡ places.births value.old }
+        ensures seen { (entities : Births) → places.births (places.entities_value entities) ≡ Some entities };
 
     /// The markers that a value holds, if it holds them.
     fn markers(value: &Self) -> Option<&MaskedStorage<SceneMarker>>
@@ -125,10 +132,12 @@ pub trait SceneValue<D: Drop>: Sized {
     fn wrap_allocator(allocator: SceneMarkerAllocator) -> Self
         ensures { places.noting result ≡ Some allocator };
 
-    /// Takes the allocator of ids out of a value, or hands back a value that holds none.
-    fn unwrap_allocator(value: Self) -> Result<SceneMarkerAllocator, Self>
-        ensures allocator { IfOk result (λ allocator. places.noting value ≡ Some allocator) }
-        ensures handed_back { IfErr result (λ other. other ≡ value) };
+    /// The allocator of ids that a value holds, if it holds it, for writing: it holds what the allocator is left as.
+    fn allocator_mut(value: &mut Self) -> Option<&mut SceneMarkerAllocator>
+        ensures* writes_back { sem 𝓛 (LendsIf Self.row allocator_row value.entry result
+            places.allocator_value value.old) }
+        ensures value { option_copied_mut result ≡ places.noting value.old }
+        ensures seen { (noting : Noting) → places.noting (places.allocator_value noting) ≡ Some noting };
 }
 
 impl<V: QueueValue<D> + Drop, D: Drop> SceneValue<D> for V
@@ -150,6 +159,8 @@ where
       noting = ⟦<SceneMarkerAllocator as Resource<V>>⟧.part;
       queue = ⟦<V as QueueValue<D>>⟧.part;
       queue_value = ⟦<V as QueueValue<D>>⟧.wrapped;
+      entities_value = ⟦<EntitiesRes as Resource<V>>⟧.wrapped;
+      allocator_value = ⟦<SceneMarkerAllocator as Resource<V>>⟧.wrapped;
     } };
 
     fn entities_id() -> ResourceId {
@@ -187,8 +198,8 @@ where
         entities.wrap()
     }
 
-    fn unwrap_entities(value: V) -> Result<EntitiesRes, V> {
-        <EntitiesRes as Resource<V>>::unwrap(value)
+    fn entities_mut(value: &mut V) -> Option<&mut EntitiesRes> {
+        <EntitiesRes as Resource<V>>::view_mut(value)
     }
 
     fn markers(value: &V) -> Option<&MaskedStorage<SceneMarker>> {
@@ -211,7 +222,7 @@ where
         allocator.wrap()
     }
 
-    fn unwrap_allocator(value: V) -> Result<SceneMarkerAllocator, V> {
-        <SceneMarkerAllocator as Resource<V>>::unwrap(value)
+    fn allocator_mut(value: &mut V) -> Option<&mut SceneMarkerAllocator> {
+        <SceneMarkerAllocator as Resource<V>>::view_mut(value)
     }
 }

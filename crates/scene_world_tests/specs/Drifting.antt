@@ -198,6 +198,8 @@ drifting_places = record {
   noting = noting_in;
   queue = queue_in;
   queue_value = QueueValue;
+  entities_value = EntitiesValue;
+  allocator_value = AllocatorValue;
 }
 
 or-right : (b : Bool) → (b || false) ≡ true → b ≡ true

@@ -20,7 +20,7 @@ use Rattle.scene_world_tests.specs.declared.commands.datum.Datum.TheVariants.{Ow
 use Rattle.scene_world_tests.specs.declared.commands.values.Owner.{Owner}
 use Rattle.scene_world_tests.specs.declared.commands.values.Rank.{Rank}
 use Rattle.scene_world_tests.specs.declared.commands.values.Value.{Value}
-use Rattle.scene_world_tests.specs.declared.commands.values.Value.TheVariants.{QueueValue}
+use Rattle.scene_world_tests.specs.declared.commands.values.Value.TheVariants.{EntitiesValue, AllocatorValue, QueueValue}
 
 -- the names of the two kinds, and of the global
 abbrev pub owner_name : Name
@@ -153,6 +153,8 @@ owning_places = record {
   noting = noting_in;
   queue = queue_in;
   queue_value = QueueValue;
+  entities_value = EntitiesValue;
+  allocator_value = AllocatorValue;
 }
 
 -- where all that a world of these rules holds stands, and what is read there

@@ -1,4 +1,5 @@
 pub mod ValueLemmas
+pub mod ValuesDropLemmas
 pub mod ReapingLemmas
 pub mod FrameLemmas
 pub mod MergeLemmas

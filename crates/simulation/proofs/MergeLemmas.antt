@@ -17,8 +17,8 @@ use Rattle.specs_layouts.specs.Parts.{SameParts}
 use Rattle.specs_join.specs.ChangeEach.{after}
 use Rattle.specs_world.specs.Resources.{Place, place, held}
 use Rattle.specs_world.specs.Dropping.{SlotDrops, Deletes, MergesIn}
-use Rattle.simulation.specs.declared.values.Position.{Position}
-use Rattle.simulation.specs.declared.values.Velocity.{Velocity}
+use Rattle.simulation.specs.declared.parts.Position.{Position}
+use Rattle.simulation.specs.declared.parts.Velocity.{Velocity}
 use Rattle.simulation.specs.declared.values.Value.{Value}
 use Rattle.simulation.specs.declared.values.Value.TheVariants.{EntitiesValue, TableValue, PositionValue, VelocityValue}
 use Rattle.simulation.specs.Values.{Positions, Velocities, position_part, velocity_part, value_drops}

@@ -6,7 +6,7 @@ use Rattle.std.proofs.lemmas.Bool.{cases_eq, eq-eqb, eqb-true, true≢false, fal
 use Rattle.hibitset_sets.specs.Walk.{walk}
 use Rattle.hibitset_sets.proofs.CallerLemmas.{any-walk, contains-with}
 use Rattle.specs_entity.specs.Births.{Births, deleted, living}
-use Rattle.simulation.specs.declared.values.Position.{Position}
+use Rattle.simulation.specs.declared.parts.Position.{Position}
 use Rattle.simulation.specs.Steps.{Accepts, is_far, is_reaped}
 use Rattle.hibitset_sets.specs.BitSetEq.{both_ways}
 

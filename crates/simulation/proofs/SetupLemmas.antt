@@ -11,8 +11,8 @@ use Rattle.specs_world.specs.Resources.{Place, place, Becomes, Registers, Alloca
 use Rattle.specs_entity.specs.Births.{Births, living, none_born}
 use Rattle.specs_entity.specs.declared.ids.Entity.{Entity}
 use Rattle.specs_layouts.specs.Parts.{HasNone, Puts}
-use Rattle.simulation.specs.declared.values.Position.{Position}
-use Rattle.simulation.specs.declared.values.Velocity.{Velocity}
+use Rattle.simulation.specs.declared.parts.Position.{Position}
+use Rattle.simulation.specs.declared.parts.Velocity.{Velocity}
 use Rattle.simulation.specs.declared.values.Value.{Value}
 use Rattle.simulation.specs.declared.values.Value.TheVariants.{EntitiesValue, TableValue, PositionValue, VelocityValue}
 use Rattle.simulation.specs.Values.{Positions, Velocities, position_part, velocity_part}

@@ -17,8 +17,8 @@ use Rattle.shred.specs.declared.nothing.NoBatch.{NoBatch}
 use Rattle.shred.specs.declared.nothing.NoLocal.{NoLocal}
 use Rattle.specs_entity.specs.Births.{Births, living}
 use Rattle.specs_join.specs.ChangeEach.{after}
-use Rattle.simulation.specs.declared.values.Position.{Position}
-use Rattle.simulation.specs.declared.values.Velocity.{Velocity}
+use Rattle.simulation.specs.declared.parts.Position.{Position}
+use Rattle.simulation.specs.declared.parts.Velocity.{Velocity}
 use Rattle.simulation.specs.declared.values.Value.{Value}
 use Rattle.simulation.specs.declared.values.Value.TheVariants.{EntitiesValue, TableValue, PositionValue, VelocityValue}
 use Rattle.simulation.specs.declared.steps.Step.{Step}

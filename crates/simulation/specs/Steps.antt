@@ -11,8 +11,8 @@ use Rattle.specs_entity.specs.Life.{Life}
 use Rattle.specs_layouts.specs.Dense.{dense_part}
 use Rattle.specs_layouts.specs.Slots.{slot_at, slots_of}
 use Rattle.specs_join.specs.ChangeEach.{AreChanged}
-use Rattle.simulation.specs.declared.values.Position.{Position}
-use Rattle.simulation.specs.declared.values.Velocity.{Velocity}
+use Rattle.simulation.specs.declared.parts.Position.{Position}
+use Rattle.simulation.specs.declared.parts.Velocity.{Velocity}
 use Rattle.simulation.specs.declared.values.Value.{Value}
 use Rattle.simulation.specs.declared.values.Value.TheVariants.{EntitiesValue, PositionValue, VelocityValue}
 use Rattle.simulation.specs.declared.steps.Step.{Step}

@@ -4,6 +4,7 @@
 pub mod colonies;
 pub mod frames;
 pub mod movement;
+pub mod parts;
 pub mod reaping;
 pub mod setup;
 pub mod steps;

@@ -4,7 +4,8 @@ ghost use Rattle.shred_world.specs.Leaving.{Leaves};
 ghost use Rattle.shred_stages.specs.Views.{error_of};
 ghost use Rattle.simulation.specs.Steps.{Accepted, Moves};
 
-use crate::values::{Position, Value, Velocity};
+use crate::parts::{Position, Velocity};
+use crate::values::Value;
 use shred::{Holder, Stop, SystemData};
 use specs_join::{Change, change_each};
 use specs_layouts::MaskedStorage;
@@ -39,7 +40,7 @@ pub fn move_all<H: Holder<Value>>(holder: &mut H) -> Result<(), Stop>
     let Ok((velocities, mut positions)) = <Movable as SystemData<Value>>::fetch(holder) else {
         return Err(Stop::Full);
     };
-    let outcome = change_each(&mut positions.0.value, velocities.0.get(holder), &Moving);
+    let outcome = change_each(&mut positions.parts.value, velocities.get(holder), &Moving);
     SystemData::give_back((velocities, positions), holder);
     match outcome {
         Ok(()) => Ok(()),

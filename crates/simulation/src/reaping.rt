@@ -5,7 +5,8 @@ ghost use Rattle.shred_stages.specs.Views.{error_of};
 ghost use Rattle.specs_entity.specs.Births.{deleted, living};
 ghost use Rattle.simulation.specs.Steps.{Accepted, Accepts, Reaps, is_far, is_reaped};
 
-use crate::values::{Position, Value};
+use crate::parts::Position;
+use crate::values::Value;
 use hibitset::{BitSetLike, Index};
 use shred::{Holder, Stop, SystemData, WriteExpect};
 use specs_entity::EntitiesRes;
@@ -58,7 +59,7 @@ pub fn reap_all<H: Holder<Value>>(holder: &mut H) -> Result<(), Stop>
     let Ok((mut entities, positions)) = <Reapable as SystemData<Value>>::fetch(holder) else {
         return Err(Stop::Full);
     };
-    accept_far(&mut entities.value, positions.0.get(holder));
+    accept_far(&mut entities.value, positions.get(holder));
     SystemData::give_back((entities, positions), holder);
     Ok(())
 }

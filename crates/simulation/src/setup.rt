@@ -2,7 +2,8 @@
 ghost use Rattle.std.specs.Prelude.{◌≡◌, ℕ, ◌==◌, IfOk, OnOk, Some, if◌then◌else◌};
 ghost use Rattle.simulation.specs.Frames.{Stands, parts_in};
 
-use crate::values::{Position, Value, Velocity};
+use crate::parts::{Position, Velocity};
+use crate::values::Value;
 use shred::World;
 use specs_entity::{Entity, Error};
 use specs_world::WorldExt;

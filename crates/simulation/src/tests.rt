@@ -2,8 +2,9 @@
 use crate::colonies::runs as colonies;
 use crate::colonies::values::Held;
 use crate::frames::{Stopped, dispatcher, run_three};
+use crate::parts::{Position, Velocity};
 use crate::setup::{empty_world, spawn};
-use crate::values::{Position, Value, Velocity};
+use crate::values::Value;
 use shred::World;
 use specs_entity::{Entity, Error};
 use specs_layouts::MaskedStorage;

@@ -1,35 +1,30 @@
-//! What the simulation's world holds: entities, a table of kinds, and the parts of two kinds.
+//! What a world holds beside entities and a table of kinds: what values.list names, of which tools/values wrote this.
 ghost use Rattle.std.specs.Prelude.{◌≡◌, Some, None, refl};
 ghost use Rattle.std.proofs.Common.{rules};
 ghost use Rattle.specs_layouts.specs.DropLemmas.{dropped-parts, drops-none, drops-append};
 ghost use Rattle.simulation.specs.Values.{value_has_part, value_has_room, value_drops, value-parts, value-none};
 ghost use Rattle.simulation.specs.Values.{value-append};
-ghost use Rattle.simulation.specs.declared.values.Value.TheVariants.{EntitiesValue, TableValue, PositionValue};
+ghost use Rattle.simulation.specs.declared.values.Value.TheVariants.{EntitiesValue};
+ghost use Rattle.simulation.specs.declared.values.Value.TheVariants.{TableValue};
+ghost use Rattle.simulation.specs.declared.values.Value.TheVariants.{PositionValue};
 ghost use Rattle.simulation.specs.declared.values.Value.TheVariants.{VelocityValue};
 
+use crate::parts::{Position, Velocity};
 use shred_world::{MetaTable, Resource};
 use specs_entity::{EntitiesRes, Entity};
 use specs_layouts::{AnyStorage, Component, DenseVecStorage, MaskedStorage, VecStorage};
 use specs_world::Registrable;
 use std::alloc::AllocError;
 
-/// How far along its way an entity is, in steps.
-#[derive(Clone, Copy, Debug, PartialEq, Eq)]
-pub struct Position(pub u64);
-
 impl Component for Position {
     type Storage = VecStorage<Position>;
 }
-
-/// Steps a frame.
-#[derive(Clone, Copy, Debug, PartialEq, Eq)]
-pub struct Velocity(pub u64);
 
 impl Component for Velocity {
     type Storage = DenseVecStorage<Velocity>;
 }
 
-/// What a world of the simulation holds.
+/// The values of a world, of one kind each.
 #[derive(Drop)]
 pub enum Value {
     EntitiesValue(EntitiesRes),
@@ -223,29 +218,39 @@ impl Resource<Value> for MaskedStorage<Velocity> {
 }
 
 impl AnyStorage for Value {
-    ghost has_part = { value_has_part ⟦<MaskedStorage<Position> as AnyStorage>⟧.has_part
+    ghost has_part = { value_has_part
+        ⟦<MaskedStorage<Position> as AnyStorage>⟧.has_part
         ⟦<MaskedStorage<Velocity> as AnyStorage>⟧.has_part };
 
-    ghost has_room = { value_has_room ⟦<MaskedStorage<Position> as AnyStorage>⟧.has_room
+    ghost has_room = { value_has_room
+        ⟦<MaskedStorage<Position> as AnyStorage>⟧.has_room
         ⟦<MaskedStorage<Velocity> as AnyStorage>⟧.has_room };
 
-    ghost drops = { value_drops ⟦<MaskedStorage<Position> as AnyStorage>⟧.drops
+    ghost drops = { value_drops
+        ⟦<MaskedStorage<Position> as AnyStorage>⟧.drops
         ⟦<MaskedStorage<Velocity> as AnyStorage>⟧.drops };
 
     ghost drops_parts = { value-parts
-        ⟦<MaskedStorage<Position> as AnyStorage>⟧.has_part ⟦<MaskedStorage<Velocity> as AnyStorage>⟧.has_part
-        ⟦<MaskedStorage<Position> as AnyStorage>⟧.drops ⟦<MaskedStorage<Velocity> as AnyStorage>⟧.drops
+        ⟦<MaskedStorage<Position> as AnyStorage>⟧.has_part
+        ⟦<MaskedStorage<Velocity> as AnyStorage>⟧.has_part
+        ⟦<MaskedStorage<Position> as AnyStorage>⟧.drops
+        ⟦<MaskedStorage<Velocity> as AnyStorage>⟧.drops
         (λ _ _ indices dropped. dropped-parts _ _ indices dropped.parts)
         (λ _ _ indices dropped. dropped-parts _ _ indices dropped.parts) };
 
     ghost drops_none = { value-none
-        ⟦<MaskedStorage<Position> as AnyStorage>⟧.drops ⟦<MaskedStorage<Velocity> as AnyStorage>⟧.drops
-        (λ _. drops-none _ _ _) (λ _. drops-none _ _ _) };
+        ⟦<MaskedStorage<Position> as AnyStorage>⟧.drops
+        ⟦<MaskedStorage<Velocity> as AnyStorage>⟧.drops
+        (λ _. drops-none _ _ _)
+        (λ _. drops-none _ _ _) };
 
     ghost drops_append = { value-append
-        ⟦<MaskedStorage<Position> as AnyStorage>⟧.drops ⟦<MaskedStorage<Velocity> as AnyStorage>⟧.drops
-        (λ _ _ _ indices others one other. drops-append _ _ _ _ _ _ _ _ _ indices others one other)
-        (λ _ _ _ indices others one other. drops-append _ _ _ _ _ _ _ _ _ indices others one other) };
+        ⟦<MaskedStorage<Position> as AnyStorage>⟧.drops
+        ⟦<MaskedStorage<Velocity> as AnyStorage>⟧.drops
+        (λ _ _ _ indices others one other.
+        drops-append _ _ _ _ _ _ _ _ _ indices others one other)
+        (λ _ _ _ indices others one other.
+        drops-append _ _ _ _ _ _ _ _ _ indices others one other) };
 
     fn drop(&mut self, entities: &[Entity]) -> Result<(), AllocError> {
         match self {

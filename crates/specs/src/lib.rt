@@ -178,7 +178,8 @@ pub mod saveload {
     };
     pub use specs_saveload::deserialize::LoadError;
     pub use specs_saveload::{
-        ConvertSaveload, DeserializeComponents, EntityData, FormError, JsonForm, MarkedBuilder,
-        Marks, Names, PartForms, SavedMarker, SerializeComponents, bearer, plain_from, plain_into,
+        ConvertSaveload, DeserializeComponents, EntityData, FormError, JsonForm, Key,
+        MarkedBuilder, Marks, Names, PartForms, Place, SavedMarker, SerializeComponents, bearer,
+        list_from_value, plain_from, plain_into,
     };
 }

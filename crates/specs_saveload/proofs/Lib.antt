@@ -1,5 +1,6 @@
 pub mod ListLemmas
 pub mod TextLemmas
+pub mod ReadLemmas
 pub mod PartsLemmas
 pub mod SaveLemmas
 pub mod KnownLemmas
@@ -16,3 +17,4 @@ pub mod StopLemmas
 pub mod RecursionLemmas
 pub mod OrderLemmas
 pub mod ReachLemmas
+pub mod CallerLemmas

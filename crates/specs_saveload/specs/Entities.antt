@@ -1,7 +1,12 @@
 -- The JSON form of what is saved of an entity.
-use Rattle.std.specs.Prelude.{ℕ, Bool, true, false, ◌&&◌, List, [], ◌∷◌, codes, Option, Some, None, option_map, unwrap_or, if◌then◌else◌}
+use Rattle.std.specs.Prelude.{ℕ, Bool, true, false, ◌&&◌, List, [], ◌∷◌, length, codes, Option, Some, None, option_map, unwrap_or, if◌then◌else◌}
 use Rattle.std.specs.Str.{bytes_eq}
 use Rattle.serde_json.specs.Data.{Data, null, boolean, number, string, array, object, Items, no_items, item, Members, no_members, member}
+use Rattle.serde_json.specs.Find.{as_array}
+use Rattle.specs_saveload.specs.Parts.{either_place}
+use Rattle.specs_saveload.specs.Places.{at_key, whole}
+use Rattle.specs_saveload.specs.declared.form.Key.TheVariants.{Components, Marker}
+use Rattle.specs_saveload.specs.declared.form.Place.{Place}
 
 -- the items of a list
 abbrev pub data_of : Items → List Data
@@ -45,3 +50,13 @@ entity_members (object ms) = entity_in ms
 -- such an object, whose parts and marker have a property each
 abbrev pub is_entity : (Data → Bool) → (Data → Bool) → Data → Bool
 is_entity components marker d = unwrap_or (option_map (λ both. components both.0 && marker both.1) (entity_members d)) false
+
+-- the place among parts that aren't such; the JSON itself where it is no list, or one of more
+abbrev pub parts_place : (List Data → Option (List Data)) → (ℕ → List Data → Place) → Data → Place
+parts_place rest_of place_in d =
+    unwrap_or (option_map (λ items. let values = data_of items in either_place (rest_of values) (place_in (length values) values) (λ left. whole)) (as_array d)) whole
+
+-- the place in the parts where they aren't such, else in the marker; the JSON itself where it hasn't these two
+abbrev pub entity_place : (Data → Bool) → (Data → Place) → (Data → Place) → Data → Place
+entity_place are_components components marker d =
+    unwrap_or (option_map (λ both. if are_components both.0 then at_key Marker (marker both.1) else at_key Components (components both.0)) (entity_members d)) whole

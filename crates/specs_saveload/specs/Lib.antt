@@ -1,3 +1,4 @@
+pub mod Places
 pub mod Plain
 pub mod PlainLemmas
 pub mod Uuids

@@ -1,17 +1,21 @@
 //! The forms of values that may be absent, and of tuples.
 use crate::form::{FormError, JsonForm};
-use crate::lists::{as_four, as_one, as_three, as_two, four, is_empty, one, three, two};
+use crate::lists::{as_four, as_one, as_three, as_two, four, is_empty, one, read_item, three, two};
 use serde_json::Value;
 use std::alloc::{AllocError, Global};
 
 /// The list of none, or of one. `null` is no form, so that an absent part can be told from a part that is none.
 impl<T: JsonForm> JsonForm for Option<T> {
-    ghost use Rattle.specs_saveload.specs.Plain.{is_list, is_option, option_form, same_option, OptionAll};
+    ghost use Rattle.std.specs.Prelude.{[], ◌∷◌};
+    ghost use Rattle.specs_saveload.specs.Plain.{is_list, is_one, is_option, option_form, same_option, OptionAll};
+    ghost use Rattle.specs_saveload.specs.Places.{place_among};
     ghost use Rattle.specs_saveload.specs.PlainLemmas.{options-apart, options-alike, option-some};
 
     ghost form = { option_form T.form };
 
     ghost is_form = { is_list (is_option T.is_form) };
+
+    ghost place_in = { place_among is_one ((T.is_form, T.place_in) ∷ []) };
 
     ghost is_value = { OptionAll T.is_value };
 
@@ -29,8 +33,8 @@ impl<T: JsonForm> JsonForm for Option<T> {
             return Ok(None);
         }
         match as_one(json) {
-            Some(only) => Ok(Some(T::from_value(alloc, only)?)),
-            None => Err(FormError::Shape),
+            Some(only) => Ok(Some(read_item(alloc, only, 0)?)),
+            None => Err(FormError::whole()),
         }
     }
 
@@ -43,13 +47,17 @@ impl<T: JsonForm> JsonForm for Option<T> {
 
 /// The list of both.
 impl<A: JsonForm, B: JsonForm> JsonForm for (A, B) {
-    ghost use Rattle.specs_saveload.specs.Plain.{is_list, is_pair, pair_form};
+    ghost use Rattle.std.specs.Prelude.{[], ◌∷◌};
+    ghost use Rattle.specs_saveload.specs.Plain.{is_list, is_two, is_pair, pair_form};
+    ghost use Rattle.specs_saveload.specs.Places.{place_among};
     ghost use Rattle.serde_json.specs.Data.{item, no_items};
     ghost use Rattle.specs_saveload.specs.PlainLemmas.{pairs-apart, pairs-alike, array-some};
 
     ghost form = { λ both. pair_form (A.form both.0) (B.form both.1) };
 
     ghost is_form = { is_list (is_pair A.is_form B.is_form) };
+
+    ghost place_in = { place_among is_two ((A.is_form, A.place_in) ∷ (B.is_form, B.place_in) ∷ []) };
 
     ghost is_value = { λ both. A.is_value both.0 × B.is_value both.1 };
 
@@ -64,11 +72,11 @@ impl<A: JsonForm, B: JsonForm> JsonForm for (A, B) {
     fn from_value(alloc: Global, json: &Value) -> Result<(A, B), FormError> {
         match as_two(json) {
             Some((first, second)) => {
-                let one = A::from_value(alloc, first)?;
-                let other = B::from_value(alloc, second)?;
+                let one = read_item(alloc, first, 0)?;
+                let other = read_item(alloc, second, 1)?;
                 Ok((one, other))
             }
-            None => Err(FormError::Shape),
+            None => Err(FormError::whole()),
         }
     }
 
@@ -82,13 +90,18 @@ impl<A: JsonForm, B: JsonForm> JsonForm for (A, B) {
 
 /// The list of all three.
 impl<A: JsonForm, B: JsonForm, C: JsonForm> JsonForm for (A, B, C) {
-    ghost use Rattle.specs_saveload.specs.Plain.{is_list, is_triple, triple_form};
+    ghost use Rattle.std.specs.Prelude.{[], ◌∷◌};
+    ghost use Rattle.specs_saveload.specs.Plain.{is_list, is_three, is_triple, triple_form};
+    ghost use Rattle.specs_saveload.specs.Places.{place_among};
     ghost use Rattle.serde_json.specs.Data.{item, no_items};
     ghost use Rattle.specs_saveload.specs.PlainLemmas.{triples-apart, triples-alike, array-some};
 
     ghost form = { λ all. triple_form (A.form all.0) (B.form all.1) (C.form all.2) };
 
     ghost is_form = { is_list (is_triple A.is_form B.is_form C.is_form) };
+
+    ghost place_in = { place_among is_three ((A.is_form, A.place_in) ∷ (B.is_form, B.place_in)
+        ∷ (C.is_form, C.place_in) ∷ []) };
 
     ghost is_value = { λ all. A.is_value all.0 × B.is_value all.1 × C.is_value all.2 };
 
@@ -104,12 +117,12 @@ impl<A: JsonForm, B: JsonForm, C: JsonForm> JsonForm for (A, B, C) {
     fn from_value(alloc: Global, json: &Value) -> Result<(A, B, C), FormError> {
         match as_three(json) {
             Some((first, second, third)) => {
-                let a = A::from_value(alloc, first)?;
-                let b = B::from_value(alloc, second)?;
-                let c = C::from_value(alloc, third)?;
+                let a = read_item(alloc, first, 0)?;
+                let b = read_item(alloc, second, 1)?;
+                let c = read_item(alloc, third, 2)?;
                 Ok((a, b, c))
             }
-            None => Err(FormError::Shape),
+            None => Err(FormError::whole()),
         }
     }
 
@@ -125,13 +138,18 @@ impl<A: JsonForm, B: JsonForm, C: JsonForm> JsonForm for (A, B, C) {
 
 /// The list of all four.
 impl<A: JsonForm, B: JsonForm, C: JsonForm, D: JsonForm> JsonForm for (A, B, C, D) {
-    ghost use Rattle.specs_saveload.specs.Plain.{is_list, is_quadruple, quadruple_form};
+    ghost use Rattle.std.specs.Prelude.{[], ◌∷◌};
+    ghost use Rattle.specs_saveload.specs.Plain.{is_list, is_four, is_quadruple, quadruple_form};
+    ghost use Rattle.specs_saveload.specs.Places.{place_among};
     ghost use Rattle.serde_json.specs.Data.{item, no_items};
     ghost use Rattle.specs_saveload.specs.PlainLemmas.{quadruples-apart, quadruples-alike, array-some};
 
     ghost form = { λ all. quadruple_form (A.form all.0) (B.form all.1) (C.form all.2) (D.form all.3) };
 
     ghost is_form = { is_list (is_quadruple A.is_form B.is_form C.is_form D.is_form) };
+
+    ghost place_in = { place_among is_four ((A.is_form, A.place_in) ∷ (B.is_form, B.place_in)
+        ∷ (C.is_form, C.place_in) ∷ (D.is_form, D.place_in) ∷ []) };
 
     ghost is_value = { λ all. A.is_value all.0 × B.is_value all.1 × C.is_value all.2 × D.is_value all.3 };
 
@@ -149,13 +167,13 @@ impl<A: JsonForm, B: JsonForm, C: JsonForm, D: JsonForm> JsonForm for (A, B, C, 
     fn from_value(alloc: Global, json: &Value) -> Result<(A, B, C, D), FormError> {
         match as_four(json) {
             Some((first, second, third, fourth)) => {
-                let a = A::from_value(alloc, first)?;
-                let b = B::from_value(alloc, second)?;
-                let c = C::from_value(alloc, third)?;
-                let d = D::from_value(alloc, fourth)?;
+                let a = read_item(alloc, first, 0)?;
+                let b = read_item(alloc, second, 1)?;
+                let c = read_item(alloc, third, 2)?;
+                let d = read_item(alloc, fourth, 3)?;
                 Ok((a, b, c, d))
             }
-            None => Err(FormError::Shape),
+            None => Err(FormError::whole()),
         }
     }
 

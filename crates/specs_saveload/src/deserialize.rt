@@ -8,8 +8,10 @@ ghost use Rattle.specs_saveload.specs.Finding.{AreBearers, Finds, FindsBefore, L
 ghost use Rattle.specs_saveload.specs.Finding.{GivesThenRefuses};
 ghost use Rattle.specs_saveload.specs.Loading.{AreGivenParts, GivesEach, GivesEntry, GivesPart, GivesUntil};
 ghost use Rattle.specs_saveload.specs.Loading.{StaysAsItWas};
-ghost use Rattle.specs_saveload.specs.Known.{AddsBearers, AddsBirth, IsClean, KeepsBearers, RefusesBearers, bearer_in, known_of};
-ghost use Rattle.specs_saveload.specs.Loading.{IsLoaded, Loads, LoadsBefore, RefusesEntry, RefusesLoad, StaysSound, StopsInPair};
+ghost use Rattle.specs_saveload.specs.Known.{AddsBearers, AddsBirth, IsClean, KeepsBearers, RefusesBearers};
+ghost use Rattle.specs_saveload.specs.Known.{bearer_in, known_of};
+ghost use Rattle.specs_saveload.specs.Loading.{IsLoaded, Loads, LoadsBefore, RefusesEntry, RefusesLoad};
+ghost use Rattle.specs_saveload.specs.Loading.{StaysSound, StopsInPair};
 ghost use Rattle.specs_saveload.specs.Retrieved.{RetrievesEach, RetrievesFoundSome, RetrievesLoaded};
 ghost use Rattle.specs_saveload.specs.Retrieved.{RetrievesLoadedSome, RetrievesSome};
 ghost use Rattle.specs_saveload.specs.Saved.{named_in, plain_in};

@@ -1,12 +1,13 @@
 //! What is saved of an entity.
-ghost use Rattle.std.specs.Prelude.{◌≡◌, true, false, option_map, IfOk, OnOk, IsErrOf};
+ghost use Rattle.std.specs.Prelude.{◌≡◌, true, false, option_map, IfOk, OnOk};
 ghost use Rattle.serde_json.specs.Data.{array};
 ghost use Rattle.serde_json.specs.View.{view, items_of};
-ghost use Rattle.specs_saveload.specs.Entities.{are_parts, entity_json, entity_members};
+ghost use Rattle.specs_saveload.specs.Entities.{are_parts, entity_json, entity_members, parts_place};
 ghost use Rattle.specs_saveload.specs.Plain.{is_list};
-ghost use Rattle.specs_saveload.specs.declared.form.FormError.TheVariants as refusal;
+ghost use Rattle.specs_saveload.specs.Places.{IfShape, at_key};
+ghost use Rattle.specs_saveload.specs.declared.form.Key.TheVariants as of_key;
 
-use crate::form::{FormError, JsonForm};
+use crate::form::{FormError, JsonForm, Key};
 use crate::parts::PartForms;
 use serde_json::{Map, Value, put};
 use std::alloc::{AllocError, Global};
@@ -37,20 +38,50 @@ fn read_parts<D: PartForms>(alloc: Global, json: &Value) -> Result<D, FormError>
     ensures ok { IfOk result (λ parts. array (items_of (D.forms parts)) ≡ view json.now) }
     ensures known { OnOk result (is_list (are_parts D.rest_of) (view json.now) ≡ true) }
     ensures fits { IfOk result D.is_value }
-    ensures shape { IsErrOf result refusal.Shape → is_list (are_parts D.rest_of) (view json.now) ≡ false }
+    ensures shape { IfShape result (λ _. is_list (are_parts D.rest_of) (view json.now) ≡ false) }
+    ensures place { IfShape result (λ place. place ≡ parts_place D.rest_of D.place_in (view json.now)) }
 {
     let Some(values) = json.as_array() else {
-        return Err(FormError::Shape);
+        return Err(FormError::whole());
     };
-    match D::read(alloc, values.as_slice()) {
+    match D::read(alloc, values.as_slice(), values.len()) {
         Ok((parts, rest)) => {
             if rest.is_empty() {
                 Ok(parts)
             } else {
-                Err(FormError::Shape)
+                Err(FormError::whole())
             }
         }
         Err(error) => Err(error),
+    }
+}
+
+/// The parts of an entity.
+fn read_components<D: PartForms>(alloc: Global, json: &Value) -> Result<D, FormError>
+    ensures ok { IfOk result (λ parts. array (items_of (D.forms parts)) ≡ view json.now) }
+    ensures known { OnOk result (is_list (are_parts D.rest_of) (view json.now) ≡ true) }
+    ensures fits { IfOk result D.is_value }
+    ensures shape { IfShape result (λ _. is_list (are_parts D.rest_of) (view json.now) ≡ false) }
+    ensures place { IfShape result (λ place. place
+        ≡ at_key of_key.Components (parts_place D.rest_of D.place_in (view json.now))) }
+{
+    match read_parts(alloc, json) {
+        Ok(parts) => Ok(parts),
+        Err(error) => Err(error.at_key(Key::Components)),
+    }
+}
+
+/// The marker of an entity.
+fn read_marker<M: JsonForm>(alloc: Global, json: &Value) -> Result<M, FormError>
+    ensures ok { IfOk result (λ marker. M.form marker ≡ view json.now) }
+    ensures known { OnOk result (M.is_form (view json.now) ≡ true) }
+    ensures fits { IfOk result M.is_value }
+    ensures shape { IfShape result (λ _. M.is_form (view json.now) ≡ false) }
+    ensures place { IfShape result (λ place. place ≡ at_key of_key.Marker (M.place_in (view json.now))) }
+{
+    match M::from_value(alloc, json) {
+        Ok(marker) => Ok(marker),
+        Err(error) => Err(error.at_key(Key::Marker)),
     }
 }
 
@@ -83,12 +114,14 @@ impl<M: JsonForm, D: PartForms> JsonForm for EntityData<M, D> {
     ghost use Rattle.serde_json.specs.Data.{array};
     ghost use Rattle.serde_json.specs.View.{items_of};
     ghost use Rattle.specs_saveload.specs.Plain.{is_list};
-    ghost use Rattle.specs_saveload.specs.Entities.{are_parts, entity_json, is_entity};
+    ghost use Rattle.specs_saveload.specs.Entities.{are_parts, entity_json, entity_place, is_entity, parts_place};
     ghost use Rattle.specs_saveload.specs.EntityLemmas.{entities-apart, entities-alike, entity-some};
 
     ghost form = { λ saved. entity_json (array (items_of (D.forms saved.components))) (M.form saved.marker) };
 
     ghost is_form = { is_entity (is_list (are_parts D.rest_of)) M.is_form };
+
+    ghost place_in = { entity_place (is_list (are_parts D.rest_of)) (parts_place D.rest_of D.place_in) M.place_in };
 
     ghost is_value = { λ saved. M.is_value saved.marker × D.is_value saved.components };
 
@@ -102,10 +135,10 @@ impl<M: JsonForm, D: PartForms> JsonForm for EntityData<M, D> {
 
     fn from_value(alloc: Global, json: &Value) -> Result<EntityData<M, D>, FormError> {
         let Some((components, marker)) = part_members(json) else {
-            return Err(FormError::Shape);
+            return Err(FormError::whole());
         };
-        let components = read_parts(alloc, components)?;
-        let marker = M::from_value(alloc, marker)?;
+        let components = read_components(alloc, components)?;
+        let marker = read_marker(alloc, marker)?;
         Ok(EntityData { marker, components })
     }
 

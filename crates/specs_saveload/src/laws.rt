@@ -2,7 +2,7 @@
 ghost use Rattle.std.specs.Prelude.{◌≡◌, ◌≢◌, IfOk, IsErrOf, [], List, Some, None, IfSome, OnOk};
 ghost use Rattle.serde_json.specs.Data.{null};
 ghost use Rattle.serde_json.specs.View.{view};
-ghost use Rattle.specs_saveload.specs.declared.form.FormError.TheVariants as refusal;
+ghost use Rattle.specs_saveload.specs.Places.{IfShape};
 ghost use Rattle.specs_entity.specs.Births.{IsAlive};
 ghost use Rattle.specs_entity.specs.declared.ids.Entity.{Entity};
 ghost use Rattle.specs_saveload.specs.Images.{IsImage, MarkersDiffer, NamesOwn, NamesUnmarked};
@@ -30,7 +30,7 @@ use std::alloc::{AllocError, Global};
 /// What was written is read back as it was: only memory can be wanting, and what is read is the same.
 pub fn what_was_written_is_read_back<T: JsonForm>(alloc: Global, value: &T) -> Result<T, FormError>
     ensures back { IfOk result (T.same value.now) }
-    ensures read { IsErrOf result refusal.Shape → ⊥ }
+    ensures read { IfShape result (λ _. ⊥) }
 {
     let json = value.to_value(alloc)?;
     T::from_value(alloc, &json)

@@ -1,10 +1,12 @@
 //! Lists of JSON values, made and taken apart.
-ghost use Rattle.std.specs.Prelude.{◌≡◌, false, None, Some, IfOk, MatchOption};
+ghost use Rattle.std.specs.Prelude.{◌≡◌, true, false, None, Some, IfOk, OnOk, MatchOption};
 ghost use Rattle.serde_json.specs.Data.{array, no_items, item};
 ghost use Rattle.serde_json.specs.View.{view};
 ghost use Rattle.specs_saveload.specs.Plain.{is_list, is_none, is_one, is_two, is_three, is_four};
 ghost use Rattle.specs_saveload.specs.Plain.{pair_form, triple_form, quadruple_form};
+ghost use Rattle.specs_saveload.specs.Places.{IfShape, at_number};
 
+use crate::form::{FormError, JsonForm};
 use serde_json::Value;
 use std::alloc::{AllocError, Global};
 
@@ -108,5 +110,23 @@ pub(crate) fn is_empty(json: &Value) -> bool
     match json.as_array() {
         Some(items) => items.as_slice().is_empty(),
         None => false,
+    }
+}
+
+/// The value that the item with that number of a list has.
+pub(crate) fn read_item<T: JsonForm>(
+    alloc: Global,
+    item: &Value,
+    number: usize,
+) -> Result<T, FormError>
+    ensures ok { IfOk result (λ value. T.form value ≡ view item.now) }
+    ensures known { OnOk result (T.is_form (view item.now) ≡ true) }
+    ensures fits { IfOk result T.is_value }
+    ensures shape { IfShape result (λ _. T.is_form (view item.now) ≡ false) }
+    ensures place { IfShape result (λ place. place ≡ at_number number (T.place_in (view item.now))) }
+{
+    match T::from_value(alloc, item) {
+        Ok(value) => Ok(value),
+        Err(error) => Err(error.at_number(number)),
     }
 }

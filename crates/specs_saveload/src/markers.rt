@@ -25,7 +25,7 @@ impl<T> JsonForm for SimpleMarker<T> {
     fn from_value(_alloc: Global, json: &Value) -> Result<SimpleMarker<T>, FormError> {
         match json.as_u64() {
             Some(number) => Ok(SimpleMarker::new(number)),
-            None => Err(FormError::Shape),
+            None => Err(FormError::whole()),
         }
     }
 
@@ -61,16 +61,16 @@ impl<R> JsonForm for UuidMarker<R> {
 
     fn from_value(_alloc: Global, json: &Value) -> Result<UuidMarker<R>, FormError> {
         let Some(text) = json.as_str() else {
-            return Err(FormError::Shape);
+            return Err(FormError::whole());
         };
         let Ok(uuid) = Uuid::parse_str(text) else {
-            return Err(FormError::Shape);
+            return Err(FormError::whole());
         };
         let mut buffer = Uuid::encode_buffer();
         if uuid.hyphenated().encode_lower(&mut buffer) == text {
             Ok(UuidMarker::new(uuid))
         } else {
-            Err(FormError::Shape)
+            Err(FormError::whole())
         }
     }
 

@@ -37,8 +37,8 @@ impl JsonForm for u8 {
 
     fn from_value(_alloc: Global, json: &Value) -> Result<u8, FormError> {
         match json.as_u64() {
-            Some(number) => u8::try_from(number).ok().ok_or(FormError::Shape),
-            None => Err(FormError::Shape),
+            Some(number) => u8::try_from(number).ok().ok_or(FormError::whole()),
+            None => Err(FormError::whole()),
         }
     }
 
@@ -67,8 +67,8 @@ impl JsonForm for u16 {
 
     fn from_value(_alloc: Global, json: &Value) -> Result<u16, FormError> {
         match json.as_u64() {
-            Some(number) => u16::try_from(number).ok().ok_or(FormError::Shape),
-            None => Err(FormError::Shape),
+            Some(number) => u16::try_from(number).ok().ok_or(FormError::whole()),
+            None => Err(FormError::whole()),
         }
     }
 
@@ -97,8 +97,8 @@ impl JsonForm for u32 {
 
     fn from_value(_alloc: Global, json: &Value) -> Result<u32, FormError> {
         match json.as_u64() {
-            Some(number) => u32::try_from(number).ok().ok_or(FormError::Shape),
-            None => Err(FormError::Shape),
+            Some(number) => u32::try_from(number).ok().ok_or(FormError::whole()),
+            None => Err(FormError::whole()),
         }
     }
 
@@ -128,7 +128,7 @@ impl JsonForm for u64 {
     fn from_value(_alloc: Global, json: &Value) -> Result<u64, FormError> {
         match json.as_u64() {
             Some(number) => Ok(number),
-            None => Err(FormError::Shape),
+            None => Err(FormError::whole()),
         }
     }
 
@@ -158,7 +158,7 @@ impl JsonForm for usize {
     fn from_value(_alloc: Global, json: &Value) -> Result<usize, FormError> {
         match json.as_u64() {
             Some(number) => Ok(number as usize),
-            None => Err(FormError::Shape),
+            None => Err(FormError::whole()),
         }
     }
 
@@ -188,10 +188,10 @@ impl JsonForm for i8 {
 
     fn from_value(_alloc: Global, json: &Value) -> Result<i8, FormError> {
         match json.as_u64() {
-            Some(number) => i8::try_from(number).ok().ok_or(FormError::Shape),
+            Some(number) => i8::try_from(number).ok().ok_or(FormError::whole()),
             None => match negative_of(json) {
-                Some(number) => i8::try_from(number).ok().ok_or(FormError::Shape),
-                None => Err(FormError::Shape),
+                Some(number) => i8::try_from(number).ok().ok_or(FormError::whole()),
+                None => Err(FormError::whole()),
             },
         }
     }
@@ -222,10 +222,10 @@ impl JsonForm for i16 {
 
     fn from_value(_alloc: Global, json: &Value) -> Result<i16, FormError> {
         match json.as_u64() {
-            Some(number) => i16::try_from(number).ok().ok_or(FormError::Shape),
+            Some(number) => i16::try_from(number).ok().ok_or(FormError::whole()),
             None => match negative_of(json) {
-                Some(number) => i16::try_from(number).ok().ok_or(FormError::Shape),
-                None => Err(FormError::Shape),
+                Some(number) => i16::try_from(number).ok().ok_or(FormError::whole()),
+                None => Err(FormError::whole()),
             },
         }
     }
@@ -256,10 +256,10 @@ impl JsonForm for i32 {
 
     fn from_value(_alloc: Global, json: &Value) -> Result<i32, FormError> {
         match json.as_u64() {
-            Some(number) => i32::try_from(number).ok().ok_or(FormError::Shape),
+            Some(number) => i32::try_from(number).ok().ok_or(FormError::whole()),
             None => match negative_of(json) {
-                Some(number) => i32::try_from(number).ok().ok_or(FormError::Shape),
-                None => Err(FormError::Shape),
+                Some(number) => i32::try_from(number).ok().ok_or(FormError::whole()),
+                None => Err(FormError::whole()),
             },
         }
     }
@@ -290,10 +290,10 @@ impl JsonForm for i64 {
 
     fn from_value(_alloc: Global, json: &Value) -> Result<i64, FormError> {
         match json.as_u64() {
-            Some(number) => i64::try_from(number).ok().ok_or(FormError::Shape),
+            Some(number) => i64::try_from(number).ok().ok_or(FormError::whole()),
             None => match negative_of(json) {
                 Some(number) => Ok(number),
-                None => Err(FormError::Shape),
+                None => Err(FormError::whole()),
             },
         }
     }
@@ -324,10 +324,10 @@ impl JsonForm for isize {
 
     fn from_value(_alloc: Global, json: &Value) -> Result<isize, FormError> {
         match json.as_u64() {
-            Some(number) => isize::try_from(number).ok().ok_or(FormError::Shape),
+            Some(number) => isize::try_from(number).ok().ok_or(FormError::whole()),
             None => match negative_of(json) {
                 Some(number) => Ok(number as isize),
-                None => Err(FormError::Shape),
+                None => Err(FormError::whole()),
             },
         }
     }
@@ -355,7 +355,7 @@ impl JsonForm for bool {
     }
 
     fn from_value(_alloc: Global, json: &Value) -> Result<bool, FormError> {
-        json.as_bool().ok_or(FormError::Shape)
+        json.as_bool().ok_or(FormError::whole())
     }
 
     ghost told_apart = { λ one other _ _. booleans-apart one other };
@@ -384,7 +384,7 @@ impl JsonForm for String {
     fn from_value(alloc: Global, json: &Value) -> Result<String, FormError> {
         match json.as_str() {
             Some(text) => Ok(String::from_str(alloc, text)?),
-            None => Err(FormError::Shape),
+            None => Err(FormError::whole()),
         }
     }
 

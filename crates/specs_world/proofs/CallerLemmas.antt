@@ -4,6 +4,9 @@ pub use Rattle.specs_world.proofs.WorldLemmas.{Stands, stands-held, stands-is, h
 pub use Rattle.specs_world.proofs.WorldLemmas.{put-by-builder, put-parts, dropped-each}
 pub use Rattle.specs_world.proofs.WorldLemmas.{IsRegistered, registered-anew, registered-again, begun-births, begun-table, begun-others}
 pub use Rattle.specs_world.proofs.WorldLemmas.{deleted-parts, deleted-others, none-to-run}
+pub use Rattle.specs_world.proofs.StockedLemmas.{parts-rest, parts-told, begun, begun-without, IsKept, registered, registered-first, born, born-rests, put, put-rests, builds}
+pub use Rattle.specs_world.proofs.StockedLemmas.{DropsKind, kills, killed, merges, settles, none-gone, none-deleted, seen-parts}
+pub use Rattle.specs_world.proofs.JoinedLemmas.{joined-below, joined-edits, joined-known}
 use Rattle.std.proofs.Common.{◌≡◌, ℕ, zero, suc, arith, Option, Some, None, List, [], ◌∷◌, ◌⊎◌, inl, inr, Result, Ok, Err, refl, sym, ap, subst, ◌∙◌}
 use Rattle.std.specs.Prelude.{unwrap_or}
 use Rattle.std.specs.FinMap as map

@@ -6,3 +6,5 @@ pub mod JobLemmas
 pub mod QueueLemmas
 pub mod RunLemmas
 pub mod WorldLemmas
+pub mod StockedLemmas
+pub mod JoinedLemmas

@@ -8,3 +8,4 @@ pub mod Jobs
 pub mod Maintaining
 pub mod Queues
 pub mod Phases
+pub mod Stocked

@@ -292,7 +292,7 @@ where
     where
         MaskedStorage<T>: Resource<V>,
         ensures parts { IfOk result (λ bundle. held ⟦<MaskedStorage<T> as Held<V>>⟧.stands_at (slots self.old)
-            ≡ Some bundle.0.value) }
+            ≡ Some bundle.parts.value) }
         ensures out { OnOk result (IsTakenOut ⟦<MaskedStorage<T> as Held<V>>⟧.stands_at.id
             (slots self.old) (slots self.new)) }
         ensures named { IfErr result (λ error. error ≡ refusal.NotRegistered) }
@@ -306,7 +306,7 @@ where
     where
         MaskedStorage<T>: Resource<V>,
         ensures parts { IfOk result (λ bundle. held ⟦<MaskedStorage<T> as Held<V>>⟧.stands_at (slots self.old)
-            ≡ Some bundle.0.value) }
+            ≡ Some bundle.parts.value) }
         ensures out { OnOk result (IsTakenOut ⟦<MaskedStorage<T> as Held<V>>⟧.stands_at.id
             (slots self.old) (slots self.new)) }
         ensures named { IfErr result (λ error. error ≡ refusal.NotRegistered) }

@@ -2,4 +2,3 @@ pub mod ValueLemmas
 pub mod HistoryLemmas
 pub mod GivingLemmas
 pub mod LazyValueLemmas
-pub mod StockLemmas

@@ -2,7 +2,9 @@
 use Rattle.std.proofs.Common.{◌≡◌, ℕ, Bool, false, not, ◌&&◌, eqb, List, [], ◌++◌, refl}
 use Rattle.std.specs.List.{list_any}
 use Rattle.specs_layouts.specs.Masked.{Masked}
+use Rattle.specs_layouts.specs.Slots.{slot_at, slots_of}
 use Rattle.specs_layouts.specs.declared.storages.vec.VecStorage.{VecStorage}
+use Rattle.specs_world.specs.Stocked.{Basis, Kind}
 use Rattle.specs_world.specs.Variants.{DropsWithin, within-none, within-append, within-parts, stays-append, stays-parts}
 use Rattle.world_tests.specs.declared.lazy.tasks.Health.{Health}
 use Rattle.world_tests.specs.declared.lazy.values.Value.{Value}
@@ -68,3 +70,11 @@ value-parts health healths one (HealthValue s) after indices dropped index =
 value-parts health healths one (QueueValue x) after indices is index = stays-parts (value_has_part health) (QueueValue x) after (λ _. refl) is _ index
 value-parts health healths one (SharedValue x) after indices is index = stays-parts (value_has_part health) (SharedValue x) after (λ _. refl) is _ index
 value-parts health healths one (NotesValue x) after indices is index = stays-parts (value_has_part health) (NotesValue x) after (λ _. refl) is _ index
+
+-- what each world has beside its parts: entities, table, queues and a shared queue
+abbrev pub basis : Basis Value
+basis = record { entities = EntitiesValue; table = TableValue; entities_kind = 0; table_kind = 1; queue_kind = 3; shared_kind = 4 }
+
+-- healths, in their slots
+abbrev pub healths_kind : Kind Value (VecStorage Health) Health
+healths_kind = record { number = 2; wrapped = HealthValue; part_at = λ storage index. slot_at (slots_of storage) index }

@@ -2,5 +2,4 @@ pub mod Tiring
 pub mod Values
 pub mod Tasks
 pub mod LazyValues
-pub mod Stocked
 pub mod AskerMeets

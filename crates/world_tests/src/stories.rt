@@ -248,7 +248,7 @@ fn put_outside(
     bundle: &mut WriteStorage<Health>,
     entity: Entity,
 ) -> Result<(), Error> {
-    match Storage::new(entities, &mut bundle.0.value).insert(entity, Health(9)) {
+    match Storage::new(entities, &mut bundle.parts.value).insert(entity, Health(9)) {
         Ok(_) => Ok(()),
         Err((error, _)) => Err(error),
     }

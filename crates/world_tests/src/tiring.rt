@@ -48,7 +48,7 @@ pub fn tire<H: Holder<Value>>(holder: &mut H) -> Result<(), TooTired>
     let Ok((speeds, mut healths)) = <Tired as SystemData<Value>>::fetch(holder) else {
         return Err(TooTired);
     };
-    let outcome = change_each(&mut healths.0.value, speeds.0.get(holder), &Tiring);
+    let outcome = change_each(&mut healths.parts.value, speeds.get(holder), &Tiring);
     SystemData::give_back((speeds, healths), holder);
     match outcome {
         Ok(()) => Ok(()),

@@ -2,7 +2,7 @@
 use crate::worlds::Way;
 use crate::worlds::built::{half_of, sum_of};
 use simulation::movement::Moving;
-use simulation::values::{Position, Velocity};
+use simulation::parts::{Position, Velocity};
 use specs_entity::{EntitiesRes, Entity, Error};
 use specs_join::change_each;
 use specs_layouts::{AnyStorage, Component, MaskedStorage, TryDefault};

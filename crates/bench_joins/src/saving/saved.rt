@@ -6,7 +6,9 @@ use serde_json::Value;
 use specs_entity::{EntitiesRes, Entity, Error};
 use specs_layouts::{DenseVecStorage, MaskedStorage, TryDefault, VecStorage};
 use specs_markers::{MarkerAllocator, SimpleMarker, SimpleMarkerAllocator};
-use specs_saveload::{DeserializeComponents, EntityData, FormError, JsonForm, SerializeComponents};
+use specs_saveload::{
+    DeserializeComponents, EntityData, FormError, JsonForm, SerializeComponents, list_from_value,
+};
 use std::alloc::{AllocError, Global};
 
 /// What the markers are for.
@@ -221,23 +223,7 @@ pub fn value_of(alloc: Global, entries: &Entries) -> Result<Value, AllocError> {
     Ok(Value::Array(values))
 }
 
-/// Puts the entry of a JSON behind the others.
-fn push_entry(entries: &mut Entries, alloc: Global, json: &Value) -> Result<(), FormError> {
-    let entry = EntityData::from_value(alloc, json)?;
-    match entries.push(entry) {
-        Ok(()) => Ok(()),
-        Err(_) => Err(FormError::Memory),
-    }
-}
-
 /// The entries of a JSON.
 pub fn entries_of(alloc: Global, json: &Value) -> Result<Entries, FormError> {
-    let Some(values) = json.as_array() else {
-        return Err(FormError::Shape);
-    };
-    let mut entries = Vec::new(alloc);
-    for value in values {
-        push_entry(&mut entries, alloc, value)?;
-    }
-    Ok(entries)
+    list_from_value(alloc, json)
 }

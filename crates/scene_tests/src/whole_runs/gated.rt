@@ -13,7 +13,9 @@ ghost use Rattle.scene_tests.specs.Gated.{place_access, place_name, gated_book, 
 ghost use Rattle.scene_tests.specs.GatedLaws.{law-gates_known};
 
 use hibitset_sets::BitSet;
-use scene::{DocumentRules, Queue, ReadError, Rules, RunningTime, Stop, Store, SystemAccess};
+use scene::{
+    DocumentRules, Queue, ReadError, Rules, RunningTime, Stop, Store, SystemAccess, WorldRules,
+};
 use scene_world_tests::turns::{Drifting, Value};
 use serde_json::Value as Json;
 use shred_world::{Holder, ResourceId, World};
@@ -217,20 +219,14 @@ impl DocumentRules for Gated {
     ghost declares_known = { λ _. law-gates_known };
 }
 
-impl Rules for Gated {
+impl WorldRules for Gated {
     type Value = Value;
 
     ghost columns = { drifting_columns };
 
-    ghost sense = { λ _. sense_of gated_book };
-
-    ghost does = { λ _. Passes };
-
     ghost named_so = { λ _. record { parts = refl; owning = refl; globals = refl } };
 
     ghost apart = { drifting-apart };
-
-    ghost of_book = { λ rules system made. record { is = tt; sense_so = refl; does_so = λ f o did. law-passes system.place f o null did } };
 
     fn part_id(kind: &str) -> ResourceId {
         Drifting::part_id(kind)
@@ -305,6 +301,14 @@ impl Rules for Gated {
     fn as_global<'a>(name: &str, value: &'a Value) -> Option<&'a u64> {
         Drifting::as_global(name, value)
     }
+}
+
+impl Rules for Gated {
+    ghost sense = { λ _. sense_of gated_book };
+
+    ghost does = { λ _. Passes };
+
+    ghost of_book = { λ rules system made. record { is = tt; sense_so = refl; does_so = λ f o did. law-passes system.place f o null did } };
 
     fn run<H: AllocGlobal, W: Holder<Value>>(
         rt: &H,

@@ -13,7 +13,7 @@ ghost use Rattle.scene_tests.specs.WatchedLaws.{law-declares_known};
 
 use hibitset_sets::BitSet;
 use scene_model::{DocumentRules, Queue, ReadError, RunningTime, SystemAccess};
-use scene_world::{Rules, Store};
+use scene_world::{Rules, Store, WorldRules};
 use scene_world_tests::turns::{Drift, Drifting, Value};
 use serde_json::Value as Json;
 use shred_stages::Stop;
@@ -175,20 +175,14 @@ impl DocumentRules for Watched {
     ghost declares_known = { λ _. law-declares_known };
 }
 
-impl Rules for Watched {
+impl WorldRules for Watched {
     type Value = Value;
 
     ghost columns = { drifting_columns };
 
-    ghost sense = { λ _. sense_of watched_book };
-
-    ghost does = { mover_does };
-
     ghost named_so = { λ _. record { parts = refl; owning = refl; globals = refl } };
 
     ghost apart = { drifting-apart };
-
-    ghost of_book = { λ rules system made. record { is = tt; sense_so = refl; does_so = λ f o did. law-does system f o null did } };
 
     fn part_id(kind: &str) -> ResourceId {
         Drifting::part_id(kind)
@@ -263,6 +257,14 @@ impl Rules for Watched {
     fn as_global<'a>(name: &str, value: &'a Value) -> Option<&'a u64> {
         Drifting::as_global(name, value)
     }
+}
+
+impl Rules for Watched {
+    ghost sense = { λ _. sense_of watched_book };
+
+    ghost does = { mover_does };
+
+    ghost of_book = { λ rules system made. record { is = tt; sense_so = refl; does_so = λ f o did. law-does system f o null did } };
 
     fn run<H: AllocGlobal, W: Holder<Value>>(
         rt: &H,

@@ -8,7 +8,7 @@ use crate::commands::rules::Owning;
 use crate::commands::values::Value;
 use scene_commands::{Holders, entity_under, kill_entity, put_part, spawn_entity, take_part};
 use scene_model::FrameRefusal;
-use scene_world::{Rules, SceneMarker, SceneMarkerAllocator};
+use scene_world::{SceneMarker, SceneMarkerAllocator, WorldRules};
 use shred_world::World;
 use specs_entity::{EntitiesRes, Entity};
 use specs_layouts::MaskedStorage;

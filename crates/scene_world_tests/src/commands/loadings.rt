@@ -9,7 +9,7 @@ use crate::commands::values::Value;
 use scene_commands::load_world;
 use scene_document::{DocumentDraft, EntityDraft, Limits, LoadError};
 use scene_model::DocRefusal;
-use scene_world::{Rules, Store};
+use scene_world::{Store, WorldRules};
 use serde_json::Value as Json;
 use shred_world::World;
 use std::alloc::{AllocError, Global};

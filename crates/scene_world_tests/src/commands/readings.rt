@@ -4,7 +4,7 @@ use crate::commands::rules::{Idle, Owning};
 use crate::commands::values::Value;
 use scene_commands::open_world;
 use scene_model::{DocumentRules, Queue, ReadError};
-use scene_world::{Placed, Rules, SceneValue, Store};
+use scene_world::{Placed, Rules, SceneValue, Store, WorldRules};
 use serde_json::Value as Json;
 use shred_stages::{Stop, System};
 use shred_world::World;

@@ -12,7 +12,7 @@ use crate::commands::datum::Datum;
 use crate::commands::values::Value;
 use hibitset_sets::BitSet;
 use scene_model::Queue;
-use scene_world::{Rules, Store};
+use scene_world::{Rules, Store, WorldRules};
 use shred_stages::Stop;
 use shred_world::{Holder, ResourceId, World};
 use specs_entity::Entity;
@@ -27,20 +27,14 @@ pub struct Owning;
 #[derive(Drop)]
 pub struct Idle;
 
-impl Rules for Owning {
+impl WorldRules for Owning {
     type Value = Value;
 
     ghost columns = { owning_columns };
 
-    ghost sense = { λ _. sense_of owning_book };
-
-    ghost does = { λ _. Rests };
-
     ghost named_so = { λ _. record { parts = refl; owning = refl; globals = refl } };
 
     ghost apart = { owning-apart };
-
-    ghost of_book = { λ rules system made. absurd made };
 
     fn part_id(kind: &str) -> ResourceId {
         if kind == "owner" {
@@ -149,6 +143,14 @@ impl Rules for Owning {
             _ => None,
         }
     }
+}
+
+impl Rules for Owning {
+    ghost sense = { λ _. sense_of owning_book };
+
+    ghost does = { λ _. Rests };
+
+    ghost of_book = { λ rules system made. absurd made };
 
     fn run<H: AllocGlobal, W: Holder<Value>>(
         _rt: &H,

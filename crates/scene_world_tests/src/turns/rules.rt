@@ -12,7 +12,7 @@ use crate::turns::drift::drift_all;
 use crate::turns::values::Value;
 use hibitset_sets::BitSet;
 use scene_model::Queue;
-use scene_world::{Rules, Store};
+use scene_world::{Rules, Store, WorldRules};
 use shred_stages::Stop;
 use shred_world::{Holder, ResourceId, World};
 use specs_entity::Entity;
@@ -27,20 +27,14 @@ pub struct Drifting;
 #[derive(Drop)]
 pub struct Drift;
 
-impl Rules for Drifting {
+impl WorldRules for Drifting {
     type Value = Value;
 
     ghost columns = { drifting_columns };
 
-    ghost sense = { λ _. sense_of drifting_book };
-
-    ghost does = { λ _. Drifts };
-
     ghost named_so = { λ _. record { parts = refl; owning = refl; globals = refl } };
 
     ghost apart = { drifting-apart };
-
-    ghost of_book = { λ rules system made. record { is = tt; sense_so = refl; does_so = λ f o did. did } };
 
     fn part_id(kind: &str) -> ResourceId {
         if kind == "pos" {
@@ -143,6 +137,14 @@ impl Rules for Drifting {
     fn as_global<'a>(_name: &str, _value: &'a Value) -> Option<&'a u64> {
         None
     }
+}
+
+impl Rules for Drifting {
+    ghost sense = { λ _. sense_of drifting_book };
+
+    ghost does = { λ _. Drifts };
+
+    ghost of_book = { λ rules system made. record { is = tt; sense_so = refl; does_so = λ f o did. did } };
 
     fn run<H: AllocGlobal, W: Holder<Value>>(
         _rt: &H,

@@ -2,7 +2,8 @@
 ghost use Rattle.std.specs.Prelude.{◌≡◌, IfOk, OnOk, None, [], ◌∷◌};
 ghost use Rattle.specs_entity.specs.Births.{none_born};
 ghost use Rattle.specs_join.specs.Joins.{join_list};
-ghost use Rattle.world_tests.specs.Stocked.{Builds, IsStocked, Kills, Settles, health_at};
+ghost use Rattle.specs_world.specs.Stocked.{Builds, HasParts, IsStocked, Kills, Settles};
+ghost use Rattle.world_tests.specs.LazyValues.{basis, healths_kind};
 
 use crate::lazy::tasks::{Health, Task};
 use crate::lazy::values::Value;
@@ -18,7 +19,8 @@ use std::sync::Wait;
 ///
 /// Errors: `Memory`.
 pub fn stock(alloc: Global) -> Result<World<Value>, Error>
-    ensures { IfOk result (λ world. IsStocked world (none_born 16777216 2147483647) (λ _. None)) }
+    ensures { IfOk result (λ world. IsStocked basis (none_born 16777216 2147483647) (2 ∷ []) world
+        × HasParts healths_kind (λ _. None) world) }
 {
     let mut world: World<Value> = WorldExt::new(alloc)?;
     world.register::<Health>()?;
@@ -29,7 +31,7 @@ pub fn stock(alloc: Global) -> Result<World<Value>, Error>
 ///
 /// Errors: those of `create_entity`; those of `put`, and the deletion of the entity is accepted.
 pub fn build(world: &mut World<Value>, health: Health) -> Result<Entity, Error>
-    ensures { IfOk result (λ entity. Builds health entity world.old world.new) }
+    ensures { IfOk result (λ entity. Builds basis healths_kind health entity world.old world.new) }
 {
     let mut builder = world.create_entity()?;
     match builder.put(health) {
@@ -42,7 +44,7 @@ pub fn build(world: &mut World<Value>, health: Health) -> Result<Entity, Error>
 ///
 /// Errors: those of `delete_entity`.
 pub fn kill(world: &mut World<Value>, entity: Entity) -> Result<(), Error>
-    ensures { OnOk result (Kills entity world.old world.new) }
+    ensures { OnOk result (Kills basis healths_kind entity world.old world.new) }
 {
     world.delete_entity(entity)
 }
@@ -51,7 +53,7 @@ pub fn kill(world: &mut World<Value>, entity: Entity) -> Result<(), Error>
 ///
 /// Errors: those of `maintain`.
 pub fn settle<R: Wait>(rt: &R, world: &mut World<Value>) -> Result<(), Error>
-    ensures { OnOk result (Settles world.old world.new) }
+    ensures { OnOk result (Settles basis healths_kind world.old world.new) }
 {
     match LazyWorld::<Value, Task>::maintain(world, rt, 8) {
         Ok(_) => Ok(()),
@@ -63,7 +65,7 @@ pub fn settle<R: Wait>(rt: &R, world: &mut World<Value>) -> Result<(), Error>
 ///
 /// Errors: want of memory.
 fn list_of(alloc: Global, healths: &MaskedStorage<Health>) -> Result<Vec<Health>, AllocError>
-    ensures { IfOk result (λ list. list.items ≡ join_list (health_at healths.now)) }
+    ensures { IfOk result (λ list. list.items ≡ join_list (healths_kind.part_at healths.now.inner)) }
 {
     let mut list = Vec::new(alloc);
     for health in healths.join() {

@@ -3,7 +3,7 @@ use Rattle.std.specs.FinMap as map
 use Rattle.std.specs.Ordering.{nat_cmp}
 use Rattle.specs_entity.specs.Births.{Births}
 use Rattle.specs_markers.specs.Simple.{Noting}
-use Rattle.saveload_tests.proofs.RoundLemmas.{nobody-lives, same-again}
+use Rattle.specs_saveload.proofs.CallerLemmas.{nobody-lives, same-again}
 use Rattle.saveload_tests.proofs.round.saved_and_loaded_again.Goals as goal
 
 pub a_loaded_list_is_saved_again-requires-clause-nobody :

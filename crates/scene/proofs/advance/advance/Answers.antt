@@ -24,7 +24,7 @@ returns-in_err-finish_frame-clause-refused g c =
     let failed : c.from_residual.result ≡ Err c.in_err-finish_frame.field-0.0 = grind arith in
     let scene = listed_scene g.R.DocumentRules.part_of g.R.DocumentRules.global_of (g.R.DocumentRules.book c.args.rules.now) c.args.kept.now in
     let frame : PlainFrame = record { order = turn_order (placed_as (λ placed. placed.position) (λ placed. placed.system) g.R.DocumentRules.kind_of g.R.DocumentRules.config_of g.R.DocumentRules.declared g.R.Rules.sense g.R.Rules.does).plain c.args.dispatcher.now; commands = plain_commands g.R.DocumentRules.part_of c.args.input.now.given.now } in
-    let kinds = kinds_of g.R.Value.SceneValue.places g.R.DocumentRules.part_of g.R.Rules.columns in
+    let kinds = kinds_of g.R.Value.SceneValue.places g.R.DocumentRules.part_of g.R.WorldRules.columns in
     let meaning = placed_as (λ placed. placed.position) (λ placed. placed.system) g.R.DocumentRules.kind_of g.R.DocumentRules.config_of g.R.DocumentRules.declared g.R.Rules.sense g.R.Rules.does in
     let cause = c.in_err-finish_frame.field-0.0 in
     rw failed (λ limit same under. refused-under kinds meaning (g.R.DocumentRules.book c.args.rules.now) limit c.args.dispatcher.now c.args.world.now frame.commands scene c.args.outcome cause
@@ -37,7 +37,7 @@ keep_changes-requires g c =
     let was = c.requires.since.1 in
     let w = c.requires.since.0 in
     let begun = c.requires.since.2 in
-    let named = g.met.R.Rules.named_so c.args.rules.now in
+    let named = g.met.R.WorldRules.named_so c.args.rules.now in
     record {
       stands = let ready = c.in_ok-finish_frame.ensures.ready in ready.world;
       many = begun.many;
@@ -48,8 +48,8 @@ keep_changes-requires g c =
           (
             was.below,
             (
-              subst (λ names. IsFullByIndex (kinds_of g.R.Value.SceneValue.places g.R.DocumentRules.part_of g.R.Rules.columns) g.R.DocumentRules.part_of names c.args.kept.now (seen_of w)) (sym named.parts) was.full,
-              told-since (kinds_of g.R.Value.SceneValue.places g.R.DocumentRules.part_of g.R.Rules.columns) c.args.watchers.now w c.finish_frame.new.world begun was.telling (c.in_ok-finish_frame.ensures.goes_on w c.requires.since.3),
+              subst (λ names. IsFullByIndex (kinds_of g.R.Value.SceneValue.places g.R.DocumentRules.part_of g.R.WorldRules.columns) g.R.DocumentRules.part_of names c.args.kept.now (seen_of w)) (sym named.parts) was.full,
+              told-since (kinds_of g.R.Value.SceneValue.places g.R.DocumentRules.part_of g.R.WorldRules.columns) c.args.watchers.now w c.finish_frame.new.world begun was.telling (c.in_ok-finish_frame.ensures.goes_on w c.requires.since.3),
             ),
           ),
         ),
@@ -63,7 +63,7 @@ catch_up_world-requires g c =
     let begun = c.requires.since.2 in
     record {
       many = begun.many;
-      telling = telling-on (kinds_of g.R.Value.SceneValue.places g.R.DocumentRules.part_of g.R.Rules.columns) c.args.watchers.now w c.finish_frame.new.world begun was.telling (c.in_ok-finish_frame.ensures.goes_on w c.requires.since.3);
+      telling = telling-on (kinds_of g.R.Value.SceneValue.places g.R.DocumentRules.part_of g.R.WorldRules.columns) c.args.watchers.now w c.finish_frame.new.world begun was.telling (c.in_ok-finish_frame.ensures.goes_on w c.requires.since.3);
     }
 
 pub returns-in-Ok-clause-accepted : goal.returns-in-Ok-clause-accepted
@@ -71,7 +71,7 @@ returns-in-Ok-clause-accepted g c =
     let start = listed_scene g.R.DocumentRules.part_of g.R.DocumentRules.global_of (g.R.DocumentRules.book c.args.rules.now) c.args.kept.now in
     let accepted = c.in_ok-finish_frame.ensures.accepted start c.requires.come in
     let frame : PlainFrame = record { order = turn_order (placed_as (λ placed. placed.position) (λ placed. placed.system) g.R.DocumentRules.kind_of g.R.DocumentRules.config_of g.R.DocumentRules.declared g.R.Rules.sense g.R.Rules.does).plain c.args.dispatcher.now; commands = plain_commands g.R.DocumentRules.part_of c.args.input.now.given.now } in
-    let kept : listed_scene g.R.DocumentRules.part_of g.R.DocumentRules.global_of (g.R.DocumentRules.book c.args.rules.now) c.keep_changes.new.kept ≡ plain_of (kinds_of g.R.Value.SceneValue.places g.R.DocumentRules.part_of g.R.Rules.columns) (seen_of c.finish_frame.new.world) = c.in-Ok.ensures.scene in (
+    let kept : listed_scene g.R.DocumentRules.part_of g.R.DocumentRules.global_of (g.R.DocumentRules.book c.args.rules.now) c.keep_changes.new.kept ≡ plain_of (kinds_of g.R.Value.SceneValue.places g.R.DocumentRules.part_of g.R.WorldRules.columns) (seen_of c.finish_frame.new.world) = c.in-Ok.ensures.scene in (
       accepted.0,
       subst (λ after. Accepts (g.R.DocumentRules.book c.args.rules.now) c.args.input.now.limit frame start after accepted.0) (sym kept) accepted.1,
       accepted.2,
@@ -98,14 +98,14 @@ returns-in-Ok-clause-full g c =
     let caught = c.catch_up_world.ensures in
     let law = c.events_are_no_part_of_a_scene.ensures in
     let ready = c.in_ok-finish_frame.ensures.ready in
-    let named = g.met.R.Rules.named_so c.args.rules.now in
+    let named = g.met.R.WorldRules.named_so c.args.rules.now in
     record {
       stands = law.stands mid later caught.stays ready.world;
-      below = below-still (kinds_of g.R.Value.SceneValue.places g.R.DocumentRules.part_of g.R.Rules.columns) (seen_of mid) (seen_of later) (law.roll mid later caught.stays) c.in-Ok.ensures.below;
-      full = subst (λ names. IsFullByIndex (kinds_of g.R.Value.SceneValue.places g.R.DocumentRules.part_of g.R.Rules.columns) g.R.DocumentRules.part_of names c.keep_changes.new.kept (seen_of later)) named.parts
-          (full-still (kinds_of g.R.Value.SceneValue.places g.R.DocumentRules.part_of g.R.Rules.columns) (seen_of mid) (seen_of later) (law.roll mid later caught.stays) caught.stays g.R.DocumentRules.part_of c.keep_changes.new.kept c.in-Ok.ensures.full);
-      watched = all-ended (kinds_of g.R.Value.SceneValue.places g.R.DocumentRules.part_of g.R.Rules.columns) c.args.watchers.now (seen_of mid) (seen_of later) caught.caught
-          (alike-on (kinds_of g.R.Value.SceneValue.places g.R.DocumentRules.part_of g.R.Rules.columns) c.args.watchers.now c.requires.since.0 mid c.requires.since.2 (let was = c.requires.since.1 in was.telling) (c.in_ok-finish_frame.ensures.goes_on c.requires.since.0 c.requires.since.3));
+      below = below-still (kinds_of g.R.Value.SceneValue.places g.R.DocumentRules.part_of g.R.WorldRules.columns) (seen_of mid) (seen_of later) (law.roll mid later caught.stays) c.in-Ok.ensures.below;
+      full = subst (λ names. IsFullByIndex (kinds_of g.R.Value.SceneValue.places g.R.DocumentRules.part_of g.R.WorldRules.columns) g.R.DocumentRules.part_of names c.keep_changes.new.kept (seen_of later)) named.parts
+          (full-still (kinds_of g.R.Value.SceneValue.places g.R.DocumentRules.part_of g.R.WorldRules.columns) (seen_of mid) (seen_of later) (law.roll mid later caught.stays) caught.stays g.R.DocumentRules.part_of c.keep_changes.new.kept c.in-Ok.ensures.full);
+      watched = all-ended (kinds_of g.R.Value.SceneValue.places g.R.DocumentRules.part_of g.R.WorldRules.columns) c.args.watchers.now (seen_of mid) (seen_of later) caught.caught
+          (alike-on (kinds_of g.R.Value.SceneValue.places g.R.DocumentRules.part_of g.R.WorldRules.columns) c.args.watchers.now c.requires.since.0 mid c.requires.since.2 (let was = c.requires.since.1 in was.telling) (c.in_ok-finish_frame.ensures.goes_on c.requires.since.0 c.requires.since.3));
       telling = caught.telling;
     }
 
@@ -113,9 +113,9 @@ pub returns-in-Ok-clause-changes : goal.returns-in-Ok-clause-changes
 returns-in-Ok-clause-changes g c =
     let mid = c.finish_frame.new.world in
     let later = c.catch_up_world.new.world in
-    let alike = alike-on (kinds_of g.R.Value.SceneValue.places g.R.DocumentRules.part_of g.R.Rules.columns) c.args.watchers.now c.requires.since.0 mid c.requires.since.2 (let was = c.requires.since.1 in was.telling) (c.in_ok-finish_frame.ensures.goes_on c.requires.since.0 c.requires.since.3) in
+    let alike = alike-on (kinds_of g.R.Value.SceneValue.places g.R.DocumentRules.part_of g.R.WorldRules.columns) c.args.watchers.now c.requires.since.0 mid c.requires.since.2 (let was = c.requires.since.1 in was.telling) (c.in_ok-finish_frame.ensures.goes_on c.requires.since.0 c.requires.since.3) in
     subst (λ touched. CountsMore c.args.kept.now.changes (changes_at touched c.args.kept.now c.keep_changes.new.kept) c.keep_changes.new.kept.changes)
-    (sym (touched-left (kinds_of g.R.Value.SceneValue.places g.R.DocumentRules.part_of g.R.Rules.columns) c.args.watchers.now (seen_of mid) (seen_of later) c.catch_up_world.ensures.caught alike)) c.in-Ok.ensures.changes
+    (sym (touched-left (kinds_of g.R.Value.SceneValue.places g.R.DocumentRules.part_of g.R.WorldRules.columns) c.args.watchers.now (seen_of mid) (seen_of later) c.catch_up_world.ensures.caught alike)) c.in-Ok.ensures.changes
 
 pub returns-in-Err-clause-unchanged : goal.returns-in-Err-clause-unchanged
 returns-in-Err-clause-unchanged g c = let same = c.in-Err.ensures.refused in same.changes
@@ -133,7 +133,7 @@ returns-in-Err-clause-skips g c =
 
 pub returns-in-Ok-clause-under : goal.returns-in-Ok-clause-under
 returns-in-Ok-clause-under g c = λ limit under.
-    let kinds = kinds_of g.R.Value.SceneValue.places g.R.DocumentRules.part_of g.R.Rules.columns in
+    let kinds = kinds_of g.R.Value.SceneValue.places g.R.DocumentRules.part_of g.R.WorldRules.columns in
     let law = c.events_are_no_part_of_a_scene.ensures in
     let is : c.finish_frame.result ≡ Ok c.in_ok-finish_frame.field-0 = grind arith in
     subst (IsBounded limit.indices limit.generation limit.unlisted) (sym (law.roll c.finish_frame.new.world c.catch_up_world.new.world c.catch_up_world.ensures.stays))

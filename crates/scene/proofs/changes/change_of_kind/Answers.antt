@@ -13,10 +13,10 @@ use Rattle.scene.proofs.changes.change_of_kind.Goals as goal
 
 pub returns-clause-change : goal.returns-clause-change
 returns-clause-change g c =
-    let told : has_member c.in_ok-told.told ≡ part_told (kinds_of g.R.Value.SceneValue.places g.R.DocumentRules.part_of g.R.Rules.columns) (seen_of c.args.world.now) c.args.kind.now c.args.reader.now = fun_ext c.in_ok-told.ensures in
+    let told : has_member c.in_ok-told.told ≡ part_told (kinds_of g.R.Value.SceneValue.places g.R.DocumentRules.part_of g.R.WorldRules.columns) (seen_of c.args.world.now) c.args.kind.now c.args.reader.now = fun_ext c.in_ok-told.ensures in
     record {
       indices = c.in_ok-indices.ensures ∙ ap (λ (members : ℕ → Bool). behind_themselves (walk members)) told;
-      found = subst (λ pairs. AreOfPairs (kinds_of g.R.Value.SceneValue.places g.R.DocumentRules.part_of g.R.Rules.columns) g.R.DocumentRules.part_of (seen_of c.args.world.now) c.args.kind.now pairs c.in_ok-found.found.items) c.deref.ensures.value c.in_ok-found.ensures;
+      found = subst (λ pairs. AreOfPairs (kinds_of g.R.Value.SceneValue.places g.R.DocumentRules.part_of g.R.WorldRules.columns) g.R.DocumentRules.part_of (seen_of c.args.world.now) c.args.kind.now pairs c.in_ok-found.found.items) c.deref.ensures.value c.in_ok-found.ensures;
     }
 
 pub returns-clause-within : goal.returns-clause-within
@@ -24,7 +24,7 @@ returns-clause-within g c index member = united-low (nat_lt index 16777216) (has
 
 pub returns-clause-only : goal.returns-clause-only
 returns-clause-only g c index member =
-    let told : has_member c.in_ok-told.told index ≡ part_told (kinds_of g.R.Value.SceneValue.places g.R.DocumentRules.part_of g.R.Rules.columns) (seen_of c.args.world.now) c.args.kind.now c.args.reader.now index = c.in_ok-told.ensures index in
+    let told : has_member c.in_ok-told.told index ≡ part_told (kinds_of g.R.Value.SceneValue.places g.R.DocumentRules.part_of g.R.WorldRules.columns) (seen_of c.args.world.now) c.args.kind.now c.args.reader.now index = c.in_ok-told.ensures index in
     ap (λ b. has_member c.args.touched.now index || b) (sym told)
     ∙ united-one (nat_lt index 16777216) (has_member c.args.touched.now index || has_member c.in_ok-told.told index) (sym (c.in_ok-bitor_assign.ensures.ok index) ∙ member)
 
@@ -37,7 +37,7 @@ returns-clause-kept g c index member =
 
 pub returns-clause-told : goal.returns-clause-told
 returns-clause-told g c index one =
-    let low : index < 16777216 = told-below (events_in (kinds_of g.R.Value.SceneValue.places g.R.DocumentRules.part_of g.R.Rules.columns) c.args.kind.now (seen_of c.args.world.now ((kinds_of g.R.Value.SceneValue.places g.R.DocumentRules.part_of g.R.Rules.columns).part_id c.args.kind.now))) c.args.reader.now index one in
+    let low : index < 16777216 = told-below (events_in (kinds_of g.R.Value.SceneValue.places g.R.DocumentRules.part_of g.R.WorldRules.columns) c.args.kind.now (seen_of c.args.world.now ((kinds_of g.R.Value.SceneValue.places g.R.DocumentRules.part_of g.R.WorldRules.columns).part_id c.args.kind.now))) c.args.reader.now index one in
     let under : nat_lt index 16777216 ≡ true = grind (arith, low) in
     c.in_ok-bitor_assign.ensures.ok index
     ∙ united-right (nat_lt index 16777216) (has_member c.args.touched.now index) (has_member c.in_ok-told.told index) under (c.in_ok-told.ensures index ∙ one)

@@ -15,7 +15,7 @@ use Rattle.scene.proofs.changes.changes_of_kinds.Goals as goal
 
 pub loop-place-init : goal.loop-place-init
 loop-place-init g c = record {
-  changes = no-changes (kinds_of g.R.Value.SceneValue.places g.R.DocumentRules.part_of g.R.Rules.columns) g.R.DocumentRules.part_of (seen_of c.args.world.now) (texts c.args.names.now) c.args.watchers.now c.new-changes.result.items c.new-changes.ensures.items;
+  changes = no-changes (kinds_of g.R.Value.SceneValue.places g.R.DocumentRules.part_of g.R.WorldRules.columns) g.R.DocumentRules.part_of (seen_of c.args.world.now) (texts c.args.names.now) c.args.watchers.now c.new-changes.result.items c.new-changes.ensures.items;
   within = c.requires.within;
   kept = λ index member. member;
   told = λ place below. absurd (omega (arith, below));
@@ -43,19 +43,19 @@ loop-place-preserved g c =
     let found = get_or watchers place c.index-watchers-place.result in
     let same : found ≡ watcher_at watchers place = get_or_default watchers place c.index-watchers-place.result _ (omega (arith, below, c.requires.many)) in
     record {
-      changes = changes-more (kinds_of g.R.Value.SceneValue.places g.R.DocumentRules.part_of g.R.Rules.columns) g.R.DocumentRules.part_of w names watchers place c.loop-place.changes.items c.push.new.self.items c.in_ok-change.change so_far.changes
-          (subst (λ one. IsChange (kinds_of g.R.Value.SceneValue.places g.R.DocumentRules.part_of g.R.Rules.columns) g.R.DocumentRules.part_of w (name_at names place) (part_told (kinds_of g.R.Value.SceneValue.places g.R.DocumentRules.part_of g.R.Rules.columns) w (name_at names place) one.frame) c.in_ok-change.change) same
-          (subst (λ kind. IsChange (kinds_of g.R.Value.SceneValue.places g.R.DocumentRules.part_of g.R.Rules.columns) g.R.DocumentRules.part_of w kind (part_told (kinds_of g.R.Value.SceneValue.places g.R.DocumentRules.part_of g.R.Rules.columns) w kind found.frame) c.in_ok-change.change) (sym name) made.change))
+      changes = changes-more (kinds_of g.R.Value.SceneValue.places g.R.DocumentRules.part_of g.R.WorldRules.columns) g.R.DocumentRules.part_of w names watchers place c.loop-place.changes.items c.push.new.self.items c.in_ok-change.change so_far.changes
+          (subst (λ one. IsChange (kinds_of g.R.Value.SceneValue.places g.R.DocumentRules.part_of g.R.WorldRules.columns) g.R.DocumentRules.part_of w (name_at names place) (part_told (kinds_of g.R.Value.SceneValue.places g.R.DocumentRules.part_of g.R.WorldRules.columns) w (name_at names place) one.frame) c.in_ok-change.change) same
+          (subst (λ kind. IsChange (kinds_of g.R.Value.SceneValue.places g.R.DocumentRules.part_of g.R.WorldRules.columns) g.R.DocumentRules.part_of w kind (part_told (kinds_of g.R.Value.SceneValue.places g.R.DocumentRules.part_of g.R.WorldRules.columns) w kind found.frame) c.in_ok-change.change) (sym name) made.change))
           c.in_ok-push.ensures.items;
       within = made.within;
       kept = λ index member. made.kept index (so_far.kept index member);
-      told = touched-more (kinds_of g.R.Value.SceneValue.places g.R.DocumentRules.part_of g.R.Rules.columns) w names watchers place (has_member c.loop-place.touched) (has_member c.change_of_kind.new.touched) so_far.told made.kept
+      told = touched-more (kinds_of g.R.Value.SceneValue.places g.R.DocumentRules.part_of g.R.WorldRules.columns) w names watchers place (has_member c.loop-place.touched) (has_member c.change_of_kind.new.touched) so_far.told made.kept
           (λ index one. made.told index
-          (subst (λ kind. part_told (kinds_of g.R.Value.SceneValue.places g.R.DocumentRules.part_of g.R.Rules.columns) w kind found.frame index ≡ true) name (subst (λ watcher. part_told (kinds_of g.R.Value.SceneValue.places g.R.DocumentRules.part_of g.R.Rules.columns) w (name_at names place) watcher.frame index ≡ true) (sym same) one)));
-      only = only-more (kinds_of g.R.Value.SceneValue.places g.R.DocumentRules.part_of g.R.Rules.columns) w names watchers place (has_member c.args.touched.now) (has_member c.loop-place.touched) (has_member c.change_of_kind.new.touched) so_far.only
+          (subst (λ kind. part_told (kinds_of g.R.Value.SceneValue.places g.R.DocumentRules.part_of g.R.WorldRules.columns) w kind found.frame index ≡ true) name (subst (λ watcher. part_told (kinds_of g.R.Value.SceneValue.places g.R.DocumentRules.part_of g.R.WorldRules.columns) w (name_at names place) watcher.frame index ≡ true) (sym same) one)));
+      only = only-more (kinds_of g.R.Value.SceneValue.places g.R.DocumentRules.part_of g.R.WorldRules.columns) w names watchers place (has_member c.args.touched.now) (has_member c.loop-place.touched) (has_member c.change_of_kind.new.touched) so_far.only
           (λ index member.
-          subst (λ watcher. (has_member c.loop-place.touched index || part_told (kinds_of g.R.Value.SceneValue.places g.R.DocumentRules.part_of g.R.Rules.columns) w (name_at names place) watcher.frame index) ≡ true) same
-          (subst (λ kind. (has_member c.loop-place.touched index || part_told (kinds_of g.R.Value.SceneValue.places g.R.DocumentRules.part_of g.R.Rules.columns) w kind found.frame index) ≡ true) (sym name) (made.only index member)));
+          subst (λ watcher. (has_member c.loop-place.touched index || part_told (kinds_of g.R.Value.SceneValue.places g.R.DocumentRules.part_of g.R.WorldRules.columns) w (name_at names place) watcher.frame index) ≡ true) same
+          (subst (λ kind. (has_member c.loop-place.touched index || part_told (kinds_of g.R.Value.SceneValue.places g.R.DocumentRules.part_of g.R.WorldRules.columns) w kind found.frame index) ≡ true) (sym name) (made.only index member)));
     }
 
 pub returns : goal.returns
@@ -63,9 +63,9 @@ returns g c =
     let all : c.loop-place.place ≡ length c.args.names.now = let test = c.loop-place-test.false in let ends = c.loop-place.auto.place-end in omega (arith, test, ends) in
     let so_far = c.loop-place.invariant in
     record {
-      changes = subst (λ count. AreChanges (kinds_of g.R.Value.SceneValue.places g.R.DocumentRules.part_of g.R.Rules.columns) g.R.DocumentRules.part_of (seen_of c.args.world.now) (texts c.args.names.now) c.args.watchers.now count c.loop-place.changes.items) all so_far.changes;
+      changes = subst (λ count. AreChanges (kinds_of g.R.Value.SceneValue.places g.R.DocumentRules.part_of g.R.WorldRules.columns) g.R.DocumentRules.part_of (seen_of c.args.world.now) (texts c.args.names.now) c.args.watchers.now count c.loop-place.changes.items) all so_far.changes;
       within = so_far.within;
       kept = so_far.kept;
-      told = subst (λ count. AreTouched (kinds_of g.R.Value.SceneValue.places g.R.DocumentRules.part_of g.R.Rules.columns) (seen_of c.args.world.now) (texts c.args.names.now) c.args.watchers.now count (has_member c.loop-place.touched)) all so_far.told;
-      only = subst (λ count. OnlyTouched (kinds_of g.R.Value.SceneValue.places g.R.DocumentRules.part_of g.R.Rules.columns) (seen_of c.args.world.now) (texts c.args.names.now) c.args.watchers.now count (has_member c.args.touched.now) (has_member c.loop-place.touched)) all so_far.only;
+      told = subst (λ count. AreTouched (kinds_of g.R.Value.SceneValue.places g.R.DocumentRules.part_of g.R.WorldRules.columns) (seen_of c.args.world.now) (texts c.args.names.now) c.args.watchers.now count (has_member c.loop-place.touched)) all so_far.told;
+      only = subst (λ count. OnlyTouched (kinds_of g.R.Value.SceneValue.places g.R.DocumentRules.part_of g.R.WorldRules.columns) (seen_of c.args.world.now) (texts c.args.names.now) c.args.watchers.now count (has_member c.args.touched.now) (has_member c.loop-place.touched)) all so_far.only;
     }

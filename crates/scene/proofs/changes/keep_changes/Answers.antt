@@ -31,11 +31,11 @@ use Rattle.scene.proofs.changes.keep_changes.Goals as goal
 
 -- what is touched at first is what the markers' reader tells
 pub changes_of_kinds-requires-clause-known : goal.changes_of_kinds-requires-clause-known
-changes_of_kinds-requires-clause-known g c = c.part_names-names.ensures ∙ sym (g.met.R.Rules.named_so c.args.rules.now).parts
+changes_of_kinds-requires-clause-known g c = c.part_names-names.ensures ∙ sym (g.met.R.WorldRules.named_so c.args.rules.now).parts
 
 pub changes_of_kinds-requires-clause-many : goal.changes_of_kinds-requires-clause-many
 changes_of_kinds-requires-clause-many g c =
-    ap (λ watchers. length watchers) c.as_slice.ensures.value ∙ c.requires.many ∙ ap length (sym (c.part_names-names.ensures ∙ sym (g.met.R.Rules.named_so c.args.rules.now).parts)) ∙ length-map c.part_names-names.result.now (λ (name : Bor Name). name.now)
+    ap (λ watchers. length watchers) c.as_slice.ensures.value ∙ c.requires.many ∙ ap length (sym (c.part_names-names.ensures ∙ sym (g.met.R.WorldRules.named_so c.args.rules.now).parts)) ∙ length-map c.part_names-names.result.now (λ (name : Bor Name). name.now)
 
 pub changes_of_kinds-requires-clause-within : goal.changes_of_kinds-requires-clause-within
 changes_of_kinds-requires-clause-within g c index member = told-below (marker_log c.in_ok-markers.markers.now) c.args.watchers.now.markers.frame index (sym (c.in_ok-touched.ensures index) ∙ member)
@@ -44,14 +44,14 @@ pub change_rows-requires : goal.change_rows-requires
 change_rows-requires g c =
     let w = seen_of c.args.world.now in
     let names = texts c.part_names-names.result.now in
-    let same : names ≡ (kinds_of g.R.Value.SceneValue.places g.R.DocumentRules.part_of g.R.Rules.columns).part_names = c.part_names-names.ensures ∙ sym (g.met.R.Rules.named_so c.args.rules.now).parts in
+    let same : names ≡ (kinds_of g.R.Value.SceneValue.places g.R.DocumentRules.part_of g.R.WorldRules.columns).part_names = c.part_names-names.ensures ∙ sym (g.met.R.WorldRules.named_so c.args.rules.now).parts in
     let many : length c.part_names-names.result.now ≡ length names = sym (length-map c.part_names-names.result.now (λ (name : Bor Name). name.now)) in
     let touched = has_member c.changes_of_kinds.new.touched in
     let made = c.in_ok-changes.ensures in
     let watchers = c.as_slice.result.now in
-    let changes : AreChanges (kinds_of g.R.Value.SceneValue.places g.R.DocumentRules.part_of g.R.Rules.columns) g.R.DocumentRules.part_of w names watchers (length names) c.in_ok-changes.changes.items =
-    subst (λ count. AreChanges (kinds_of g.R.Value.SceneValue.places g.R.DocumentRules.part_of g.R.Rules.columns) g.R.DocumentRules.part_of w names watchers count c.in_ok-changes.changes.items) many made.changes in
-    let told : AreTouched (kinds_of g.R.Value.SceneValue.places g.R.DocumentRules.part_of g.R.Rules.columns) w names watchers (length names) touched = subst (λ count. AreTouched (kinds_of g.R.Value.SceneValue.places g.R.DocumentRules.part_of g.R.Rules.columns) w names watchers count touched) many made.told in
+    let changes : AreChanges (kinds_of g.R.Value.SceneValue.places g.R.DocumentRules.part_of g.R.WorldRules.columns) g.R.DocumentRules.part_of w names watchers (length names) c.in_ok-changes.changes.items =
+    subst (λ count. AreChanges (kinds_of g.R.Value.SceneValue.places g.R.DocumentRules.part_of g.R.WorldRules.columns) g.R.DocumentRules.part_of w names watchers count c.in_ok-changes.changes.items) many made.changes in
+    let told : AreTouched (kinds_of g.R.Value.SceneValue.places g.R.DocumentRules.part_of g.R.WorldRules.columns) w names watchers (length names) touched = subst (λ count. AreTouched (kinds_of g.R.Value.SceneValue.places g.R.DocumentRules.part_of g.R.WorldRules.columns) w names watchers count touched) many made.told in
     let indices : c.in_ok-indices.indices.items ≡ behind_themselves (walk touched) = c.in_ok-indices.ensures in
     let among : (index : ℕ) → is_one_of (map (λ (pair : ℕ × ℕ). pair.1) c.in_ok-indices.indices.items) index ≡ touched index =
     λ index. ap (λ pairs. is_one_of (map (λ (pair : ℕ × ℕ). pair.1) pairs) index) indices ∙ walked-is touched made.within index in
@@ -60,10 +60,10 @@ change_rows-requires g c =
     record {
       kinds = changes.many ∙ ap length same ∙ sym full.kinds_are ∙ sym (c.leave_all.ensures.course.kinds ∙ c.in_ok-make_room.ensures.course.kinds);
       room = c.leave_all.ensures.room c.room_for-count.result c.in_ok-make_room.ensures.ok;
-      sound = changes-sound (kinds_of g.R.Value.SceneValue.places g.R.DocumentRules.part_of g.R.Rules.columns) g.R.DocumentRules.part_of w names watchers c.room_for-count.result c.in_ok-changes.changes.items changes touched told
+      sound = changes-sound (kinds_of g.R.Value.SceneValue.places g.R.DocumentRules.part_of g.R.WorldRules.columns) g.R.DocumentRules.part_of w names watchers c.room_for-count.result c.in_ok-changes.changes.items changes touched told
           (λ index one. among-all (λ at. at < c.room_for-count.result) (map (λ (pair : ℕ × ℕ). pair.1) c.in_ok-indices.indices.items)
           (all-seconds (λ at. at < c.room_for-count.result) c.in_ok-indices.indices.items bound) index (among index ∙ one));
-      free = changes-free (kinds_of g.R.Value.SceneValue.places g.R.DocumentRules.part_of g.R.Rules.columns) g.R.DocumentRules.part_of w names watchers c.room_for-count.result c.in_ok-changes.changes.items changes touched told c.leave_all.new.kept
+      free = changes-free (kinds_of g.R.Value.SceneValue.places g.R.DocumentRules.part_of g.R.WorldRules.columns) g.R.DocumentRules.part_of w names watchers c.room_for-count.result c.in_ok-changes.changes.items changes touched told c.leave_all.new.kept
           (λ index one. c.leave_all.ensures.seats index
           ∙ ap (λ pairs. cond (is_one_of (map (λ (pair : ℕ × ℕ). pair.1) pairs) index) None (seat_at c.make_room.new.self index)) c.as_slice-4.ensures.value
           ∙ ap (λ b. cond b None (seat_at c.make_room.new.self index)) (among index ∙ one));
@@ -79,19 +79,19 @@ enter_all-requires g c =
     }
 
 -- nobody lives past what a set can have
-beneath : (g : _) (c : After-drop-touched-inside-4 g) → IsBelow (kinds_of g.R.Value.SceneValue.places g.R.DocumentRules.part_of g.R.Rules.columns) (seen_of c.args.world.now)
-beneath g c index some = c.in_ok-entries.ensures.below index (sym (ap is_some (c.in_ok-markers.ensures.each index)) ∙ sym (ap is_some (id-marked (roll_of (kinds_of g.R.Value.SceneValue.places g.R.DocumentRules.part_of g.R.Rules.columns) (seen_of c.args.world.now)) c.requires.stands.roll index)) ∙ some)
+beneath : (g : _) (c : After-drop-touched-inside-4 g) → IsBelow (kinds_of g.R.Value.SceneValue.places g.R.DocumentRules.part_of g.R.WorldRules.columns) (seen_of c.args.world.now)
+beneath g c index some = c.in_ok-entries.ensures.below index (sym (ap is_some (c.in_ok-markers.ensures.each index)) ∙ sym (ap is_some (id-marked (roll_of (kinds_of g.R.Value.SceneValue.places g.R.DocumentRules.part_of g.R.WorldRules.columns) (seen_of c.args.world.now)) c.requires.stands.roll index)) ∙ some)
 
 -- what is kept is full again
-full : (g : _) (c : After-drop-touched-inside-4 g) → IsFullByIndex (kinds_of g.R.Value.SceneValue.places g.R.DocumentRules.part_of g.R.Rules.columns) g.R.DocumentRules.part_of (kinds_of g.R.Value.SceneValue.places g.R.DocumentRules.part_of g.R.Rules.columns).part_names c.settle.new.self (seen_of c.args.world.now)
+full : (g : _) (c : After-drop-touched-inside-4 g) → IsFullByIndex (kinds_of g.R.Value.SceneValue.places g.R.DocumentRules.part_of g.R.WorldRules.columns) g.R.DocumentRules.part_of (kinds_of g.R.Value.SceneValue.places g.R.DocumentRules.part_of g.R.WorldRules.columns).part_names c.settle.new.self (seen_of c.args.world.now)
 full g c =
-    let kinds = kinds_of g.R.Value.SceneValue.places g.R.DocumentRules.part_of g.R.Rules.columns in
+    let kinds = kinds_of g.R.Value.SceneValue.places g.R.DocumentRules.part_of g.R.WorldRules.columns in
     let part_of = g.R.DocumentRules.part_of in
     let book = g.R.DocumentRules.book c.args.rules.now in
     let w = c.requires.since.0 in
     let later = seen_of c.args.world.now in
     let names = texts c.part_names-names.result.now in
-    let same : names ≡ kinds.part_names = c.part_names-names.ensures ∙ sym (g.met.R.Rules.named_so c.args.rules.now).parts in
+    let same : names ≡ kinds.part_names = c.part_names-names.ensures ∙ sym (g.met.R.WorldRules.named_so c.args.rules.now).parts in
     let many : length c.part_names-names.result.now ≡ length names = sym (length-map c.part_names-names.result.now (λ (name : Bor Name). name.now)) in
     let was = c.requires.since.1.1.1.0 in
     let told = c.requires.since.1.1.1.1 in
@@ -136,20 +136,20 @@ pub returns-clause-scene : goal.returns-clause-scene
 returns-clause-scene g c =
     let book = g.R.DocumentRules.book c.args.rules.now in
     let w = seen_of c.args.world.now in
-    let named = g.met.R.Rules.named_so c.args.rules.now in
+    let named = g.met.R.WorldRules.named_so c.args.rules.now in
     let now = full g c in
     let settled = c.settle.ensures.settled in
-    keeps-scene (kinds_of g.R.Value.SceneValue.places g.R.DocumentRules.part_of g.R.Rules.columns) g.R.DocumentRules.part_of g.R.DocumentRules.global_of book w named.parts named.globals c.requires.stands.roll c.settle.new.self now.seats
-    (subst (λ (listed : List Name). AreRowsOf (kinds_of g.R.Value.SceneValue.places g.R.DocumentRules.part_of g.R.Rules.columns) g.R.DocumentRules.part_of w listed (length listed) c.settle.new.self) named.parts now.rows)
+    keeps-scene (kinds_of g.R.Value.SceneValue.places g.R.DocumentRules.part_of g.R.WorldRules.columns) g.R.DocumentRules.part_of g.R.DocumentRules.global_of book w named.parts named.globals c.requires.stands.roll c.settle.new.self now.seats
+    (subst (λ (listed : List Name). AreRowsOf (kinds_of g.R.Value.SceneValue.places g.R.DocumentRules.part_of g.R.WorldRules.columns) g.R.DocumentRules.part_of w listed (length listed) c.settle.new.self) named.parts now.rows)
     (settled.next_is ∙ c.in_ok-next.ensures) c.in_ok-globals.globals _ settled.globals_are c.global_names.ensures c.in_ok-globals.ensures
 
 -- what the set of those that are touched has is what the readers of the frame's end are told
-touched-now : (g : _) (c : After-drop-touched-inside-4 g) → let kinds = kinds_of g.R.Value.SceneValue.places g.R.DocumentRules.part_of g.R.Rules.columns in has_member c.changes_of_kinds.new.touched ≡ is_touched kinds Frame kinds.part_names c.args.watchers.now (seen_of c.args.world.now)
+touched-now : (g : _) (c : After-drop-touched-inside-4 g) → let kinds = kinds_of g.R.Value.SceneValue.places g.R.DocumentRules.part_of g.R.WorldRules.columns in has_member c.changes_of_kinds.new.touched ≡ is_touched kinds Frame kinds.part_names c.args.watchers.now (seen_of c.args.world.now)
 touched-now g c =
-    let kinds = kinds_of g.R.Value.SceneValue.places g.R.DocumentRules.part_of g.R.Rules.columns in
+    let kinds = kinds_of g.R.Value.SceneValue.places g.R.DocumentRules.part_of g.R.WorldRules.columns in
     let later = seen_of c.args.world.now in
     let names = texts c.part_names-names.result.now in
-    let same : names ≡ kinds.part_names = c.part_names-names.ensures ∙ sym (g.met.R.Rules.named_so c.args.rules.now).parts in
+    let same : names ≡ kinds.part_names = c.part_names-names.ensures ∙ sym (g.met.R.WorldRules.named_so c.args.rules.now).parts in
     let many : length c.part_names-names.result.now ≡ length names = sym (length-map c.part_names-names.result.now (λ (name : Bor Name). name.now)) in
     let watchers : c.as_slice.result.now ≡ c.args.watchers.now.parts.items = c.as_slice.ensures.value in
     let first = has_member c.in_ok-touched.touched in
@@ -171,7 +171,7 @@ leave_all-requires g c = record {
 
 pub returns-clause-changes : goal.returns-clause-changes
 returns-clause-changes g c =
-    let kinds = kinds_of g.R.Value.SceneValue.places g.R.DocumentRules.part_of g.R.Rules.columns in
+    let kinds = kinds_of g.R.Value.SceneValue.places g.R.DocumentRules.part_of g.R.WorldRules.columns in
     let roll = roll_of kinds (seen_of c.args.world.now) in
     let touched = has_member c.changes_of_kinds.new.touched in
     let before = c.args.kept.now in

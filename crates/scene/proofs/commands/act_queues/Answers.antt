@@ -17,10 +17,10 @@ use Rattle.scene.proofs.commands.act_queues.Goals as goal
 pub loop-queue-init : goal.loop-queue-init
 loop-queue-init g c = record {
   place = omega arith;
-  ran = none-to (owning_in (kinds_of g.R.Value.SceneValue.places g.R.DocumentRules.part_of g.R.Rules.columns)) c.args.frame (c.args.earlier + 1) (plain_of (kinds_of g.R.Value.SceneValue.places g.R.DocumentRules.part_of g.R.Rules.columns) (seen_of c.args.world.now)) c.args.skips.now.items;
+  ran = none-to (owning_in (kinds_of g.R.Value.SceneValue.places g.R.DocumentRules.part_of g.R.WorldRules.columns)) c.args.frame (c.args.earlier + 1) (plain_of (kinds_of g.R.Value.SceneValue.places g.R.DocumentRules.part_of g.R.WorldRules.columns) (seen_of c.args.world.now)) c.args.skips.now.items;
   may = c.requires.may;
   elsewhere = λ id e m a p. refl;
-  goes_on = goes-nowhere (kinds_of g.R.Value.SceneValue.places g.R.DocumentRules.part_of g.R.Rules.columns) c.args.world.now;
+  goes_on = goes-nowhere (kinds_of g.R.Value.SceneValue.places g.R.DocumentRules.part_of g.R.WorldRules.columns) c.args.world.now;
   covers = c.requires.covers;
   kept = ([], sym (append-nil c.args.skips.now.items));
 }
@@ -55,20 +55,20 @@ loop-queue-preserved g c =
     let handed : plain_commands g.R.DocumentRules.part_of c.as_slice.result.now ≡ plain_commands g.R.DocumentRules.part_of (waiting c.queue-item.result) = ap (plain_commands g.R.DocumentRules.part_of) c.as_slice.ensures in
     record {
       place = omega (arith, c.behind-place.ensures, c.loop-queue.invariant.place, more, count);
-      ran = subst (λ commands. RunsTo (owning_in (kinds_of g.R.Value.SceneValue.places g.R.DocumentRules.part_of g.R.Rules.columns)) c.args.frame (c.args.earlier + 1) commands (plain_of (kinds_of g.R.Value.SceneValue.places g.R.DocumentRules.part_of g.R.Rules.columns) (seen_of c.args.world.now)) (plain_of (kinds_of g.R.Value.SceneValue.places g.R.DocumentRules.part_of g.R.Rules.columns) (seen_of c.act_all.new.world)) c.args.skips.now.items c.act_all.new.skips.items) (sym front)
-          (joined-to (owning_in (kinds_of g.R.Value.SceneValue.places g.R.DocumentRules.part_of g.R.Rules.columns)) c.args.frame (c.args.earlier + 1) (c.loop-queue.place + 1) (waiting_in g.R.DocumentRules.part_of (take c.loop-queue.queue-index c.args.queues.now)) (plain_commands g.R.DocumentRules.part_of (waiting c.queue-item.result)) (plain_of (kinds_of g.R.Value.SceneValue.places g.R.DocumentRules.part_of g.R.Rules.columns) (seen_of c.args.world.now)) (plain_of (kinds_of g.R.Value.SceneValue.places g.R.DocumentRules.part_of g.R.Rules.columns) (seen_of c.loop-queue.world)) (plain_of (kinds_of g.R.Value.SceneValue.places g.R.DocumentRules.part_of g.R.Rules.columns) (seen_of c.act_all.new.world))
+      ran = subst (λ commands. RunsTo (owning_in (kinds_of g.R.Value.SceneValue.places g.R.DocumentRules.part_of g.R.WorldRules.columns)) c.args.frame (c.args.earlier + 1) commands (plain_of (kinds_of g.R.Value.SceneValue.places g.R.DocumentRules.part_of g.R.WorldRules.columns) (seen_of c.args.world.now)) (plain_of (kinds_of g.R.Value.SceneValue.places g.R.DocumentRules.part_of g.R.WorldRules.columns) (seen_of c.act_all.new.world)) c.args.skips.now.items c.act_all.new.skips.items) (sym front)
+          (joined-to (owning_in (kinds_of g.R.Value.SceneValue.places g.R.DocumentRules.part_of g.R.WorldRules.columns)) c.args.frame (c.args.earlier + 1) (c.loop-queue.place + 1) (waiting_in g.R.DocumentRules.part_of (take c.loop-queue.queue-index c.args.queues.now)) (plain_commands g.R.DocumentRules.part_of (waiting c.queue-item.result)) (plain_of (kinds_of g.R.Value.SceneValue.places g.R.DocumentRules.part_of g.R.WorldRules.columns) (seen_of c.args.world.now)) (plain_of (kinds_of g.R.Value.SceneValue.places g.R.DocumentRules.part_of g.R.WorldRules.columns) (seen_of c.loop-queue.world)) (plain_of (kinds_of g.R.Value.SceneValue.places g.R.DocumentRules.part_of g.R.WorldRules.columns) (seen_of c.act_all.new.world))
           c.args.skips.now.items c.loop-queue.skips.items c.act_all.new.skips.items (omega (arith, c.loop-queue.invariant.place)) c.loop-queue.invariant.ran
-          (subst (λ commands. RunsTo (owning_in (kinds_of g.R.Value.SceneValue.places g.R.DocumentRules.part_of g.R.Rules.columns)) c.args.frame (c.loop-queue.place + 1) commands (plain_of (kinds_of g.R.Value.SceneValue.places g.R.DocumentRules.part_of g.R.Rules.columns) (seen_of c.loop-queue.world)) (plain_of (kinds_of g.R.Value.SceneValue.places g.R.DocumentRules.part_of g.R.Rules.columns) (seen_of c.act_all.new.world)) c.loop-queue.skips.items c.act_all.new.skips.items) handed c.in_ok-act_all.ensures.ran));
+          (subst (λ commands. RunsTo (owning_in (kinds_of g.R.Value.SceneValue.places g.R.DocumentRules.part_of g.R.WorldRules.columns)) c.args.frame (c.loop-queue.place + 1) commands (plain_of (kinds_of g.R.Value.SceneValue.places g.R.DocumentRules.part_of g.R.WorldRules.columns) (seen_of c.loop-queue.world)) (plain_of (kinds_of g.R.Value.SceneValue.places g.R.DocumentRules.part_of g.R.WorldRules.columns) (seen_of c.act_all.new.world)) c.loop-queue.skips.items c.act_all.new.skips.items) handed c.in_ok-act_all.ensures.ran));
       may = c.in_ok-act_all.ensures.may;
       elsewhere = λ id e m a p. c.in_ok-act_all.ensures.elsewhere id e m a p ∙ c.loop-queue.invariant.elsewhere id e m a p;
-      goes_on = goes-both (kinds_of g.R.Value.SceneValue.places g.R.DocumentRules.part_of g.R.Rules.columns) c.args.world.now c.loop-queue.world c.act_all.new.world c.loop-queue.invariant.goes_on c.in_ok-act_all.ensures.goes_on;
+      goes_on = goes-both (kinds_of g.R.Value.SceneValue.places g.R.DocumentRules.part_of g.R.WorldRules.columns) c.args.world.now c.loop-queue.world c.act_all.new.world c.loop-queue.invariant.goes_on c.in_ok-act_all.ensures.goes_on;
       covers = c.in_ok-act_all.ensures.covers;
       kept = (c.loop-queue.invariant.kept.0 ++ c.in_ok-act_all.ensures.kept.0, c.in_ok-act_all.ensures.kept.1 ∙ ap (λ skips. skips ++ c.in_ok-act_all.ensures.kept.0) c.loop-queue.invariant.kept.1 ∙ append_assoc c.args.skips.now.items c.loop-queue.invariant.kept.0 c.in_ok-act_all.ensures.kept.0);
     }
 
 pub returns-clause-ran : goal.returns-clause-ran
 returns-clause-ran g c =
-    subst (λ queues. RunsTo (owning_in (kinds_of g.R.Value.SceneValue.places g.R.DocumentRules.part_of g.R.Rules.columns)) c.args.frame (c.args.earlier + 1) (waiting_in g.R.DocumentRules.part_of queues) (plain_of (kinds_of g.R.Value.SceneValue.places g.R.DocumentRules.part_of g.R.Rules.columns) (seen_of c.args.world.now)) (plain_of (kinds_of g.R.Value.SceneValue.places g.R.DocumentRules.part_of g.R.Rules.columns) (seen_of c.loop-queue.world)) c.args.skips.now.items c.loop-queue.skips.items)
+    subst (λ queues. RunsTo (owning_in (kinds_of g.R.Value.SceneValue.places g.R.DocumentRules.part_of g.R.WorldRules.columns)) c.args.frame (c.args.earlier + 1) (waiting_in g.R.DocumentRules.part_of queues) (plain_of (kinds_of g.R.Value.SceneValue.places g.R.DocumentRules.part_of g.R.WorldRules.columns) (seen_of c.args.world.now)) (plain_of (kinds_of g.R.Value.SceneValue.places g.R.DocumentRules.part_of g.R.WorldRules.columns) (seen_of c.loop-queue.world)) c.args.skips.now.items c.loop-queue.skips.items)
     (take_all c.loop-queue.queue-index c.args.queues.now c.loop-queue-test.false) c.loop-queue.invariant.ran
 
 pub returns-in_err-act_all-clause-refused : goal.returns-in_err-act_all-clause-refused
@@ -77,11 +77,11 @@ returns-in_err-act_all-clause-refused g c =
     let failed : c.from_residual.result ≡ Err c.in_err-act_all.field-0.0 = grind arith in
     rw failed (let whole : waiting_in g.R.DocumentRules.part_of c.args.queues.now ≡ (waiting_in g.R.DocumentRules.part_of (take c.loop-queue.queue-index c.args.queues.now) ++ plain_commands g.R.DocumentRules.part_of (waiting c.queue-item.result)) ++ waiting_in g.R.DocumentRules.part_of (drop (c.loop-queue.queue-index + 1) c.args.queues.now) =
     flat-front (λ one. plain_commands g.R.DocumentRules.part_of (waiting one)) c.args.queues.now (c.loop-queue.queue-index + 1) ∙ ap (λ first. first ++ waiting_in g.R.DocumentRules.part_of (drop (c.loop-queue.queue-index + 1) c.args.queues.now)) (flat-more (λ one. plain_commands g.R.DocumentRules.part_of (waiting one)) c.args.queues.now c.loop-queue.queue-index c.queue-item.result c.loop-queue-test.true c.queue-item.is) in
-    subst (λ commands. RefusesActs (kinds_of g.R.Value.SceneValue.places g.R.DocumentRules.part_of g.R.Rules.columns) (c.args.earlier + 1) commands c.args.world.now c.in_err-act_all.field-0.0) (sym whole)
-    (acts-before (kinds_of g.R.Value.SceneValue.places g.R.DocumentRules.part_of g.R.Rules.columns) (c.args.earlier + 1) (waiting_in g.R.DocumentRules.part_of (take c.loop-queue.queue-index c.args.queues.now) ++ plain_commands g.R.DocumentRules.part_of (waiting c.queue-item.result)) (waiting_in g.R.DocumentRules.part_of (drop (c.loop-queue.queue-index + 1) c.args.queues.now)) c.args.world.now c.in_err-act_all.field-0.0
-    (acts-behind (kinds_of g.R.Value.SceneValue.places g.R.DocumentRules.part_of g.R.Rules.columns) c.args.frame (c.args.earlier + 1) (c.loop-queue.place + 1) (waiting_in g.R.DocumentRules.part_of (take c.loop-queue.queue-index c.args.queues.now)) (plain_commands g.R.DocumentRules.part_of (waiting c.queue-item.result)) c.args.world.now c.loop-queue.world c.args.skips.now.items c.loop-queue.skips.items c.in_err-act_all.field-0.0
+    subst (λ commands. RefusesActs (kinds_of g.R.Value.SceneValue.places g.R.DocumentRules.part_of g.R.WorldRules.columns) (c.args.earlier + 1) commands c.args.world.now c.in_err-act_all.field-0.0) (sym whole)
+    (acts-before (kinds_of g.R.Value.SceneValue.places g.R.DocumentRules.part_of g.R.WorldRules.columns) (c.args.earlier + 1) (waiting_in g.R.DocumentRules.part_of (take c.loop-queue.queue-index c.args.queues.now) ++ plain_commands g.R.DocumentRules.part_of (waiting c.queue-item.result)) (waiting_in g.R.DocumentRules.part_of (drop (c.loop-queue.queue-index + 1) c.args.queues.now)) c.args.world.now c.in_err-act_all.field-0.0
+    (acts-behind (kinds_of g.R.Value.SceneValue.places g.R.DocumentRules.part_of g.R.WorldRules.columns) c.args.frame (c.args.earlier + 1) (c.loop-queue.place + 1) (waiting_in g.R.DocumentRules.part_of (take c.loop-queue.queue-index c.args.queues.now)) (plain_commands g.R.DocumentRules.part_of (waiting c.queue-item.result)) c.args.world.now c.loop-queue.world c.args.skips.now.items c.loop-queue.skips.items c.in_err-act_all.field-0.0
     (omega (arith, c.loop-queue.invariant.place)) c.loop-queue.invariant.ran c.loop-queue.invariant.goes_on
-    (subst (λ commands. RefusesActs (kinds_of g.R.Value.SceneValue.places g.R.DocumentRules.part_of g.R.Rules.columns) (c.loop-queue.place + 1) commands c.loop-queue.world c.in_err-act_all.field-0.0) handed c.in_err-act_all.ensures.refused))))
+    (subst (λ commands. RefusesActs (kinds_of g.R.Value.SceneValue.places g.R.DocumentRules.part_of g.R.WorldRules.columns) (c.loop-queue.place + 1) commands c.loop-queue.world c.in_err-act_all.field-0.0) handed c.in_err-act_all.ensures.refused))))
 
 pub returns-in_err-act_all-clause-kept : goal.returns-in_err-act_all-clause-kept
 returns-in_err-act_all-clause-kept g c = (c.loop-queue.invariant.kept.0 ++ c.in_err-act_all.ensures.kept.0, c.in_err-act_all.ensures.kept.1 ∙ ap (λ skips. skips ++ c.in_err-act_all.ensures.kept.0) c.loop-queue.invariant.kept.1 ∙ append_assoc c.args.skips.now.items c.loop-queue.invariant.kept.0 c.in_err-act_all.ensures.kept.0)

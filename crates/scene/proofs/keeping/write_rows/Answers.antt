@@ -22,7 +22,7 @@ loop-place-init g c = record {
 
 pub write_row-requires-clause-known : goal.write_row-requires-clause-known
 write_row-requires-clause-known g c =
-    subst (λ names. is_among (get_or c.args.names.now c.loop-place.place no_name).now names ≡ true) (c.requires.known ∙ sym (g.met.R.Rules.named_so c.args.rules.now).parts)
+    subst (λ names. is_among (get_or c.args.names.now c.loop-place.place no_name).now names ≡ true) (c.requires.known ∙ sym (g.met.R.WorldRules.named_so c.args.rules.now).parts)
     (named-there c.args.names.now c.loop-place.place no_name c.loop-place-test.true)
 
 pub write_row-requires-clause-indices : goal.write_row-requires-clause-indices
@@ -34,9 +34,9 @@ write_row-requires-clause-within g c =
 
 pub write_row-requires-clause-all : goal.write_row-requires-clause-all
 write_row-requires-clause-all g c index some =
-    let kinds = kinds_of g.R.Value.SceneValue.places g.R.DocumentRules.part_of g.R.Rules.columns in
+    let kinds = kinds_of g.R.Value.SceneValue.places g.R.DocumentRules.part_of g.R.WorldRules.columns in
     let kind = (get_or c.args.names.now c.loop-place.place no_name).now in
-    let known : is_among kind kinds.part_names ≡ true = subst (λ names. is_among kind names ≡ true) (c.requires.known ∙ sym (g.met.R.Rules.named_so c.args.rules.now).parts)
+    let known : is_among kind kinds.part_names ≡ true = subst (λ names. is_among kind names ≡ true) (c.requires.known ∙ sym (g.met.R.WorldRules.named_so c.args.rules.now).parts)
     (named-there c.args.names.now c.loop-place.place no_name c.loop-place-test.true) in
     subst (λ (list : List (ℕ × ℕ)). IsAmong (map (λ (pair : ℕ × ℕ). pair.1) list) index) (sym (c.deref.ensures.value ∙ c.in_ok-indices.ensures))
     (subst (λ list. IsAmong list index) (sym (same-indices c.args.pairs.now))
@@ -47,7 +47,7 @@ write_row-requires-clause-bare g c index = c.loop-place.invariant.bare c.loop-pl
 
 pub loop-place-preserved : goal.loop-place-preserved
 loop-place-preserved g c =
-    let kinds = kinds_of g.R.Value.SceneValue.places g.R.DocumentRules.part_of g.R.Rules.columns in
+    let kinds = kinds_of g.R.Value.SceneValue.places g.R.DocumentRules.part_of g.R.WorldRules.columns in
     let w = seen_of c.args.world.now in
     let names : List Name = texts c.args.names.now in
     let so_far = c.loop-place.invariant in

@@ -38,7 +38,7 @@ returns g c = λ json prepared.
       asked = prepared.asked;
       begins = record {
         proper = subst (IsProper book) scene opened.stands.proper;
-        stand = subst (λ s. PartsStand book.part_names s.part) scene (seen-stand (kinds_of g.R.Value.SceneValue.places g.R.DocumentRules.part_of g.R.Rules.columns) book.part_names c.in-Ok.world (g.met.R.Rules.named_so c.args.rules.now).parts);
+        stand = subst (λ s. PartsStand book.part_names s.part) scene (seen-stand (kinds_of g.R.Value.SceneValue.places g.R.DocumentRules.part_of g.R.WorldRules.columns) book.part_names c.in-Ok.world (g.met.R.WorldRules.named_so c.args.rules.now).parts);
         described = prepared.described;
         lawful = λ number. subst (λ frame. All (IsLawful book) frame.commands) (sym (prepared.frames number)) (prepared.lawful number);
       };

@@ -27,7 +27,7 @@ use Rattle.scene.proofs.running.finish_frame.Goals as goal
 pub run_commands-requires-clause-lawful : goal.run_commands-requires-clause-lawful
 run_commands-requires-clause-lawful g c = λ k d inside.
     let is : c.args.outcome ≡ Ok c.in_ok-outcome.field-0 = grind arith in
-    let kinds = kinds_of g.R.Value.SceneValue.places g.R.DocumentRules.part_of g.R.Rules.columns in
+    let kinds = kinds_of g.R.Value.SceneValue.places g.R.DocumentRules.part_of g.R.WorldRules.columns in
     let meaning = placed_as (λ placed. placed.position) (λ placed. placed.system) g.R.DocumentRules.kind_of g.R.DocumentRules.config_of g.R.DocumentRules.declared g.R.Rules.sense g.R.Rules.does in
     let book = g.R.DocumentRules.book c.args.rules.now in
     let order = turn_order meaning.plain c.args.dispatcher.now in
@@ -41,7 +41,7 @@ run_commands-requires-clause-lawful g c = λ k d inside.
 pub run_commands-requires-clause-none : goal.run_commands-requires-clause-none
 run_commands-requires-clause-none g c =
     let is : c.args.outcome ≡ Ok c.in_ok-outcome.field-0 = grind arith in
-    let kinds = kinds_of g.R.Value.SceneValue.places g.R.DocumentRules.part_of g.R.Rules.columns in
+    let kinds = kinds_of g.R.Value.SceneValue.places g.R.DocumentRules.part_of g.R.WorldRules.columns in
     let meaning = placed_as (λ placed. placed.position) (λ placed. placed.system) g.R.DocumentRules.kind_of g.R.DocumentRules.config_of g.R.DocumentRules.declared g.R.Rules.sense g.R.Rules.does in
     let book = g.R.DocumentRules.book c.args.rules.now in
     let order = turn_order meaning.plain c.args.dispatcher.now in
@@ -54,7 +54,7 @@ run_commands-requires-clause-none g c =
 pub returns-clause-accepted : goal.returns-clause-accepted
 returns-clause-accepted g c =
     let is : c.args.outcome ≡ Ok c.in_ok-outcome.field-0 = grind arith in
-    let kinds = kinds_of g.R.Value.SceneValue.places g.R.DocumentRules.part_of g.R.Rules.columns in
+    let kinds = kinds_of g.R.Value.SceneValue.places g.R.DocumentRules.part_of g.R.WorldRules.columns in
     let meaning = placed_as (λ placed. placed.position) (λ placed. placed.system) g.R.DocumentRules.kind_of g.R.DocumentRules.config_of g.R.DocumentRules.declared g.R.Rules.sense g.R.Rules.does in
     let book = g.R.DocumentRules.book c.args.rules.now in
     let order = turn_order meaning.plain c.args.dispatcher.now in
@@ -79,7 +79,7 @@ returns-clause-accepted g c =
 pub returns-clause-ready : goal.returns-clause-ready
 returns-clause-ready g c =
     let is : c.args.outcome ≡ Ok c.in_ok-outcome.field-0 = grind arith in
-    let kinds = kinds_of g.R.Value.SceneValue.places g.R.DocumentRules.part_of g.R.Rules.columns in
+    let kinds = kinds_of g.R.Value.SceneValue.places g.R.DocumentRules.part_of g.R.WorldRules.columns in
     let meaning = placed_as (λ placed. placed.position) (λ placed. placed.system) g.R.DocumentRules.kind_of g.R.DocumentRules.config_of g.R.DocumentRules.declared g.R.Rules.sense g.R.Rules.does in
     let book = g.R.DocumentRules.book c.args.rules.now in
     let order = turn_order meaning.plain c.args.dispatcher.now in
@@ -109,13 +109,13 @@ returns-clause-ready g c =
 pub returns-clause-goes_on : goal.returns-clause-goes_on
 returns-clause-goes_on g c =
     let is : c.args.outcome ≡ Ok c.in_ok-outcome.field-0 = grind arith in
-    let kinds = kinds_of g.R.Value.SceneValue.places g.R.DocumentRules.part_of g.R.Rules.columns in
+    let kinds = kinds_of g.R.Value.SceneValue.places g.R.DocumentRules.part_of g.R.WorldRules.columns in
     on_ok_weaker c.run_commands.result (λ on. λ w was. goes-both kinds w c.args.world.now c.run_commands.new.world (subst (λ outcome. OnOk outcome (GoesOn kinds w c.args.world.now)) is was) on) c.run_commands.ensures.goes_on
 
 pub returns-clause-none : goal.returns-clause-none
 returns-clause-none g c =
     let is : c.args.outcome ≡ Ok c.in_ok-outcome.field-0 = grind arith in
-    let kinds = kinds_of g.R.Value.SceneValue.places g.R.DocumentRules.part_of g.R.Rules.columns in
+    let kinds = kinds_of g.R.Value.SceneValue.places g.R.DocumentRules.part_of g.R.WorldRules.columns in
     let meaning = placed_as (λ placed. placed.position) (λ placed. placed.system) g.R.DocumentRules.kind_of g.R.DocumentRules.config_of g.R.DocumentRules.declared g.R.Rules.sense g.R.Rules.does in
     let book = g.R.DocumentRules.book c.args.rules.now in
     let order = turn_order meaning.plain c.args.dispatcher.now in
@@ -131,7 +131,7 @@ returns-clause-none g c =
 pub returns-clause-refused : goal.returns-clause-refused
 returns-clause-refused g c =
     let is : c.args.outcome ≡ Ok c.in_ok-outcome.field-0 = grind arith in
-    let kinds = kinds_of g.R.Value.SceneValue.places g.R.DocumentRules.part_of g.R.Rules.columns in
+    let kinds = kinds_of g.R.Value.SceneValue.places g.R.DocumentRules.part_of g.R.WorldRules.columns in
     let meaning = placed_as (λ placed. placed.position) (λ placed. placed.system) g.R.DocumentRules.kind_of g.R.DocumentRules.config_of g.R.DocumentRules.declared g.R.Rules.sense g.R.Rules.does in
     let book = g.R.DocumentRules.book c.args.rules.now in
     let order = turn_order meaning.plain c.args.dispatcher.now in
@@ -152,7 +152,7 @@ pub returns-in_err-outcome-clause-refused : goal.returns-in_err-outcome-clause-r
 returns-in_err-outcome-clause-refused g c =
     let failed : c.from_residual.result ≡ Err c.in_err-outcome.field-0.0 = grind arith in
     let is : c.args.outcome ≡ Err c.in_err-outcome.field-0.0 = grind arith in
-    let kinds = kinds_of g.R.Value.SceneValue.places g.R.DocumentRules.part_of g.R.Rules.columns in
+    let kinds = kinds_of g.R.Value.SceneValue.places g.R.DocumentRules.part_of g.R.WorldRules.columns in
     let meaning = placed_as (λ placed. placed.position) (λ placed. placed.system) g.R.DocumentRules.kind_of g.R.DocumentRules.config_of g.R.DocumentRules.declared g.R.Rules.sense g.R.Rules.does in
     let book = g.R.DocumentRules.book c.args.rules.now in
     let frame : PlainFrame = record { order = turn_order meaning.plain c.args.dispatcher.now; commands = plain_commands g.R.DocumentRules.part_of c.args.input.now.given.now } in

@@ -13,7 +13,7 @@ use Rattle.scene.proofs.running.run_frame.Goals as goal
 
 pub finish_frame-requires-clause-come : goal.finish_frame-requires-clause-come
 finish_frame-requires-clause-come g c =
-    let kinds = kinds_of g.R.Value.SceneValue.places g.R.DocumentRules.part_of g.R.Rules.columns in
+    let kinds = kinds_of g.R.Value.SceneValue.places g.R.DocumentRules.part_of g.R.WorldRules.columns in
     let meaning = placed_as (λ placed. placed.position) (λ placed. placed.system) g.R.DocumentRules.kind_of g.R.DocumentRules.config_of g.R.DocumentRules.declared g.R.Rules.sense g.R.Rules.does in
     let book = g.R.DocumentRules.book c.args.rules.now in
     let scene = plain_of kinds (seen_of c.args.world.now) in
@@ -26,7 +26,7 @@ finish_frame-requires-clause-places g c = subst (AreTheirPlaces c.args.input.now
 
 pub returns-clause-accepted : goal.returns-clause-accepted
 returns-clause-accepted g c =
-    let kinds = kinds_of g.R.Value.SceneValue.places g.R.DocumentRules.part_of g.R.Rules.columns in
+    let kinds = kinds_of g.R.Value.SceneValue.places g.R.DocumentRules.part_of g.R.WorldRules.columns in
     let meaning = placed_as (λ placed. placed.position) (λ placed. placed.system) g.R.DocumentRules.kind_of g.R.DocumentRules.config_of g.R.DocumentRules.declared g.R.Rules.sense g.R.Rules.does in
     let book = g.R.DocumentRules.book c.args.rules.now in
     let scene = plain_of kinds (seen_of c.args.world.now) in
@@ -43,7 +43,7 @@ returns-clause-accepted g c =
 
 pub returns-clause-goes_on : goal.returns-clause-goes_on
 returns-clause-goes_on g c =
-    let kinds = kinds_of g.R.Value.SceneValue.places g.R.DocumentRules.part_of g.R.Rules.columns in
+    let kinds = kinds_of g.R.Value.SceneValue.places g.R.DocumentRules.part_of g.R.WorldRules.columns in
     let meaning = placed_as (λ placed. placed.position) (λ placed. placed.system) g.R.DocumentRules.kind_of g.R.DocumentRules.config_of g.R.DocumentRules.declared g.R.Rules.sense g.R.Rules.does in
     let book = g.R.DocumentRules.book c.args.rules.now in
     on_ok_weaker c.finish_frame.result (λ on. on c.args.world.now
@@ -52,7 +52,7 @@ returns-clause-goes_on g c =
 
 pub returns-clause-refused : goal.returns-clause-refused
 returns-clause-refused g c =
-    let kinds = kinds_of g.R.Value.SceneValue.places g.R.DocumentRules.part_of g.R.Rules.columns in
+    let kinds = kinds_of g.R.Value.SceneValue.places g.R.DocumentRules.part_of g.R.WorldRules.columns in
     let meaning = placed_as (λ placed. placed.position) (λ placed. placed.system) g.R.DocumentRules.kind_of g.R.DocumentRules.config_of g.R.DocumentRules.declared g.R.Rules.sense g.R.Rules.does in
     let book = g.R.DocumentRules.book c.args.rules.now in
     let scene = plain_of kinds (seen_of c.args.world.now) in

@@ -13,7 +13,7 @@ use Rattle.scene.proofs.taking.data_at.Goals.{in-Some+in_ok-push, in_default}
 
 pub loop-pair-preserved : goal.loop-pair-preserved
 loop-pair-preserved g c =
-    let kinds = kinds_of g.R.Value.SceneValue.places g.R.DocumentRules.part_of g.R.Rules.columns in
+    let kinds = kinds_of g.R.Value.SceneValue.places g.R.DocumentRules.part_of g.R.WorldRules.columns in
     let w = seen_of c.args.world.now in
     let part_of = g.R.DocumentRules.part_of in
     let pairs = c.args.pairs.now in
@@ -31,6 +31,6 @@ loop-pair-preserved g c =
 
 pub returns : goal.returns
 returns g c =
-    let kinds = kinds_of g.R.Value.SceneValue.places g.R.DocumentRules.part_of g.R.Rules.columns in
+    let kinds = kinds_of g.R.Value.SceneValue.places g.R.DocumentRules.part_of g.R.WorldRules.columns in
     let w = seen_of c.args.world.now in
     c.loop-pair.invariant ∙ ap (each_there (λ index. part_at kinds w index c.args.kind.now)) (take_all c.loop-pair.pair-index c.args.pairs.now c.loop-pair-test.false)

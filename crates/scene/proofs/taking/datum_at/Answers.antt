@@ -13,11 +13,11 @@ use Rattle.scene.proofs.taking.datum_at.Goals as goal
 
 pub returns : goal.returns
 returns g c =
-    let kinds = kinds_of g.R.Value.SceneValue.places g.R.DocumentRules.part_of g.R.Rules.columns in
+    let kinds = kinds_of g.R.Value.SceneValue.places g.R.DocumentRules.part_of g.R.WorldRules.columns in
     let w = seen_of c.args.world.now in
     let roll : Roll = roll_of kinds w in
-    let stored : Option Stored = g.R.Rules.columns.stored c.args.kind.now c.args.value.now c.args.index in
-    let there : column_of kinds w c.args.kind.now c.args.index ≡ stored = ap (option_and_then (λ v. g.R.Rules.columns.stored c.args.kind.now v c.args.index)) (sym c.requires.column) in
+    let stored : Option Stored = g.R.WorldRules.columns.stored c.args.kind.now c.args.value.now c.args.index in
+    let there : column_of kinds w c.args.kind.now c.args.index ≡ stored = ap (option_and_then (λ v. g.R.WorldRules.columns.stored c.args.kind.now v c.args.index)) (sym c.requires.column) in
     let named : c.deref.result.now ≡ named_in stored = c.deref.ensures.value ∙ c.in_ok-named_at.ensures ∙ ap (λ (l : List LifeAt). l ++ named_in stored) c.clear.ensures.items in
     let marked : AreMarkedBy roll (named_in stored) c.in_ok-ids.ids.items = subst (λ list. AreMarkedBy roll list c.in_ok-ids.ids.items) named c.in_ok-ids.ensures in
     let read : option_map (part_read c.deref-2.result.now) stored ≡ part_at kinds w c.args.index c.args.kind.now =

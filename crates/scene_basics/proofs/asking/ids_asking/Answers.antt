@@ -11,7 +11,7 @@ use Rattle.scene_basics.specs.Columns.{part_id}
 use Rattle.scene_basics.specs.Known.{basic_roll}
 use Rattle.scene_basics.specs.Names.{hp_kind}
 use Rattle.scene_basics.proofs.AskedLemmas.{asked-chosen, none-asked, lent-ids}
-use Rattle.scene_basics.proofs.KnownLemmas.{found-give, lent-none, lent-some}
+use Rattle.scene_world.proofs.CallerLemmas.{found-give, lent-none, lent-some}
 use Rattle.scene_basics.proofs.asking.ids_asking.Goals as goal
 
 pub returns-in_default : goal.returns-in_default

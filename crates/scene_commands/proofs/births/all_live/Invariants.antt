@@ -9,4 +9,4 @@ use Rattle.scene_commands.specs.Acts.{seen_of}
 use Rattle.scene_commands.proofs.births.all_live.Given as goal
 
 abbrev pub invariant-loop-part : goal.invariant-loop-part
-invariant-loop-part g l = list_all (λ entry. refs_live (ids_in (roll_of (kinds_of g.R.Value.SceneValue.places g.R.DocumentRules.part_of g.R.Rules.columns) (seen_of l.world))) entry.1) (map (plain_entry g.R.DocumentRules.part_of) (take l.part-index l.parts)) ≡ true
+invariant-loop-part g l = list_all (λ entry. refs_live (ids_in (roll_of (kinds_of g.R.Value.SceneValue.places g.R.DocumentRules.part_of g.R.WorldRules.columns) (seen_of l.world))) entry.1) (map (plain_entry g.R.DocumentRules.part_of) (take l.part-index l.parts)) ≡ true

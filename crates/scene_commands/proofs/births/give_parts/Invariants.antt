@@ -7,5 +7,5 @@ use Rattle.scene_commands.specs.Newborns.{GivesParts}
 use Rattle.scene_commands.proofs.births.give_parts.Given as goal
 
 abbrev pub invariant-loop-part : goal.invariant-loop-part
-invariant-loop-part g l = GivesParts (kinds_of g.R.Value.SceneValue.places g.R.DocumentRules.part_of g.R.Rules.columns) (roll_of (kinds_of g.R.Value.SceneValue.places g.R.DocumentRules.part_of g.R.Rules.columns) (seen_of l.initial.world)) l.index
+invariant-loop-part g l = GivesParts (kinds_of g.R.Value.SceneValue.places g.R.DocumentRules.part_of g.R.WorldRules.columns) (roll_of (kinds_of g.R.Value.SceneValue.places g.R.DocumentRules.part_of g.R.WorldRules.columns) (seen_of l.initial.world)) l.index
     (map (plain_entry g.R.DocumentRules.part_of) (take l.part-index l.parts)) (seen_of l.initial.world) (seen_of l.world)

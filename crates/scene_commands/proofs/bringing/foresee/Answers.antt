@@ -9,7 +9,7 @@ use Rattle.scene_commands.proofs.bringing.foresee.Goals as goal
 
 pub returns-in-Some : goal.returns-in-Some
 returns-in-Some g c =
-    let kinds = kinds_of g.R.Value.SceneValue.places g.R.DocumentRules.part_of g.R.Rules.columns in
+    let kinds = kinds_of g.R.Value.SceneValue.places g.R.DocumentRules.part_of g.R.WorldRules.columns in
     on_ok_both c.note_parts.result
     (λ grows noted. subst (λ command. Foresees kinds command c.args.world.now c.note_parts.new.holders)
     (ap (λ entries. spawn (map (plain_entry g.R.DocumentRules.part_of) entries)) c.as_slice.ensures.value ∙ ap (plain_command g.R.DocumentRules.part_of) (sym c.in-Spawn.is))
@@ -18,7 +18,7 @@ returns-in-Some g c =
 
 pub returns-in-Put : goal.returns-in-Put
 returns-in-Put g c =
-    let kinds = kinds_of g.R.Value.SceneValue.places g.R.DocumentRules.part_of g.R.Rules.columns in
+    let kinds = kinds_of g.R.Value.SceneValue.places g.R.DocumentRules.part_of g.R.WorldRules.columns in
     on_ok_both c.note_part.result
     (λ grows noted. subst (λ command. Foresees kinds command c.args.world.now c.note_part.new.holders) (ap (plain_command g.R.DocumentRules.part_of) (sym c.in-Put.is))
     (put-foreseen kinds c.args.world.now c.args.holders.now c.note_part.new.holders c.requires.covers grows c.in-Put.id c.in-Put.kind.now (g.R.DocumentRules.part_of c.in-Put.datum) noted))
@@ -26,12 +26,12 @@ returns-in-Put g c =
 
 pub returns-in-Kill : goal.returns-in-Kill
 returns-in-Kill g c =
-    let kinds = kinds_of g.R.Value.SceneValue.places g.R.DocumentRules.part_of g.R.Rules.columns in
+    let kinds = kinds_of g.R.Value.SceneValue.places g.R.DocumentRules.part_of g.R.WorldRules.columns in
     subst (λ command. Foresees kinds command c.args.world.now c.args.holders.now) (ap (plain_command g.R.DocumentRules.part_of) (sym c.in-Kill.is))
     (kill-foreseen kinds c.args.world.now c.args.holders.now c.args.holders.now c.requires.covers (grows-not c.args.holders.now c.requires.covers.chained) c.in-Kill.field-0)
 
 pub returns-in-Take : goal.returns-in-Take
 returns-in-Take g c =
-    let kinds = kinds_of g.R.Value.SceneValue.places g.R.DocumentRules.part_of g.R.Rules.columns in
+    let kinds = kinds_of g.R.Value.SceneValue.places g.R.DocumentRules.part_of g.R.WorldRules.columns in
     subst (λ command. Foresees kinds command c.args.world.now c.args.holders.now) (ap (plain_command g.R.DocumentRules.part_of) (sym c.in-Take.is))
     (take-foreseen kinds c.args.world.now c.args.holders.now c.args.holders.now c.requires.covers (grows-not c.args.holders.now c.requires.covers.chained) c.in-Take.field-0 c.in-Take.field-1.now)

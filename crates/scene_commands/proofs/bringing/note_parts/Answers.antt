@@ -26,7 +26,7 @@ loop-part-preserved g c =
           elim (under-more target kind (map (plain_entry g.R.DocumentRules.part_of) (take c.loop-part.part-index c.args.parts.now)) (plain_entry g.R.DocumentRules.part_of c.part-item.result)
           (subst (λ entries. refers_to target (under kind entries) ≡ true) (front_at (plain_entry g.R.DocumentRules.part_of) c.args.parts.now c.loop-part.part-index c.part-item.result c.loop-part-test.true c.part-item.is) refers)) [
             | inl before ↦ all.grows.kept c.args.id target (was.noted made kind owns target before)
-            | inr here ↦ all.noted (was.grows.made ∙ made) (ap g.R.Rules.columns.owning (sym ((bytes_eq-Decides kind c.part-item.result.0.now).0 here.0)) ∙ owns) target here.1
+            | inr here ↦ all.noted (was.grows.made ∙ made) (ap g.R.WorldRules.columns.owning (sym ((bytes_eq-Decides kind c.part-item.result.0.now).0 here.0)) ∙ owns) target here.1
           ];
     }
 

@@ -8,6 +8,6 @@ use Rattle.scene_commands.proofs.bringing.note_parts.Given as goal
 abbrev pub invariant-loop-part : goal.invariant-loop-part
 invariant-loop-part g l = record {
   grows : Grows l.initial.holders l.holders;
-  noted : l.initial.holders.made ≡ true → (kind : Name) → g.R.Rules.columns.owning kind ≡ true → (target : ℕ)
+  noted : l.initial.holders.made ≡ true → (kind : Name) → g.R.WorldRules.columns.owning kind ≡ true → (target : ℕ)
       → refers_to target (under kind (map (plain_entry g.R.DocumentRules.part_of) (take l.part-index l.parts))) ≡ true → Holds l.holders.links.items l.id target;
 }

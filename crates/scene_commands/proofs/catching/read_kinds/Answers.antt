@@ -13,7 +13,7 @@ use Rattle.scene_commands.proofs.catching.read_kinds.Goals as goal
 
 pub loop-place-init : goal.loop-place-init
 loop-place-init g c =
-    let kinds = kinds_of g.R.Value.SceneValue.places g.R.DocumentRules.part_of g.R.Rules.columns in
+    let kinds = kinds_of g.R.Value.SceneValue.places g.R.DocumentRules.part_of g.R.WorldRules.columns in
     record {
       caught = λ place below. absurd (omega (arith, below));
       left = λ at from below. refl;
@@ -27,7 +27,7 @@ bounds-watchers-place g c = let below = c.loop-place-test.true in let ends = c.l
 
 pub loop-place-preserved : goal.loop-place-preserved
 loop-place-preserved g c =
-    let kinds = kinds_of g.R.Value.SceneValue.places g.R.DocumentRules.part_of g.R.Rules.columns in
+    let kinds = kinds_of g.R.Value.SceneValue.places g.R.DocumentRules.part_of g.R.WorldRules.columns in
     let names = texts c.args.names.now in
     let watchers = c.args.watchers.now in
     let place = c.loop-place.place in
@@ -42,7 +42,7 @@ loop-place-preserved g c =
     subst (λ one. ReadsKind kinds (name_at names place) (reader_at c.args.turn one) between later) same
     (subst (λ name. ReadsKind kinds name (reader_at c.args.turn found) between later) (sym kind)
     (subst (λ one. ReadsKind kinds (get_or c.args.names.now place no_name).now one between later) c.reader.ensures c.read_kind.ensures)) in
-    catching-more kinds g.met.R.Rules.apart c.args.turn names watchers c.requires.ascend
+    catching-more kinds g.met.R.WorldRules.apart c.args.turn names watchers c.requires.ascend
     (subst (λ list. (at : _) → at < length names → is_among (name_at names at) list ≡ true) c.requires.known (name-known names))
     place within (seen_of c.args.world.now) between later c.loop-place.invariant reads
 
@@ -51,7 +51,7 @@ returns g c =
     let all : c.loop-place.place ≡ length (texts c.args.names.now) = let test = c.loop-place-test.false in let ends = c.loop-place.auto.place-end in omega (arith, test, ends, length-map c.args.names.now (λ (name : Bor Name). name.now)) in
     let so_far = c.loop-place.invariant in
     record {
-      caught = subst (λ count. KindsCatchUp (kinds_of g.R.Value.SceneValue.places g.R.DocumentRules.part_of g.R.Rules.columns) c.args.turn (texts c.args.names.now) c.args.watchers.now count (seen_of c.args.world.now) (seen_of c.loop-place.world)) all so_far.caught;
+      caught = subst (λ count. KindsCatchUp (kinds_of g.R.Value.SceneValue.places g.R.DocumentRules.part_of g.R.WorldRules.columns) c.args.turn (texts c.args.names.now) c.args.watchers.now count (seen_of c.args.world.now) (seen_of c.loop-place.world)) all so_far.caught;
       telling = so_far.telling;
       markers = so_far.markers;
       stays = so_far.stays;

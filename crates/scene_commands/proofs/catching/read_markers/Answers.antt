@@ -12,7 +12,7 @@ put_back-requires-in-Err g c = record { is_out = slot-is-out c.args.world.now c.
 
 pub returns-in-Ok : goal.returns-in-Ok
 returns-in-Ok g c =
-    marks-read (kinds_of g.R.Value.SceneValue.places g.R.DocumentRules.part_of g.R.Rules.columns) c.args.world.now c.put_back.new.self c.in-Some.value c.wrap_markers.result
+    marks-read (kinds_of g.R.Value.SceneValue.places g.R.DocumentRules.part_of g.R.WorldRules.columns) c.args.world.now c.put_back.new.self c.in-Some.value c.wrap_markers.result
     (was-there c.args.world.now c.take_raw.new.self c.put_back.new.self g.R.Value.SceneValue.places.markers_id c.markers_id-id.result c.markers_id-id.ensures c.take_raw.result c.take_raw.ensures.value c.in-Some.value c.wrap_markers.result c.in-Some.is c.in-Some.ensures.out c.put_back.ensures)
     (now-there c.args.world.now c.take_raw.new.self c.put_back.new.self g.R.Value.SceneValue.places.markers_id c.markers_id-id.result c.markers_id-id.ensures c.take_raw.result c.take_raw.ensures.value c.in-Some.value c.wrap_markers.result c.in-Some.is c.in-Some.ensures.out c.put_back.ensures)
     (else-there c.args.world.now c.take_raw.new.self c.put_back.new.self g.R.Value.SceneValue.places.markers_id c.markers_id-id.result c.markers_id-id.ensures c.take_raw.result c.take_raw.ensures.value c.in-Some.value c.wrap_markers.result c.in-Some.is c.in-Some.ensures.out c.put_back.ensures)
@@ -21,7 +21,7 @@ returns-in-Ok g c =
 
 pub returns-in-Err : goal.returns-in-Err
 returns-in-Err g c =
-    marks-handed (kinds_of g.R.Value.SceneValue.places g.R.DocumentRules.part_of g.R.Rules.columns) c.args.world.now c.put_back-in-Err.new.self c.in-Some.value c.in-Err.other
+    marks-handed (kinds_of g.R.Value.SceneValue.places g.R.DocumentRules.part_of g.R.WorldRules.columns) c.args.world.now c.put_back-in-Err.new.self c.in-Some.value c.in-Err.other
     (was-there c.args.world.now c.take_raw.new.self c.put_back-in-Err.new.self g.R.Value.SceneValue.places.markers_id c.markers_id-id.result c.markers_id-id.ensures c.take_raw.result c.take_raw.ensures.value c.in-Some.value c.in-Err.other c.in-Some.is c.in-Some.ensures.out c.put_back-in-Err.ensures)
     (now-there c.args.world.now c.take_raw.new.self c.put_back-in-Err.new.self g.R.Value.SceneValue.places.markers_id c.markers_id-id.result c.markers_id-id.ensures c.take_raw.result c.take_raw.ensures.value c.in-Some.value c.in-Err.other c.in-Some.is c.in-Some.ensures.out c.put_back-in-Err.ensures)
     (else-there c.args.world.now c.take_raw.new.self c.put_back-in-Err.new.self g.R.Value.SceneValue.places.markers_id c.markers_id-id.result c.markers_id-id.ensures c.take_raw.result c.take_raw.ensures.value c.in-Some.value c.in-Err.other c.in-Some.is c.in-Some.ensures.out c.put_back-in-Err.ensures)

@@ -12,7 +12,7 @@ use Rattle.scene_commands.proofs.entering.enter_entity.Goals as goal
 pub returns : goal.returns
 returns g c =
     on_ok_weaker c.mark.result
-    (enters (kinds_of g.R.Value.SceneValue.places g.R.DocumentRules.part_of g.R.Rules.columns) g.met.R.Rules.apart c.args.world.now (seen_of c.bring_to_life.new.world) (seen_of c.note_under.new.world) c.mark.new.world c.in-Ok.entity c.args.id
-    c.requires.may (lives-under (roll_of (kinds_of g.R.Value.SceneValue.places g.R.DocumentRules.part_of g.R.Rules.columns) (seen_of c.args.world.now)) c.args.id ∙ ap is_some (sym c.entity_under.ensures.value) ∙ sym c.is_some.ensures ∙ c.if-is_some.false)
+    (enters (kinds_of g.R.Value.SceneValue.places g.R.DocumentRules.part_of g.R.WorldRules.columns) g.met.R.WorldRules.apart c.args.world.now (seen_of c.bring_to_life.new.world) (seen_of c.note_under.new.world) c.mark.new.world c.in-Ok.entity c.args.id
+    c.requires.may (lives-under (roll_of (kinds_of g.R.Value.SceneValue.places g.R.DocumentRules.part_of g.R.WorldRules.columns) (seen_of c.args.world.now)) c.args.id ∙ ap is_some (sym c.entity_under.ensures.value) ∙ sym c.is_some.ensures ∙ c.if-is_some.false)
     c.in-Ok.ensures.ok c.in_ok-note_under.ensures)
-    (subst (λ index. OnOk c.mark.result (Marks (kinds_of g.R.Value.SceneValue.places g.R.DocumentRules.part_of g.R.Rules.columns) index c.args.id (seen_of c.note_under.new.world) (seen_of c.mark.new.world))) c.id.ensures c.mark.ensures)
+    (subst (λ index. OnOk c.mark.result (Marks (kinds_of g.R.Value.SceneValue.places g.R.DocumentRules.part_of g.R.WorldRules.columns) index c.args.id (seen_of c.note_under.new.world) (seen_of c.mark.new.world))) c.id.ensures c.mark.ensures)

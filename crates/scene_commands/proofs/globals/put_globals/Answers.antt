@@ -11,7 +11,7 @@ use Rattle.scene_commands.proofs.globals.put_globals.Goals as goal
 
 pub loop-index-preserved : goal.loop-index-preserved
 loop-index-preserved g c =
-    let kinds = kinds_of g.R.Value.SceneValue.places g.R.DocumentRules.part_of g.R.Rules.columns in
+    let kinds = kinds_of g.R.Value.SceneValue.places g.R.DocumentRules.part_of g.R.WorldRules.columns in
     let last = back-step c.args.globals.now c.loop-index.index c.index-globals-index.result (omega (arith, c.loop-index-test.true)) (omega (arith, c.loop-index.auto.index)) c.index-globals-index.is in
     record {
       may = c.in_ok-put_global.ensures.may;

@@ -13,6 +13,6 @@ use Rattle.scene_commands.proofs.gone.any_holds_gone.Goals as goal
 pub returns-then-branch : goal.returns-then-branch
 returns-then-branch g c =
     sym (any-here (λ name. name.now) c.args.names.now c.loop-kind.kind-index no_name c.loop-kind-test.true
-    (λ kind. holds_gone (option_map (part_under (ref_to (roll_of (kinds_of g.R.Value.SceneValue.places g.R.DocumentRules.part_of g.R.Rules.columns) (seen_of c.args.world.now))))
-    (column_of (kinds_of g.R.Value.SceneValue.places g.R.DocumentRules.part_of g.R.Rules.columns) (seen_of c.args.world.now) kind c.args.index)))
+    (λ kind. holds_gone (option_map (part_under (ref_to (roll_of (kinds_of g.R.Value.SceneValue.places g.R.DocumentRules.part_of g.R.WorldRules.columns) (seen_of c.args.world.now))))
+    (column_of (kinds_of g.R.Value.SceneValue.places g.R.DocumentRules.part_of g.R.WorldRules.columns) (seen_of c.args.world.now) kind c.args.index)))
     (sym c.in_ok-part_holds_gone.ensures ∙ c.if-branch.true))

@@ -17,7 +17,7 @@ use Rattle.scene_commands.proofs.gone.naming_kinds.Goals.{then-may_name+in_ok-pu
 
 pub loop-kind-preserved : goal.loop-kind-preserved
 loop-kind-preserved g c =
-    let kinds = kinds_of g.R.Value.SceneValue.places g.R.DocumentRules.part_of g.R.Rules.columns in
+    let kinds = kinds_of g.R.Value.SceneValue.places g.R.DocumentRules.part_of g.R.WorldRules.columns in
     let w = seen_of c.args.world.now in
     let holds : ℕ → Name → Bool = λ index kind. holds_gone (option_map (part_under (ref_to (roll_of kinds w))) (column_of kinds w kind index)) in
     λ index.
@@ -32,7 +32,7 @@ loop-kind-preserved g c =
 
 pub returns : goal.returns
 returns g c =
-    let kinds = kinds_of g.R.Value.SceneValue.places g.R.DocumentRules.part_of g.R.Rules.columns in
+    let kinds = kinds_of g.R.Value.SceneValue.places g.R.DocumentRules.part_of g.R.WorldRules.columns in
     let w = seen_of c.args.world.now in
     let holds : ℕ → Name → Bool = λ index kind. holds_gone (option_map (part_under (ref_to (roll_of kinds w))) (column_of kinds w kind index)) in
     λ index. c.loop-kind.invariant index ∙ ap (λ list. list_any (holds index) (texts list)) (take_all c.loop-kind.kind-index c.args.names.now c.loop-kind-test.false)

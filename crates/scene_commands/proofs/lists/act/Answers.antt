@@ -18,18 +18,18 @@ same g c = ap (λ entries. spawn (map (plain_entry g.R.DocumentRules.part_of) en
 
 pub returns-in-Spawn-clause-acts : goal.returns-in-Spawn-clause-acts
 returns-in-Spawn-clause-acts g c =
-    subst (λ command. IfOk c.spawn_entity.result (λ done. Acts (kinds_of g.R.Value.SceneValue.places g.R.DocumentRules.part_of g.R.Rules.columns) command done c.args.world.now c.spawn_entity.new.world)) (same g c) c.spawn_entity.ensures.acts
+    subst (λ command. IfOk c.spawn_entity.result (λ done. Acts (kinds_of g.R.Value.SceneValue.places g.R.DocumentRules.part_of g.R.WorldRules.columns) command done c.args.world.now c.spawn_entity.new.world)) (same g c) c.spawn_entity.ensures.acts
 
 pub returns-in-Spawn-clause-refused : goal.returns-in-Spawn-clause-refused
 returns-in-Spawn-clause-refused g c =
-    subst (λ command. IfErr c.spawn_entity.result (RefusesAct (kinds_of g.R.Value.SceneValue.places g.R.DocumentRules.part_of g.R.Rules.columns) command c.args.world.now)) (same g c) c.spawn_entity.ensures.refused
+    subst (λ command. IfErr c.spawn_entity.result (RefusesAct (kinds_of g.R.Value.SceneValue.places g.R.DocumentRules.part_of g.R.WorldRules.columns) command c.args.world.now)) (same g c) c.spawn_entity.ensures.refused
 
 pub returns-in_default-clause-refused : goal.returns-in_default-clause-refused
-returns-in_default-clause-refused g c = memory-says (kinds_of g.R.Value.SceneValue.places g.R.DocumentRules.part_of g.R.Rules.columns) (plain_command g.R.DocumentRules.part_of c.args.command.now) c.args.world.now
+returns-in_default-clause-refused g c = memory-says (kinds_of g.R.Value.SceneValue.places g.R.DocumentRules.part_of g.R.WorldRules.columns) (plain_command g.R.DocumentRules.part_of c.args.command.now) c.args.world.now
 
 pub returns-in-Spawn-clause-covers : goal.returns-in-Spawn-clause-covers
 returns-in-Spawn-clause-covers g c =
-    let kinds = kinds_of g.R.Value.SceneValue.places g.R.DocumentRules.part_of g.R.Rules.columns in
+    let kinds = kinds_of g.R.Value.SceneValue.places g.R.DocumentRules.part_of g.R.WorldRules.columns in
     let command = spawn (map (plain_entry g.R.DocumentRules.part_of) c.as_slice.result.now) in
     IfOk-weaker c.spawn_entity.result (λ done. Acts kinds command done c.args.world.now c.spawn_entity.new.world) (λ done. Covers kinds c.foresee.new.holders c.spawn_entity.new.world)
     (λ done. foreseen-covers kinds command done c.args.world.now c.spawn_entity.new.world c.foresee.new.holders
@@ -38,7 +38,7 @@ returns-in-Spawn-clause-covers g c =
 
 pub returns-in-Put-clause-covers : goal.returns-in-Put-clause-covers
 returns-in-Put-clause-covers g c =
-    let kinds = kinds_of g.R.Value.SceneValue.places g.R.DocumentRules.part_of g.R.Rules.columns in
+    let kinds = kinds_of g.R.Value.SceneValue.places g.R.DocumentRules.part_of g.R.WorldRules.columns in
     let command = put c.in-Put.id c.in-Put.kind.now (g.R.DocumentRules.part_of c.in-Put.datum) in
     IfOk-weaker c.told-in-Put.result (λ done. Acts kinds command done c.args.world.now c.put_part.new.world) (λ done. Covers kinds c.foresee.new.holders c.put_part.new.world)
     (λ done. foreseen-covers kinds command done c.args.world.now c.put_part.new.world c.foresee.new.holders
@@ -47,7 +47,7 @@ returns-in-Put-clause-covers g c =
 
 pub returns-in-Take-clause-covers : goal.returns-in-Take-clause-covers
 returns-in-Take-clause-covers g c =
-    let kinds = kinds_of g.R.Value.SceneValue.places g.R.DocumentRules.part_of g.R.Rules.columns in
+    let kinds = kinds_of g.R.Value.SceneValue.places g.R.DocumentRules.part_of g.R.WorldRules.columns in
     let command = take c.in-Take.id c.in-Take.kind.now in
     IfOk-weaker c.told-in-Take.result (λ done. Acts kinds command done c.args.world.now c.take_part.new.world) (λ done. Covers kinds c.foresee.new.holders c.take_part.new.world)
     (λ done. foreseen-covers kinds command done c.args.world.now c.take_part.new.world c.foresee.new.holders

@@ -11,11 +11,11 @@ use Rattle.scene_commands.proofs.lists.act_all.Given as goal
 abbrev pub invariant-loop-command : goal.invariant-loop-command
 invariant-loop-command g l = record {
   place : l.place ≡ l.earlier + l.command-index;
-  ran : RunsTo (owning_in (kinds_of g.R.Value.SceneValue.places g.R.DocumentRules.part_of g.R.Rules.columns)) l.frame (l.earlier + 1) (plain_commands g.R.DocumentRules.part_of (take l.command-index l.commands)) (plain_of (kinds_of g.R.Value.SceneValue.places g.R.DocumentRules.part_of g.R.Rules.columns) (seen_of l.initial.world))
-      (plain_of (kinds_of g.R.Value.SceneValue.places g.R.DocumentRules.part_of g.R.Rules.columns) (seen_of l.world)) l.initial.skips.items l.skips.items;
-  may : MayAct (kinds_of g.R.Value.SceneValue.places g.R.DocumentRules.part_of g.R.Rules.columns) l.world;
-  elsewhere : StaysElsewhere (kinds_of g.R.Value.SceneValue.places g.R.DocumentRules.part_of g.R.Rules.columns) l.initial.world l.world;
-  goes_on : GoesOn (kinds_of g.R.Value.SceneValue.places g.R.DocumentRules.part_of g.R.Rules.columns) l.initial.world l.world;
-  covers : Covers (kinds_of g.R.Value.SceneValue.places g.R.DocumentRules.part_of g.R.Rules.columns) l.holders l.world;
+  ran : RunsTo (owning_in (kinds_of g.R.Value.SceneValue.places g.R.DocumentRules.part_of g.R.WorldRules.columns)) l.frame (l.earlier + 1) (plain_commands g.R.DocumentRules.part_of (take l.command-index l.commands)) (plain_of (kinds_of g.R.Value.SceneValue.places g.R.DocumentRules.part_of g.R.WorldRules.columns) (seen_of l.initial.world))
+      (plain_of (kinds_of g.R.Value.SceneValue.places g.R.DocumentRules.part_of g.R.WorldRules.columns) (seen_of l.world)) l.initial.skips.items l.skips.items;
+  may : MayAct (kinds_of g.R.Value.SceneValue.places g.R.DocumentRules.part_of g.R.WorldRules.columns) l.world;
+  elsewhere : StaysElsewhere (kinds_of g.R.Value.SceneValue.places g.R.DocumentRules.part_of g.R.WorldRules.columns) l.initial.world l.world;
+  goes_on : GoesOn (kinds_of g.R.Value.SceneValue.places g.R.DocumentRules.part_of g.R.WorldRules.columns) l.initial.world l.world;
+  covers : Covers (kinds_of g.R.Value.SceneValue.places g.R.DocumentRules.part_of g.R.WorldRules.columns) l.holders l.world;
   kept : (more : List Skip) × (l.skips.items ≡ l.initial.skips.items ++ more);
 }

@@ -5,4 +5,4 @@ use Rattle.scene_commands.specs.Acts.{seen_of, entity_under}
 use Rattle.scene_commands.proofs.looking.entities_under.Given as goal
 
 abbrev pub invariant-loop-id : goal.invariant-loop-id
-invariant-loop-id g l = map (entity_under (roll_of (kinds_of g.R.Value.SceneValue.places g.R.DocumentRules.part_of g.R.Rules.columns) (seen_of l.world))) (take l.id-index l.ids) ≡ map (λ entity. Some entity) l.entities.items
+invariant-loop-id g l = map (entity_under (roll_of (kinds_of g.R.Value.SceneValue.places g.R.DocumentRules.part_of g.R.WorldRules.columns) (seen_of l.world))) (take l.id-index l.ids) ≡ map (λ entity. Some entity) l.entities.items

@@ -2,7 +2,8 @@ use Rattle.std.proofs.Common.{ap, sym, ◌∙◌}
 use Rattle.std.specs.Prelude.{option_and_then}
 use Rattle.std.specs.Option.{option_copied}
 use Rattle.scene_commands.specs.Acts.{seen_of}
-use Rattle.scene_commands.proofs.LookLemmas.{lent-none, lent-some, none-lives}
+use Rattle.scene_world.proofs.CallerLemmas.{none-lives}
+use Rattle.scene_commands.proofs.LookLemmas.{lent-none, lent-some}
 use Rattle.scene_commands.proofs.looking.is_living.Goals as goal
 
 pub returns-in_default-clause-value : goal.returns-in_default-clause-value

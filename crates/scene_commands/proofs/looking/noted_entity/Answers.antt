@@ -2,7 +2,8 @@ use Rattle.std.proofs.Common.{ap, sym, ◌∙◌}
 use Rattle.std.specs.Prelude.{option_and_then}
 use Rattle.std.specs.Option.{option_copied}
 use Rattle.scene_commands.specs.Acts.{seen_of}
-use Rattle.scene_commands.proofs.LookLemmas.{lent-none, lent-some, none-noted}
+use Rattle.scene_world.proofs.CallerLemmas.{none-noted}
+use Rattle.scene_commands.proofs.LookLemmas.{lent-none, lent-some}
 use Rattle.scene_commands.proofs.looking.noted_entity.Goals as goal
 
 pub returns-in_err-value : goal.returns-in_err-value

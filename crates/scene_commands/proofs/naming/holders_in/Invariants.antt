@@ -12,5 +12,5 @@ use Rattle.scene_commands.proofs.naming.holders_in.Given as goal
 abbrev pub invariant-loop-kind : goal.invariant-loop-kind
 invariant-loop-kind g l =
     (index : ℕ) → IsSome (living l.entities index)
-    → refers_among (kinds_of g.R.Value.SceneValue.places g.R.DocumentRules.part_of g.R.Rules.columns) (seen_of l.world) (texts (take l.kind-index l.names)) index ≡ true
+    → refers_among (kinds_of g.R.Value.SceneValue.places g.R.DocumentRules.part_of g.R.WorldRules.columns) (seen_of l.world) (texts (take l.kind-index l.names)) index ≡ true
     → has_member l.indices index ≡ true

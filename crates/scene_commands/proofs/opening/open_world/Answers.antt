@@ -10,9 +10,9 @@ use Rattle.scene_commands.proofs.opening.open_world.Goals as goal
 
 pub returns-clause-may : goal.returns-clause-may
 returns-clause-may g c =
-    open-may g.R.Value.SceneValue.places g.R.DocumentRules.part_of g.R.Rules.columns g.met.R.Rules.apart c.empty-world.result c.register.new.world c.wrap_entities.result c.wrap_markers.result c.wrap_allocator.result
-    (subst (λ w. Registers g.R.Rules.columns w c.register.new.world)
-    (seated-is g.R.Value.SceneValue.places g.R.DocumentRules.part_of g.R.Rules.columns g.met.R.Rules.apart c.empty-world.result c.register.new.world c.wrap_entities.result c.wrap_markers.result c.wrap_allocator.result
+    open-may g.R.Value.SceneValue.places g.R.DocumentRules.part_of g.R.WorldRules.columns g.met.R.WorldRules.apart c.empty-world.result c.register.new.world c.wrap_entities.result c.wrap_markers.result c.wrap_allocator.result
+    (subst (λ w. Registers g.R.WorldRules.columns w c.register.new.world)
+    (seated-is g.R.Value.SceneValue.places g.R.DocumentRules.part_of g.R.WorldRules.columns g.met.R.WorldRules.apart c.empty-world.result c.register.new.world c.wrap_entities.result c.wrap_markers.result c.wrap_allocator.result
     c.insert_raw.new.self c.insert_raw-2.new.self c.insert_raw-3.new.self c.entities_id.result c.markers_id.result c.allocator_id.result c.entities_id.ensures c.markers_id.ensures c.allocator_id.ensures
     c.in-Ok.ensures.ok c.in-Ok-insert_raw.ensures.ok c.in-Ok-insert_raw-2.ensures.ok)
     c.in_ok-register.ensures)
@@ -23,9 +23,9 @@ returns-clause-may g c =
 
 pub returns-clause-births : goal.returns-clause-births
 returns-clause-births g c =
-    open-births g.R.Value.SceneValue.places g.R.DocumentRules.part_of g.R.Rules.columns g.met.R.Rules.apart c.empty-world.result c.register.new.world c.wrap_entities.result c.wrap_markers.result c.wrap_allocator.result
-    (subst (λ w. Registers g.R.Rules.columns w c.register.new.world)
-    (seated-is g.R.Value.SceneValue.places g.R.DocumentRules.part_of g.R.Rules.columns g.met.R.Rules.apart c.empty-world.result c.register.new.world c.wrap_entities.result c.wrap_markers.result c.wrap_allocator.result
+    open-births g.R.Value.SceneValue.places g.R.DocumentRules.part_of g.R.WorldRules.columns g.met.R.WorldRules.apart c.empty-world.result c.register.new.world c.wrap_entities.result c.wrap_markers.result c.wrap_allocator.result
+    (subst (λ w. Registers g.R.WorldRules.columns w c.register.new.world)
+    (seated-is g.R.Value.SceneValue.places g.R.DocumentRules.part_of g.R.WorldRules.columns g.met.R.WorldRules.apart c.empty-world.result c.register.new.world c.wrap_entities.result c.wrap_markers.result c.wrap_allocator.result
     c.insert_raw.new.self c.insert_raw-2.new.self c.insert_raw-3.new.self c.entities_id.result c.markers_id.result c.allocator_id.result c.entities_id.ensures c.markers_id.ensures c.allocator_id.ensures
     c.in-Ok.ensures.ok c.in-Ok-insert_raw.ensures.ok c.in-Ok-insert_raw-2.ensures.ok)
     c.in_ok-register.ensures)
@@ -33,9 +33,9 @@ returns-clause-births g c =
 
 pub returns-clause-quiet : goal.returns-clause-quiet
 returns-clause-quiet g c =
-    open-quiet g.R.Value.SceneValue.places g.R.DocumentRules.part_of g.R.Rules.columns g.met.R.Rules.apart c.empty-world.result c.register.new.world c.wrap_entities.result c.wrap_markers.result c.wrap_allocator.result
-    (subst (λ w. Registers g.R.Rules.columns w c.register.new.world)
-    (seated-is g.R.Value.SceneValue.places g.R.DocumentRules.part_of g.R.Rules.columns g.met.R.Rules.apart c.empty-world.result c.register.new.world c.wrap_entities.result c.wrap_markers.result c.wrap_allocator.result
+    open-quiet g.R.Value.SceneValue.places g.R.DocumentRules.part_of g.R.WorldRules.columns g.met.R.WorldRules.apart c.empty-world.result c.register.new.world c.wrap_entities.result c.wrap_markers.result c.wrap_allocator.result
+    (subst (λ w. Registers g.R.WorldRules.columns w c.register.new.world)
+    (seated-is g.R.Value.SceneValue.places g.R.DocumentRules.part_of g.R.WorldRules.columns g.met.R.WorldRules.apart c.empty-world.result c.register.new.world c.wrap_entities.result c.wrap_markers.result c.wrap_allocator.result
     c.insert_raw.new.self c.insert_raw-2.new.self c.insert_raw-3.new.self c.entities_id.result c.markers_id.result c.allocator_id.result c.entities_id.ensures c.markers_id.ensures c.allocator_id.ensures
     c.in-Ok.ensures.ok c.in-Ok-insert_raw.ensures.ok c.in-Ok-insert_raw-2.ensures.ok)
     c.in_ok-register.ensures)
@@ -43,9 +43,9 @@ returns-clause-quiet g c =
 
 pub returns-clause-scene : goal.returns-clause-scene
 returns-clause-scene g c =
-    open-scene g.R.Value.SceneValue.places g.R.DocumentRules.part_of g.R.Rules.columns g.met.R.Rules.apart c.empty-world.result c.register.new.world c.wrap_entities.result c.wrap_markers.result c.wrap_allocator.result
-    (subst (λ w. Registers g.R.Rules.columns w c.register.new.world)
-    (seated-is g.R.Value.SceneValue.places g.R.DocumentRules.part_of g.R.Rules.columns g.met.R.Rules.apart c.empty-world.result c.register.new.world c.wrap_entities.result c.wrap_markers.result c.wrap_allocator.result
+    open-scene g.R.Value.SceneValue.places g.R.DocumentRules.part_of g.R.WorldRules.columns g.met.R.WorldRules.apart c.empty-world.result c.register.new.world c.wrap_entities.result c.wrap_markers.result c.wrap_allocator.result
+    (subst (λ w. Registers g.R.WorldRules.columns w c.register.new.world)
+    (seated-is g.R.Value.SceneValue.places g.R.DocumentRules.part_of g.R.WorldRules.columns g.met.R.WorldRules.apart c.empty-world.result c.register.new.world c.wrap_entities.result c.wrap_markers.result c.wrap_allocator.result
     c.insert_raw.new.self c.insert_raw-2.new.self c.insert_raw-3.new.self c.entities_id.result c.markers_id.result c.allocator_id.result c.entities_id.ensures c.markers_id.ensures c.allocator_id.ensures
     c.in-Ok.ensures.ok c.in-Ok-insert_raw.ensures.ok c.in-Ok-insert_raw-2.ensures.ok)
     c.in_ok-register.ensures)

@@ -10,7 +10,7 @@ use Rattle.scene_commands.proofs.owning.ids_of.Goals as goal
 
 pub loop-entity-preserved : goal.loop-entity-preserved
 loop-entity-preserved g c =
-    let roll : Roll = roll_of (kinds_of g.R.Value.SceneValue.places g.R.DocumentRules.part_of g.R.Rules.columns) (seen_of c.args.world.now) in
+    let roll : Roll = roll_of (kinds_of g.R.Value.SceneValue.places g.R.DocumentRules.part_of g.R.WorldRules.columns) (seen_of c.args.world.now) in
     let marks : LifeAt → Option ℕ = λ entity. roll.marker entity.id in
     let marked : marks c.entity-item.result ≡ Some c.in-Some.id = sym (ap roll.marker c.id.ensures) ∙ sym c.id_marked.ensures ∙ c.in-Some.is in
     front_at marks c.args.entities.now c.loop-entity.entity-index c.entity-item.result c.loop-entity-test.true c.entity-item.is
@@ -21,5 +21,5 @@ loop-entity-preserved g c =
 
 pub returns : goal.returns
 returns g c =
-    ap (map (λ entity. (roll_of (kinds_of g.R.Value.SceneValue.places g.R.DocumentRules.part_of g.R.Rules.columns) (seen_of c.args.world.now)).marker entity.id)) (sym (take_all c.loop-entity.entity-index c.args.entities.now c.loop-entity-test.false))
+    ap (map (λ entity. (roll_of (kinds_of g.R.Value.SceneValue.places g.R.DocumentRules.part_of g.R.WorldRules.columns) (seen_of c.args.world.now)).marker entity.id)) (sym (take_all c.loop-entity.entity-index c.args.entities.now c.loop-entity-test.false))
     ∙ c.loop-entity.invariant

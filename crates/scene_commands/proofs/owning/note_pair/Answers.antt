@@ -16,19 +16,19 @@ returns-in_default-id_marked-clause-grows g c = grows-not c.args.holders.now c.r
 
 pub returns-in_default-clause-noted : goal.returns-in_default-clause-noted
 returns-in_default-clause-noted g c = λ holder target of to.
-    let roll : Roll = roll_of (kinds_of g.R.Value.SceneValue.places g.R.DocumentRules.part_of g.R.Rules.columns) (seen_of c.args.world.now) in
+    let roll : Roll = roll_of (kinds_of g.R.Value.SceneValue.places g.R.DocumentRules.part_of g.R.WorldRules.columns) (seen_of c.args.world.now) in
     let never : ◌≡◌ {A = Option ℕ} None (Some holder) = sym c.in_default.is ∙ c.id_marked.ensures ∙ ap roll.marker c.id.ensures ∙ of in
     cc
 
 pub returns-in_default-id_marked-clause-noted : goal.returns-in_default-id_marked-clause-noted
 returns-in_default-id_marked-clause-noted g c = λ holder target of to.
-    let roll : Roll = roll_of (kinds_of g.R.Value.SceneValue.places g.R.DocumentRules.part_of g.R.Rules.columns) (seen_of c.args.world.now) in
+    let roll : Roll = roll_of (kinds_of g.R.Value.SceneValue.places g.R.DocumentRules.part_of g.R.WorldRules.columns) (seen_of c.args.world.now) in
     let never : ◌≡◌ {A = Option ℕ} None (Some target) = sym c.in_default-id_marked.is ∙ c.id_marked-2.ensures ∙ ap roll.marker c.id-2.ensures ∙ to in
     cc
 
 pub returns-clause-noted : goal.returns-clause-noted
 returns-clause-noted g c =
-    let roll : Roll = roll_of (kinds_of g.R.Value.SceneValue.places g.R.DocumentRules.part_of g.R.Rules.columns) (seen_of c.args.world.now) in
+    let roll : Roll = roll_of (kinds_of g.R.Value.SceneValue.places g.R.DocumentRules.part_of g.R.WorldRules.columns) (seen_of c.args.world.now) in
     on_ok_weaker c.push.result
     (λ holds holder target of to.
     let first : Some c.in-Some.holder ≡ Some holder = sym c.in-Some.is ∙ c.id_marked.ensures ∙ ap roll.marker c.id.ensures ∙ of in

@@ -8,14 +8,14 @@ use Rattle.scene_commands.proofs.LinkLemmas.{grows-not, grows-further}
 use Rattle.scene_commands.proofs.owning.note_pairs.Goals as goal
 
 pub loop-pair-init : goal.loop-pair-init
-loop-pair-init g c = record { grows = grows-not c.args.holders.now c.requires; noted = All-nil (IsNoted (kinds_of g.R.Value.SceneValue.places g.R.DocumentRules.part_of g.R.Rules.columns) (seen_of c.args.world.now) c.args.holders.now) }
+loop-pair-init g c = record { grows = grows-not c.args.holders.now c.requires; noted = All-nil (IsNoted (kinds_of g.R.Value.SceneValue.places g.R.DocumentRules.part_of g.R.WorldRules.columns) (seen_of c.args.world.now) c.args.holders.now) }
 
 pub note_pair-requires : goal.note_pair-requires
 note_pair-requires g c = c.loop-pair.invariant.grows.chained
 
 pub loop-pair-preserved : goal.loop-pair-preserved
 loop-pair-preserved g c =
-    let kinds = kinds_of g.R.Value.SceneValue.places g.R.DocumentRules.part_of g.R.Rules.columns in
+    let kinds = kinds_of g.R.Value.SceneValue.places g.R.DocumentRules.part_of g.R.WorldRules.columns in
     let w = seen_of c.args.world.now in
     let all = c.in_ok-note_pair.ensures in
     record {
@@ -31,4 +31,4 @@ returns-clause-grows g c = c.loop-pair.invariant.grows
 
 pub returns-clause-noted : goal.returns-clause-noted
 returns-clause-noted g c =
-    subst (All (IsNoted (kinds_of g.R.Value.SceneValue.places g.R.DocumentRules.part_of g.R.Rules.columns) (seen_of c.args.world.now) c.loop-pair.holders)) (take_all c.loop-pair.pair-index c.args.pairs.now c.loop-pair-test.false) c.loop-pair.invariant.noted
+    subst (All (IsNoted (kinds_of g.R.Value.SceneValue.places g.R.DocumentRules.part_of g.R.WorldRules.columns) (seen_of c.args.world.now) c.loop-pair.holders)) (take_all c.loop-pair.pair-index c.args.pairs.now c.loop-pair-test.false) c.loop-pair.invariant.noted

@@ -8,5 +8,5 @@ use Rattle.scene_commands.proofs.owning.note_pairs.Given as goal
 abbrev pub invariant-loop-pair : goal.invariant-loop-pair
 invariant-loop-pair g l = record {
   grows : Grows l.initial.holders l.holders;
-  noted : All (IsNoted (kinds_of g.R.Value.SceneValue.places g.R.DocumentRules.part_of g.R.Rules.columns) (seen_of l.world) l.holders) (take l.pair-index l.pairs);
+  noted : All (IsNoted (kinds_of g.R.Value.SceneValue.places g.R.DocumentRules.part_of g.R.WorldRules.columns) (seen_of l.world) l.holders) (take l.pair-index l.pairs);
 }

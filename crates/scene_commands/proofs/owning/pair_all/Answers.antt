@@ -14,10 +14,10 @@ loop-kind-init g c = sym (append-nil c.args.pairs.now.items)
 
 pub loop-kind-preserved : goal.loop-kind-preserved
 loop-kind-preserved g c =
-    kinds-more (pairs_under (kinds_of g.R.Value.SceneValue.places g.R.DocumentRules.part_of g.R.Rules.columns) (seen_of c.args.world.now) c.args.entity) c.args.names.now c.loop-kind.kind-index no_name c.loop-kind-test.true
+    kinds-more (pairs_under (kinds_of g.R.Value.SceneValue.places g.R.DocumentRules.part_of g.R.WorldRules.columns) (seen_of c.args.world.now) c.args.entity) c.args.names.now c.loop-kind.kind-index no_name c.loop-kind-test.true
     c.args.pairs.now.items c.loop-kind.pairs.items c.pair_under.new.pairs.items c.loop-kind.invariant c.in_ok-pair_under.ensures
 
 pub returns : goal.returns
 returns g c =
     c.loop-kind.invariant
-    ∙ ap (λ l. c.args.pairs.now.items ++ flat_map (pairs_under (kinds_of g.R.Value.SceneValue.places g.R.DocumentRules.part_of g.R.Rules.columns) (seen_of c.args.world.now) c.args.entity) (texts l)) (take_all c.loop-kind.kind-index c.args.names.now c.loop-kind-test.false)
+    ∙ ap (λ l. c.args.pairs.now.items ++ flat_map (pairs_under (kinds_of g.R.Value.SceneValue.places g.R.DocumentRules.part_of g.R.WorldRules.columns) (seen_of c.args.world.now) c.args.entity) (texts l)) (take_all c.loop-kind.kind-index c.args.names.now c.loop-kind-test.false)

@@ -8,7 +8,7 @@ use Rattle.scene_commands.proofs.owning.pairs_in.Goals as goal
 
 pub returns : goal.returns
 returns g c =
-    let kinds = kinds_of g.R.Value.SceneValue.places g.R.DocumentRules.part_of g.R.Rules.columns in
+    let kinds = kinds_of g.R.Value.SceneValue.places g.R.DocumentRules.part_of g.R.WorldRules.columns in
     let w = seen_of c.args.world.now in
     IfOk-weaker c.pairs_among.result (λ pairs. pairs.items ≡ pairs_among kinds w (texts c.args.names.now) c.as_slice.result.now) (λ pairs. ArePairs kinds w (texts c.args.names.now) pairs.items)
     (λ pairs is. record {

@@ -7,4 +7,4 @@ use Rattle.scene_commands.specs.Becoming.{Becomes}
 use Rattle.scene_commands.proofs.part_lists.put_list.Given as goal
 
 abbrev pub invariant-loop-index : goal.invariant-loop-index
-invariant-loop-index g l = Becomes (kinds_of g.R.Value.SceneValue.places g.R.DocumentRules.part_of g.R.Rules.columns) (with_list l.id (map (named g.R.DocumentRules.part_of (texts l.names)) (drop l.index l.parts))) l.initial.world l.world
+invariant-loop-index g l = Becomes (kinds_of g.R.Value.SceneValue.places g.R.DocumentRules.part_of g.R.WorldRules.columns) (with_list l.id (map (named g.R.DocumentRules.part_of (texts l.names)) (drop l.index l.parts))) l.initial.world l.world

@@ -17,7 +17,7 @@ put_part-requires-clause-known g c =
 
 pub returns-then-done : goal.returns-then-done
 returns-then-done g c =
-    subst (λ part. Becomes (kinds_of g.R.Value.SceneValue.places g.R.DocumentRules.part_of g.R.Rules.columns) (with_one c.args.id (named g.R.DocumentRules.part_of (texts c.args.names.now) part)) c.args.world.now c.put_part.new.world) (sym c.in-Some.is)
-    (puts-one (kinds_of g.R.Value.SceneValue.places g.R.DocumentRules.part_of g.R.Rules.columns) g.met.R.Rules.apart c.args.world.now c.put_part.new.world c.args.id c.args.names.now c.in-Some.place (g.R.DocumentRules.part_of c.in-Some.datum) c.in_ok-done.ensures.may
-    (subst (λ done. Acts (kinds_of g.R.Value.SceneValue.places g.R.DocumentRules.part_of g.R.Rules.columns) (put c.args.id (get_or c.args.names.now c.in-Some.place no_name).now (g.R.DocumentRules.part_of c.in-Some.datum)) done c.args.world.now c.put_part.new.world) c.if-done.true c.in_ok-done.ensures.acts)
+    subst (λ part. Becomes (kinds_of g.R.Value.SceneValue.places g.R.DocumentRules.part_of g.R.WorldRules.columns) (with_one c.args.id (named g.R.DocumentRules.part_of (texts c.args.names.now) part)) c.args.world.now c.put_part.new.world) (sym c.in-Some.is)
+    (puts-one (kinds_of g.R.Value.SceneValue.places g.R.DocumentRules.part_of g.R.WorldRules.columns) g.met.R.WorldRules.apart c.args.world.now c.put_part.new.world c.args.id c.args.names.now c.in-Some.place (g.R.DocumentRules.part_of c.in-Some.datum) c.in_ok-done.ensures.may
+    (subst (λ done. Acts (kinds_of g.R.Value.SceneValue.places g.R.DocumentRules.part_of g.R.WorldRules.columns) (put c.args.id (get_or c.args.names.now c.in-Some.place no_name).now (g.R.DocumentRules.part_of c.in-Some.datum)) done c.args.world.now c.put_part.new.world) c.if-done.true c.in_ok-done.ensures.acts)
     c.in_ok-done.ensures.elsewhere c.in_ok-done.ensures.goes_on)

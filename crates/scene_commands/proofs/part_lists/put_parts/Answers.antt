@@ -11,7 +11,7 @@ use Rattle.scene_commands.proofs.part_lists.put_parts.Goals as goal
 
 pub loop-index-preserved : goal.loop-index-preserved
 loop-index-preserved g c =
-    let kinds = kinds_of g.R.Value.SceneValue.places g.R.DocumentRules.part_of g.R.Rules.columns in
+    let kinds = kinds_of g.R.Value.SceneValue.places g.R.DocumentRules.part_of g.R.WorldRules.columns in
     let last = back-step c.args.entities.now c.loop-index.index c.index-entities-index.result (omega (arith, c.loop-index-test.true)) (omega (arith, c.loop-index.auto.index)) c.index-entities-index.is in
     record {
       may = c.in_ok-put_list.ensures.may;

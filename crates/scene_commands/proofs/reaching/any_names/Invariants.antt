@@ -6,4 +6,4 @@ use Rattle.scene_commands.specs.Reaching.{names_at}
 use Rattle.scene_commands.proofs.reaching.any_names.Given as goal
 
 abbrev pub invariant-loop-kind : goal.invariant-loop-kind
-invariant-loop-kind g l = names_at (kinds_of g.R.Value.SceneValue.places g.R.DocumentRules.part_of g.R.Rules.columns) (seen_of l.world) (texts (take l.kind-index l.names)) l.index l.target ≡ false
+invariant-loop-kind g l = names_at (kinds_of g.R.Value.SceneValue.places g.R.DocumentRules.part_of g.R.WorldRules.columns) (seen_of l.world) (texts (take l.kind-index l.names)) l.index l.target ≡ false

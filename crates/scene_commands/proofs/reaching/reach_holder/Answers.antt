@@ -15,21 +15,21 @@ use Rattle.scene_commands.proofs.reaching.reach_holder.Goals as goal
 
 pub returns-in_default-clause-longer : goal.returns-in_default-clause-longer
 returns-in_default-clause-longer g c =
-    goes-on-not (IsAlive (roll_of (kinds_of g.R.Value.SceneValue.places g.R.DocumentRules.part_of g.R.Rules.columns) (seen_of c.args.world.now)).births) c.args.reached.now.entities.items
+    goes-on-not (IsAlive (roll_of (kinds_of g.R.Value.SceneValue.places g.R.DocumentRules.part_of g.R.WorldRules.columns) (seen_of c.args.world.now)).births) c.args.reached.now.entities.items
 
 pub returns-in_default-clause-is_in : goal.returns-in_default-clause-is_in
 returns-in_default-clause-is_in g c = λ index at refers.
-    let roll : Roll = roll_of (kinds_of g.R.Value.SceneValue.places g.R.DocumentRules.part_of g.R.Rules.columns) (seen_of c.args.world.now) in
+    let roll : Roll = roll_of (kinds_of g.R.Value.SceneValue.places g.R.DocumentRules.part_of g.R.WorldRules.columns) (seen_of c.args.world.now) in
     let never : ◌≡◌ {A = Option ℕ} None (Some index) = sym (index-under roll c.args.holder ∙ ap (option_map (λ entity. entity.id)) (sym c.entity_under.ensures.value ∙ c.in_default.is)) ∙ at in
     cc
 
 pub returns-then-not-branch-clause-longer : goal.returns-then-not-branch-clause-longer
 returns-then-not-branch-clause-longer g c =
-    goes-on-not (IsAlive (roll_of (kinds_of g.R.Value.SceneValue.places g.R.DocumentRules.part_of g.R.Rules.columns) (seen_of c.args.world.now)).births) c.args.reached.now.entities.items
+    goes-on-not (IsAlive (roll_of (kinds_of g.R.Value.SceneValue.places g.R.DocumentRules.part_of g.R.WorldRules.columns) (seen_of c.args.world.now)).births) c.args.reached.now.entities.items
 
 pub returns-then-not-branch-clause-is_in : goal.returns-then-not-branch-clause-is_in
 returns-then-not-branch-clause-is_in g c = λ index at refers.
-    let kinds = kinds_of g.R.Value.SceneValue.places g.R.DocumentRules.part_of g.R.Rules.columns in
+    let kinds = kinds_of g.R.Value.SceneValue.places g.R.DocumentRules.part_of g.R.WorldRules.columns in
     let w = seen_of c.args.world.now in
     let here : c.in-Some.entity.id ≡ index = index-is (roll_of kinds w) c.args.holder c.in-Some.entity (sym c.entity_under.ensures.value ∙ c.in-Some.is) index at in
     absurd (false≢true (sym c.if-not-branch.true ∙ c.in_ok-any_names.ensures
@@ -38,14 +38,14 @@ returns-then-not-branch-clause-is_in g c = λ index at refers.
 
 pub returns-clause-longer : goal.returns-clause-longer
 returns-clause-longer g c =
-    let roll : Roll = roll_of (kinds_of g.R.Value.SceneValue.places g.R.DocumentRules.part_of g.R.Rules.columns) (seen_of c.args.world.now) in
+    let roll : Roll = roll_of (kinds_of g.R.Value.SceneValue.places g.R.DocumentRules.part_of g.R.WorldRules.columns) (seen_of c.args.world.now) in
     on_ok_weaker c.reach.result
     (goes-on-by (IsAlive roll.births) c.in-Some.entity (under-alive roll c.args.holder c.in-Some.entity (sym c.entity_under.ensures.value ∙ c.in-Some.is)) c.args.reached.now.entities.items c.reach.new.self.entities.items)
     c.reach.ensures.longer
 
 pub returns-clause-is_in : goal.returns-clause-is_in
 returns-clause-is_in g c =
-    let roll : Roll = roll_of (kinds_of g.R.Value.SceneValue.places g.R.DocumentRules.part_of g.R.Rules.columns) (seen_of c.args.world.now) in
+    let roll : Roll = roll_of (kinds_of g.R.Value.SceneValue.places g.R.DocumentRules.part_of g.R.WorldRules.columns) (seen_of c.args.world.now) in
     on_ok_weaker c.reach.result
     (λ is_in index at refers. ap (is_named c.reach.new.self.entities.items) (sym (index-is roll c.args.holder c.in-Some.entity (sym c.entity_under.ensures.value ∙ c.in-Some.is) index at)) ∙ is_in)
     c.reach.ensures.is_in

@@ -19,13 +19,13 @@ loop-end-init g c =
       within = end.within;
       here = end.here;
       tells = c.requires.tells;
-      longer = goes-on-not (IsAlive (roll_of (kinds_of g.R.Value.SceneValue.places g.R.DocumentRules.part_of g.R.Rules.columns) (seen_of c.args.world.now)).births) c.args.reached.now.entities.items;
+      longer = goes-on-not (IsAlive (roll_of (kinds_of g.R.Value.SceneValue.places g.R.DocumentRules.part_of g.R.WorldRules.columns) (seen_of c.args.world.now)).births) c.args.reached.now.entities.items;
       passed = λ place low below same. absurd (end.none place low below same);
     }
 
 pub loop-end-preserved : goal.loop-end-preserved
 loop-end-preserved g c =
-    let kinds = kinds_of g.R.Value.SceneValue.places g.R.DocumentRules.part_of g.R.Rules.columns in
+    let kinds = kinds_of g.R.Value.SceneValue.places g.R.DocumentRules.part_of g.R.WorldRules.columns in
     let w = seen_of c.args.world.now in
     let links = c.args.holders.now.links.items in
     let was = c.loop-end.invariant in
@@ -58,7 +58,7 @@ loop-end-preserved g c =
 
 pub returns-clause-all : goal.returns-clause-all
 returns-clause-all g c =
-    let kinds = kinds_of g.R.Value.SceneValue.places g.R.DocumentRules.part_of g.R.Rules.columns in
+    let kinds = kinds_of g.R.Value.SceneValue.places g.R.DocumentRules.part_of g.R.WorldRules.columns in
     let none : c.loop-end.end ≤ 0 = omega arith in
     all-referring kinds c.args.world.now c.requires.may (texts c.args.names.now) c.requires.alike c.args.holders.now c.requires.made c.requires.covers c.args.target c.requires.alive c.in-Some.id
     (ap (roll_of kinds (seen_of c.args.world.now)).marker (sym c.id.ensures) ∙ sym c.id_marked.ensures ∙ c.in-Some.is) c.loop-end.reached.entities.items

@@ -13,9 +13,9 @@ invariant-loop-end g l = record {
   within : l.end ≤ length l.holders.links.items;
   here : 0 < l.end → (link_at l.holders.links.items (l.end - 1)).target ≡ l.id;
   tells : Tells l.reached.seen l.reached.entities.items;
-  longer : GoesOnBy (IsAlive (roll_of (kinds_of g.R.Value.SceneValue.places g.R.DocumentRules.part_of g.R.Rules.columns) (seen_of l.world)).births) l.initial.reached.entities.items l.reached.entities.items;
+  longer : GoesOnBy (IsAlive (roll_of (kinds_of g.R.Value.SceneValue.places g.R.DocumentRules.part_of g.R.WorldRules.columns) (seen_of l.world)).births) l.initial.reached.entities.items l.reached.entities.items;
   passed : (place : ℕ) → l.end ≤ place → place < length l.holders.links.items → (link_at l.holders.links.items place).target ≡ l.id
-      → HasUnder (kinds_of g.R.Value.SceneValue.places g.R.DocumentRules.part_of g.R.Rules.columns) (seen_of l.world) (texts l.names) l.reached.entities.items l.target.id (link_at l.holders.links.items place).holder;
+      → HasUnder (kinds_of g.R.Value.SceneValue.places g.R.DocumentRules.part_of g.R.WorldRules.columns) (seen_of l.world) (texts l.names) l.reached.entities.items l.target.id (link_at l.holders.links.items place).holder;
 }
 
 abbrev pub decreases-loop-end : goal.decreases-loop-end

@@ -16,7 +16,7 @@ reach-requires-clause-tells g c = subst (Tells c.new.result) (sym c.new-2.ensure
 
 pub loop-at-init : goal.loop-at-init
 loop-at-init g c =
-    let births = (roll_of (kinds_of g.R.Value.SceneValue.places g.R.DocumentRules.part_of g.R.Rules.columns) (seen_of c.args.world.now)).births in
+    let births = (roll_of (kinds_of g.R.Value.SceneValue.places g.R.DocumentRules.part_of g.R.WorldRules.columns) (seen_of c.args.world.now)).births in
     record {
       within = omega arith;
       tells = c.in_ok-reach.ensures.tells;
@@ -31,14 +31,14 @@ loop-at-smaller g c = let short = tells-short c.loop-at.reached.seen c.loop-at.r
 
 pub reach_holders-requires-clause-alive : goal.reach_holders-requires-clause-alive
 reach_holders-requires-clause-alive g c =
-    let births = (roll_of (kinds_of g.R.Value.SceneValue.places g.R.DocumentRules.part_of g.R.Rules.columns) (seen_of c.args.world.now)).births in
+    let births = (roll_of (kinds_of g.R.Value.SceneValue.places g.R.DocumentRules.part_of g.R.WorldRules.columns) (seen_of c.args.world.now)).births in
     let inside : c.loop-at.at < length c.loop-at.reached.entities.items = omega arith in
     subst (IsAlive births) (sym c.index-target.ensures)
     (All-get_or (IsAlive births) c.loop-at.reached.entities.items c.loop-at.at c.index-target.result.now inside c.loop-at.invariant.alive)
 
 pub loop-at-preserved : goal.loop-at-preserved
 loop-at-preserved g c =
-    let kinds = kinds_of g.R.Value.SceneValue.places g.R.DocumentRules.part_of g.R.Rules.columns in
+    let kinds = kinds_of g.R.Value.SceneValue.places g.R.DocumentRules.part_of g.R.WorldRules.columns in
     let w = seen_of c.args.world.now in
     let births = (roll_of kinds w).births in
     let was = c.loop-at.invariant in

@@ -12,7 +12,7 @@ put_back-requires-in-Err g c = record { is_out = slot-is-out c.args.world.now c.
 
 pub returns-in-Ok-outcome : goal.returns-in-Ok-outcome
 returns-in-Ok-outcome g c =
-    marks-watched (kinds_of g.R.Value.SceneValue.places g.R.DocumentRules.part_of g.R.Rules.columns) c.args.world.now c.put_back.new.self c.in-Some.value c.wrap_markers.result
+    marks-watched (kinds_of g.R.Value.SceneValue.places g.R.DocumentRules.part_of g.R.WorldRules.columns) c.args.world.now c.put_back.new.self c.in-Some.value c.wrap_markers.result
     (was-there c.args.world.now c.take_raw.new.self c.put_back.new.self g.R.Value.SceneValue.places.markers_id c.markers_id-id.result c.markers_id-id.ensures c.take_raw.result c.take_raw.ensures.value c.in-Some.value c.wrap_markers.result c.in-Some.is c.in-Some.ensures.out c.put_back.ensures)
     (now-there c.args.world.now c.take_raw.new.self c.put_back.new.self g.R.Value.SceneValue.places.markers_id c.markers_id-id.result c.markers_id-id.ensures c.take_raw.result c.take_raw.ensures.value c.in-Some.value c.wrap_markers.result c.in-Some.is c.in-Some.ensures.out c.put_back.ensures)
     (else-there c.args.world.now c.take_raw.new.self c.put_back.new.self g.R.Value.SceneValue.places.markers_id c.markers_id-id.result c.markers_id-id.ensures c.take_raw.result c.take_raw.ensures.value c.in-Some.value c.wrap_markers.result c.in-Some.is c.in-Some.ensures.out c.put_back.ensures)

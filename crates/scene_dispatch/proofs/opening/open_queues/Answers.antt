@@ -20,7 +20,7 @@ returns-in_err-open_queue-clause-others g c = λ id other.
 
 pub returns-in_err-open_queue-clause-scene : goal.returns-in_err-open_queue-clause-scene
 returns-in_err-open_queue-clause-scene g c =
-    opened-scene g.R.Value.SceneValue.places g.R.DocumentRules.part_of g.R.Rules.columns g.met.R.Rules.apart c.args.positions.now c.args.world.now c.open_queue.new.world
+    opened-scene g.R.Value.SceneValue.places g.R.DocumentRules.part_of g.R.WorldRules.columns g.met.R.WorldRules.apart c.args.positions.now c.args.world.now c.open_queue.new.world
     (λ id other. ap (λ m. map.get m id) c.in_err-open_queue.ensures.err
     ∙ else-all g.R.Value.SceneValue.places c.args.positions.now c.loop-position.position-index c.args.world.now c.loop-position.world c.loop-position.invariant.others id other)
 
@@ -32,5 +32,5 @@ returns-clause-others g c = else-all g.R.Value.SceneValue.places c.args.position
 
 pub returns-clause-scene : goal.returns-clause-scene
 returns-clause-scene g c =
-    opened-scene g.R.Value.SceneValue.places g.R.DocumentRules.part_of g.R.Rules.columns g.met.R.Rules.apart c.args.positions.now c.args.world.now c.loop-position.world
+    opened-scene g.R.Value.SceneValue.places g.R.DocumentRules.part_of g.R.WorldRules.columns g.met.R.WorldRules.apart c.args.positions.now c.args.world.now c.loop-position.world
     (else-all g.R.Value.SceneValue.places c.args.positions.now c.loop-position.position-index c.args.world.now c.loop-position.world c.loop-position.invariant.others)

@@ -31,9 +31,9 @@ loop-entry-preserved g c =
     record {
       place = omega (arith, place, more);
       few = omega (arith, few, long, more);
-      fit = All-rest (IsFit (kinds_of g.R.Value.SceneValue.places g.R.DocumentRules.part_of g.R.Rules.columns) g.R.DocumentRules.kind_of g.R.DocumentRules.config_of g.R.DocumentRules.declared g.R.DocumentRules.said_time
+      fit = All-rest (IsFit (kinds_of g.R.Value.SceneValue.places g.R.DocumentRules.part_of g.R.WorldRules.columns) g.R.DocumentRules.kind_of g.R.DocumentRules.config_of g.R.DocumentRules.declared g.R.DocumentRules.said_time
           (g.R.DocumentRules.made_by c.args.rules.now) (g.R.DocumentRules.book c.args.rules.now)) c.in-Some.entry (into_iter_items c.next.new.self) (into_iter_items c.loop-entry.entry-iterator) step c.loop-entry.invariant.fit;
-      has = subst (λ entries. HasSystems (kinds_of g.R.Value.SceneValue.places g.R.DocumentRules.part_of g.R.Rules.columns) eq-value.it
+      has = subst (λ entries. HasSystems (kinds_of g.R.Value.SceneValue.places g.R.DocumentRules.part_of g.R.WorldRules.columns) eq-value.it
           (placed_as (λ placed. placed.position) (λ placed. placed.system) g.R.DocumentRules.kind_of g.R.DocumentRules.config_of g.R.DocumentRules.declared g.R.Rules.sense g.R.Rules.does) (g.R.DocumentRules.book c.args.rules.now) entries c.add_entry.new.builder)
           (sym (map-append plain_draft c.loop-entry.yielded (c.in-Some.entry ∷ []))) (c.in_ok-add_entry.ensures.has done next c.loop-entry.invariant.has);
       workers = c.in_ok-add_entry.ensures.workers ∙ c.loop-entry.invariant.workers;

@@ -12,10 +12,10 @@ use Rattle.scene_dispatch.proofs.staging.stage_systems.Goals as goal
 
 pub add_entries-requires-clause-none : goal.add_entries-requires-clause-none
 add_entries-requires-clause-none g c =
-    subst (HasSystems (kinds_of g.R.Value.SceneValue.places g.R.DocumentRules.part_of g.R.Rules.columns) eq-value.it
+    subst (HasSystems (kinds_of g.R.Value.SceneValue.places g.R.DocumentRules.part_of g.R.WorldRules.columns) eq-value.it
     (placed_as (λ placed. placed.position) (λ placed. placed.system) g.R.DocumentRules.kind_of g.R.DocumentRules.config_of g.R.DocumentRules.declared g.R.Rules.sense g.R.Rules.does) (g.R.DocumentRules.book c.args.rules.now) [])
     (sym c.new-builder.ensures)
-    (none-has (kinds_of g.R.Value.SceneValue.places g.R.DocumentRules.part_of g.R.Rules.columns) eq-value.it
+    (none-has (kinds_of g.R.Value.SceneValue.places g.R.DocumentRules.part_of g.R.WorldRules.columns) eq-value.it
     (placed_as (λ placed. placed.position) (λ placed. placed.system) g.R.DocumentRules.kind_of g.R.DocumentRules.config_of g.R.DocumentRules.declared g.R.Rules.sense g.R.Rules.does) (g.R.DocumentRules.book c.args.rules.now) c.args.workers)
 
 pub add_entries-requires-clause-few : goal.add_entries-requires-clause-few
@@ -26,21 +26,21 @@ add_entries-requires-clause-few g c =
 
 pub add_entries-requires-clause-fit : goal.add_entries-requires-clause-fit
 add_entries-requires-clause-fit g c =
-    let kinds = kinds_of g.R.Value.SceneValue.places g.R.DocumentRules.part_of g.R.Rules.columns in
+    let kinds = kinds_of g.R.Value.SceneValue.places g.R.DocumentRules.part_of g.R.WorldRules.columns in
     let book = g.R.DocumentRules.book c.args.rules.now in
-    let named = g.met.R.Rules.named_so c.args.rules.now in
+    let named = g.met.R.WorldRules.named_so c.args.rules.now in
     all-fit kinds g.R.DocumentRules.kind_of g.R.DocumentRules.config_of g.R.DocumentRules.declared g.R.DocumentRules.said_time (g.R.DocumentRules.made_by c.args.rules.now) book c.args.entries.items c.requires.said c.requires.made
     (entries-known book (map plain_draft c.args.entries.items) c.requires.document kinds named.parts named.globals (g.met.R.DocumentRules.declares_known c.args.rules.now))
 
 pub returns-clause-order : goal.returns-clause-order
 returns-clause-order g c = λ draft frame its.
-    let kinds = kinds_of g.R.Value.SceneValue.places g.R.DocumentRules.part_of g.R.Rules.columns in
+    let kinds = kinds_of g.R.Value.SceneValue.places g.R.DocumentRules.part_of g.R.WorldRules.columns in
     let book = g.R.DocumentRules.book c.args.rules.now in
-    let named = g.met.R.Rules.named_so c.args.rules.now in
+    let named = g.met.R.WorldRules.named_so c.args.rules.now in
     let plain = (placed_as {P = Placed g.row.R.Denot g.row.R-Value.Denot g.row.R-Data.Denot g.row.R-Global.Denot g.row.R-System.Denot} (λ placed. placed.position) (λ placed. placed.system) g.R.DocumentRules.kind_of g.R.DocumentRules.config_of g.R.DocumentRules.declared g.R.Rules.sense
     g.R.Rules.does).plain in
     ap (turn_order plain) c.build.ensures
-    ∙ document-order kinds plain g.met.R.Rules.apart (map plain_draft c.args.entries.items) c.add_entries.new.builder
+    ∙ document-order kinds plain g.met.R.WorldRules.apart (map plain_draft c.args.entries.items) c.add_entries.new.builder
     (entries-known book (map plain_draft c.args.entries.items) c.requires.document kinds named.parts named.globals (g.met.R.DocumentRules.declares_known c.args.rules.now))
     (entries-named book (map plain_draft c.args.entries.items) c.requires.document) c.in_ok-add_entries.ensures.has.drafted draft frame its
 

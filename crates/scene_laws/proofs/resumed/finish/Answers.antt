@@ -14,8 +14,8 @@ returns-clause-done g c =
     let book = g.R.DocumentRules.book in
     let opened = c.in-Ok.ensures in
     let last = c.run_to_end-scene.result in
-    let started : Shown = shown_of (kinds_of g.R.Value.SceneValue.places g.R.DocumentRules.part_of g.R.Rules.columns) g.R.DocumentRules.part_of g.R.DocumentRules.global_of (placed_as (λ placed. placed.position) (λ placed. placed.system) g.R.DocumentRules.kind_of g.R.DocumentRules.config_of g.R.DocumentRules.declared g.R.Rules.sense g.R.Rules.does) book c.in-Ok.scene in
-    let ended : Shown = shown_of (kinds_of g.R.Value.SceneValue.places g.R.DocumentRules.part_of g.R.Rules.columns) g.R.DocumentRules.part_of g.R.DocumentRules.global_of (placed_as (λ placed. placed.position) (λ placed. placed.system) g.R.DocumentRules.kind_of g.R.DocumentRules.config_of g.R.DocumentRules.declared g.R.Rules.sense g.R.Rules.does) book last in
+    let started : Shown = shown_of (kinds_of g.R.Value.SceneValue.places g.R.DocumentRules.part_of g.R.WorldRules.columns) g.R.DocumentRules.part_of g.R.DocumentRules.global_of (placed_as (λ placed. placed.position) (λ placed. placed.system) g.R.DocumentRules.kind_of g.R.DocumentRules.config_of g.R.DocumentRules.declared g.R.Rules.sense g.R.Rules.does) book c.in-Ok.scene in
+    let ended : Shown = shown_of (kinds_of g.R.Value.SceneValue.places g.R.DocumentRules.part_of g.R.WorldRules.columns) g.R.DocumentRules.part_of g.R.DocumentRules.global_of (placed_as (λ placed. placed.position) (λ placed. placed.system) g.R.DocumentRules.kind_of g.R.DocumentRules.config_of g.R.DocumentRules.declared g.R.Rules.sense g.R.Rules.does) book last in
     let same : rules_of last ≡ c.args.rules = c.run_to_end-scene.ensures.rules ∙ opened.same_rules in
     let ends : RunsOut (book c.args.rules) (opening (bounds_of c.args.limits) opened.document.0) ended =
     subst (λ start. RunsOut (book c.args.rules) start ended) opened.document.2 (subst (λ rules. RunsOut (book rules) started ended) opened.same_rules c.run_to_end-scene.ensures.end) in

@@ -7,7 +7,7 @@ use Rattle.scene_world.proofs.placed.read_ids.Goals as goal
 pub returns : goal.returns
 returns g c =
     let places = g.R.Value.SceneValue.places in
-    let columns = g.R.Rules.columns in
+    let columns = g.R.WorldRules.columns in
     let declared = access_of c.args.declared.now in
     let first : c.push-3.new.self.items ≡ places.entities_id ∷ places.markers_id ∷ places.allocator_id ∷ [] = search rules in
     c.in_ok-push_globals.ensures

@@ -7,7 +7,7 @@ use Rattle.scene_world.proofs.placed.written_ids.Goals as goal
 pub returns : goal.returns
 returns g c =
     let places = g.R.Value.SceneValue.places in
-    let columns = g.R.Rules.columns in
+    let columns = g.R.WorldRules.columns in
     let declared = access_of c.args.declared.now in
     let first : c.push.new.self.items ≡ places.queue_id c.args.position ∷ [] = search rules in
     c.in_ok-push_globals.ensures

@@ -11,10 +11,10 @@ returns-in-Ok-outcome-clause-moves g c =
     let seen = g.H.Holder.slots c.args.holder.now in
     let after = c.change_each-outcome.new.storage in
     record {
-      positions = c.in-Ok.positions.0.value;
+      positions = c.in-Ok.positions.parts.value;
       velocities = c.get.result.now;
       after = after;
-      written = c.in-Ok.ensures.fits.1.0;
+      written = c.in-Ok.ensures.fits.1;
       read = velocities-are-there seen (g.H.Holder.slots c.fetch.new.holder) c.get.result.now c.in-Ok.ensures.ok c.get.ensures;
       parts = c.in-Ok-outcome.ensures.ok;
       others =

@@ -11,10 +11,10 @@ returns-in-Ok-outcome-clause-tires g c =
     let seen = g.H.Holder.slots c.args.holder.now in
     let after = c.change_each-outcome.new.storage in
     record {
-      healths = c.in-Ok.healths.0.value;
+      healths = c.in-Ok.healths.parts.value;
       speeds = c.get.result.now;
       after = after;
-      written = c.in-Ok.ensures.fits.1.0;
+      written = c.in-Ok.ensures.fits.1;
       read = speeds-are-there seen (g.H.Holder.slots c.fetch.new.holder) c.get.result.now c.in-Ok.ensures.ok c.get.ensures;
       parts = c.in-Ok-outcome.ensures.ok;
       others =

@@ -48,21 +48,21 @@ returns-in-Ok-clause-ok g c =
 pub returns-in-Ok-clause-changes : goal.returns-in-Ok-clause-changes
 returns-in-Ok-clause-changes g c =
     let fits : c.args.self.now.asked ≤ 4294967295 = grind arith in
-    let kinds = kinds_of g.R.Value.SceneValue.places g.R.DocumentRules.part_of g.R.Rules.columns in
+    let kinds = kinds_of g.R.Value.SceneValue.places g.R.DocumentRules.part_of g.R.WorldRules.columns in
     counts-exact (is_touched kinds Next kinds.part_names c.args.self.now.watchers (seen_of c.advance.new.world)) c.args.self.now.kept c.advance.new.kept c.args.self.now.report.frames c.args.self.now.asked
     c.requires.under_way.few c.requires.left fits c.in-Ok.ensures.changes
 
 pub returns-in-Ok-clause-ready : goal.returns-in-Ok-clause-ready
 returns-in-Ok-clause-ready g c =
     let fits : c.args.self.now.asked ≤ 4294967295 = grind arith in
-    let stands = subst (λ places. Stands (kinds_of g.R.Value.SceneValue.places g.R.DocumentRules.part_of g.R.Rules.columns) (placed_as (λ placed. placed.position) (λ placed. placed.system) g.R.DocumentRules.kind_of g.R.DocumentRules.config_of g.R.DocumentRules.declared g.R.Rules.sense g.R.Rules.does) (g.R.DocumentRules.book c.args.self.now.rules) c.args.self.now.dispatcher c.advance.new.world places (listed_scene g.R.DocumentRules.part_of g.R.DocumentRules.global_of (g.R.DocumentRules.book c.args.self.now.rules) c.advance.new.kept)) c.as_slice-2.ensures.value c.in-Ok.ensures.stands in
+    let stands = subst (λ places. Stands (kinds_of g.R.Value.SceneValue.places g.R.DocumentRules.part_of g.R.WorldRules.columns) (placed_as (λ placed. placed.position) (λ placed. placed.system) g.R.DocumentRules.kind_of g.R.DocumentRules.config_of g.R.DocumentRules.declared g.R.Rules.sense g.R.Rules.does) (g.R.DocumentRules.book c.args.self.now.rules) c.args.self.now.dispatcher c.advance.new.world places (listed_scene g.R.DocumentRules.part_of g.R.DocumentRules.global_of (g.R.DocumentRules.book c.args.self.now.rules) c.advance.new.kept)) c.as_slice-2.ensures.value c.in-Ok.ensures.stands in
     record {
       stands = λ none. stands;
       kept = λ none. c.in-Ok.ensures.full;
       under = λ none. c.in-Ok.ensures.under (limit_in c.args.self.now) c.requires.under_way.under;
       lawful = c.requires.under_way.lawful;
       proper = subst (IsProper (g.R.DocumentRules.book c.args.self.now.rules)) stands.same stands.ready.world.proper;
-      few = let kinds = kinds_of g.R.Value.SceneValue.places g.R.DocumentRules.part_of g.R.Rules.columns in
+      few = let kinds = kinds_of g.R.Value.SceneValue.places g.R.DocumentRules.part_of g.R.WorldRules.columns in
           few-still (is_touched kinds Next kinds.part_names c.args.self.now.watchers (seen_of c.advance.new.world)) c.args.self.now.kept c.advance.new.kept c.args.self.now.report.frames c.args.self.now.asked
           c.requires.under_way.few c.requires.left fits c.in-Ok.ensures.changes;
     }

@@ -25,9 +25,9 @@ returns g c = λ json placed.
     let watched = c.in-Ok.ensures in
     let kept = c.in-Ok-keep_scene.ensures in
     let law = c.events_are_no_part_of_a_scene.ensures in
-    let named = g.met.R.Rules.named_so c.args.rules in
+    let named = g.met.R.WorldRules.named_so c.args.rules in
     let scene : listed_scene g.R.DocumentRules.part_of g.R.DocumentRules.global_of (g.R.DocumentRules.book c.args.rules) c.in-Ok-keep_scene.kept ≡ first_scene placed.draft = kept.scene ∙ law.scene was now watched.stays ∙ placed.scene in
-    let kinds = kinds_of g.R.Value.SceneValue.places g.R.DocumentRules.part_of g.R.Rules.columns in
+    let kinds = kinds_of g.R.Value.SceneValue.places g.R.DocumentRules.part_of g.R.WorldRules.columns in
     let births : c.unsigned_abs-births.result ≡ unsigned_abs c.args.limits.generation = c.unsigned_abs-births.ensures.value ∙ ap unsigned_abs (to_z-of_z w32 c.args.limits.generation (search rules)) in
     let same_limit = limit_is (bounds_of c.args.limits) placed.draft c.unsigned_abs-births.result c.args.opened.unlisted c.args.opened.course.dispatcher.workers births placed.unlisted placed.workers in
     record {
@@ -42,8 +42,8 @@ returns g c = λ json placed.
         kept = λ none. record {
           stands = law.stands was now watched.stays placed.stands;
           below = kept.below;
-          full = subst (λ names. IsFullByIndex (kinds_of g.R.Value.SceneValue.places g.R.DocumentRules.part_of g.R.Rules.columns) g.R.DocumentRules.part_of names c.in-Ok-keep_scene.kept (seen_of now)) named.parts kept.full;
-          watched = let kinds = kinds_of g.R.Value.SceneValue.places g.R.DocumentRules.part_of g.R.Rules.columns in frame-read kinds c.in-Ok.watchers (seen_of now) (first-read kinds c.in-Ok.watchers (seen_of now) watched.watched);
+          full = subst (λ names. IsFullByIndex (kinds_of g.R.Value.SceneValue.places g.R.DocumentRules.part_of g.R.WorldRules.columns) g.R.DocumentRules.part_of names c.in-Ok-keep_scene.kept (seen_of now)) named.parts kept.full;
+          watched = let kinds = kinds_of g.R.Value.SceneValue.places g.R.DocumentRules.part_of g.R.WorldRules.columns in frame-read kinds c.in-Ok.watchers (seen_of now) (first-read kinds c.in-Ok.watchers (seen_of now) watched.watched);
           telling = watched.telling;
         };
         under = λ none.

@@ -14,7 +14,7 @@ use Rattle.scene.proofs.frame.Scene.run_frame_with.Goals as goal
 
 pub finish-requires-clause-under_way : goal.finish-requires-clause-under_way
 finish-requires-clause-under_way g c =
-    let kinds = kinds_of g.R.Value.SceneValue.places g.R.DocumentRules.part_of g.R.Rules.columns in
+    let kinds = kinds_of g.R.Value.SceneValue.places g.R.DocumentRules.part_of g.R.WorldRules.columns in
     let meaning = placed_as (λ placed. placed.position) (λ placed. placed.system) g.R.DocumentRules.kind_of g.R.DocumentRules.config_of g.R.DocumentRules.declared g.R.Rules.sense g.R.Rules.does in
     let shown = shown_of kinds g.R.DocumentRules.part_of g.R.DocumentRules.global_of meaning g.R.DocumentRules.book in
     let book = g.R.DocumentRules.book c.args.self.now.rules in
@@ -51,7 +51,7 @@ begin_frame-requires g c =
 
 pub returns-clause-ok : goal.returns-clause-ok
 returns-clause-ok g c =
-    let kinds = kinds_of g.R.Value.SceneValue.places g.R.DocumentRules.part_of g.R.Rules.columns in
+    let kinds = kinds_of g.R.Value.SceneValue.places g.R.DocumentRules.part_of g.R.WorldRules.columns in
     let meaning = placed_as (λ placed. placed.position) (λ placed. placed.system) g.R.DocumentRules.kind_of g.R.DocumentRules.config_of g.R.DocumentRules.declared g.R.Rules.sense g.R.Rules.does in
     let shown = shown_of kinds g.R.DocumentRules.part_of g.R.DocumentRules.global_of meaning g.R.DocumentRules.book in
     let book = g.R.DocumentRules.book c.args.self.now.rules in
@@ -60,7 +60,7 @@ returns-clause-ok g c =
 
 pub returns-clause-err : goal.returns-clause-err
 returns-clause-err g c =
-    let kinds = kinds_of g.R.Value.SceneValue.places g.R.DocumentRules.part_of g.R.Rules.columns in
+    let kinds = kinds_of g.R.Value.SceneValue.places g.R.DocumentRules.part_of g.R.WorldRules.columns in
     let meaning = placed_as (λ placed. placed.position) (λ placed. placed.system) g.R.DocumentRules.kind_of g.R.DocumentRules.config_of g.R.DocumentRules.declared g.R.Rules.sense g.R.Rules.does in
     let shown = shown_of kinds g.R.DocumentRules.part_of g.R.DocumentRules.global_of meaning g.R.DocumentRules.book in
     let book = g.R.DocumentRules.book c.args.self.now.rules in

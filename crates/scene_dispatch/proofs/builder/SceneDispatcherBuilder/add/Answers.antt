@@ -22,13 +22,13 @@ moved held before after positions more same so is = subst (λ d. held d more) (s
 
 pub invariant_of-self-in-Ok-add : goal.invariant_of-self-in-Ok-add
 invariant_of-self-in-Ok-add g c =
-    let kinds = kinds_of g.R.Value.SceneValue.places g.R.DocumentRules.part_of g.R.Rules.columns in
+    let kinds = kinds_of g.R.Value.SceneValue.places g.R.DocumentRules.part_of g.R.WorldRules.columns in
     let meaning = placed_as (λ placed. placed.position) (λ placed. placed.system) g.R.DocumentRules.kind_of g.R.DocumentRules.config_of g.R.DocumentRules.declared g.R.Rules.sense g.R.Rules.does in
     let builder = c.self.inside.builder in
     let placed : Placed g.row.R.Denot g.row.R-Value.Denot g.row.R-Data.Denot g.row.R-Global.Denot g.row.R-System.Denot = record { position = c.args.position; system = c.args.system } in
     moved (λ d ps. AreHeld kinds meaning.plain d.building.staging (map (λ local. local.placed) d.locals) ps c.self.inside.local_positions.items) _ c.add.new.self _ c.push_reserved.new.self.items c.in-Ok-add.ensures.ok
     (c.push_reserved.ensures.items ∙ ap (λ l. l ++ c.args.position ∷ []) c.reserve.ensures.items)
-    (held-added kinds g.met.R.Rules.apart meaning.plain builder.building.staging (map (λ local. local.placed) builder.locals) c.self.inside.positions.items c.self.inside.local_positions.items c.self.invariant
+    (held-added kinds g.met.R.WorldRules.apart meaning.plain builder.building.staging (map (λ local. local.placed) builder.locals) c.self.inside.positions.items c.self.inside.local_positions.items c.self.invariant
     placed c.requires.known eq-value.it (g.R.DocumentRules.said_time c.args.system) (numbers_under builder.building.names (texts c.args.after.now)))
 
 pub returns-in-Ok-add-clause-taken : goal.returns-in-Ok-add-clause-taken
@@ -42,7 +42,7 @@ returns-in-Ok-add-clause-number g c =
 
 pub returns-in-Ok-add-clause-ok : goal.returns-in-Ok-add-clause-ok
 returns-in-Ok-add-clause-ok g c =
-    let kinds = kinds_of g.R.Value.SceneValue.places g.R.DocumentRules.part_of g.R.Rules.columns in
+    let kinds = kinds_of g.R.Value.SceneValue.places g.R.DocumentRules.part_of g.R.WorldRules.columns in
     let plain = (placed_as {P = Placed g.row.R.Denot g.row.R-Value.Denot g.row.R-Data.Denot g.row.R-Global.Denot g.row.R-System.Denot} (λ placed. placed.position) (λ placed. placed.system) g.R.DocumentRules.kind_of g.R.DocumentRules.config_of g.R.DocumentRules.declared g.R.Rules.sense g.R.Rules.does).plain in
     let builder = c.self.inside.builder in
     let placed : Placed g.row.R.Denot g.row.R-Value.Denot g.row.R-Data.Denot g.row.R-Global.Denot g.row.R-System.Denot = record { position = c.args.position; system = c.args.system } in

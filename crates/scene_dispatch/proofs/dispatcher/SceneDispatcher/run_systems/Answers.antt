@@ -22,7 +22,7 @@ batch_meets before w refused after w_after = (ChangesNothing w refused w_after �
 pub invariant_of-self : goal.invariant_of-self
 unfolding batch_meets
 invariant_of-self g c =
-    let kinds = kinds_of g.R.Value.SceneValue.places g.R.DocumentRules.part_of g.R.Rules.columns in
+    let kinds = kinds_of g.R.Value.SceneValue.places g.R.DocumentRules.part_of g.R.WorldRules.columns in
     let meaning = placed_as (λ placed. placed.position) (λ placed. placed.system) g.R.DocumentRules.kind_of g.R.DocumentRules.config_of g.R.DocumentRules.declared g.R.Rules.sense g.R.Rules.does in
     still-held kinds meaning (g.R.DocumentRules.book c.args.rules.now) batch_meets (λ local. local.placed) c.self.inside.positions.items c.self.inside.local_positions.items
     c.self.inside.dispatcher c.dispatch.new.self c.self.invariant (holding_of c.args.world.now) (holding_of c.dispatch.new.world) c.dispatch.result c.dispatch.ensures.runs
@@ -30,7 +30,7 @@ invariant_of-self g c =
 pub returns-clause-order : goal.returns-clause-order
 unfolding batch_meets
 returns-clause-order g c =
-    let kinds = kinds_of g.R.Value.SceneValue.places g.R.DocumentRules.part_of g.R.Rules.columns in
+    let kinds = kinds_of g.R.Value.SceneValue.places g.R.DocumentRules.part_of g.R.WorldRules.columns in
     let meaning = placed_as (λ placed. placed.position) (λ placed. placed.system) g.R.DocumentRules.kind_of g.R.DocumentRules.config_of g.R.DocumentRules.declared g.R.Rules.sense g.R.Rules.does in
     same-order kinds meaning (g.R.DocumentRules.book c.args.rules.now) batch_meets (λ local. local.placed) c.self.inside.positions.items c.self.inside.local_positions.items
     c.self.inside.dispatcher c.dispatch.new.self c.self.invariant (holding_of c.args.world.now) (holding_of c.dispatch.new.world) c.dispatch.result c.dispatch.ensures.runs
@@ -39,7 +39,7 @@ returns-clause-order g c =
 pub returns-clause-comes : goal.returns-clause-comes
 unfolding batch_meets
 returns-clause-comes g c ready =
-    let kinds = kinds_of g.R.Value.SceneValue.places g.R.DocumentRules.part_of g.R.Rules.columns in
+    let kinds = kinds_of g.R.Value.SceneValue.places g.R.DocumentRules.part_of g.R.WorldRules.columns in
     let meaning = placed_as (λ placed. placed.position) (λ placed. placed.system) g.R.DocumentRules.kind_of g.R.DocumentRules.config_of g.R.DocumentRules.declared g.R.Rules.sense g.R.Rules.does in
     let book = g.R.DocumentRules.book c.args.rules.now in
     let w = holding_of c.args.world.now in

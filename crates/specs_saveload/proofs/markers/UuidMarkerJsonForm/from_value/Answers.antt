@@ -10,7 +10,7 @@ use Rattle.specs_saveload.proofs.markers.UuidMarkerJsonForm.from_value.Given as 
 use Rattle.specs_saveload.proofs.markers.UuidMarkerJsonForm.from_value.Goals as goal
 
 pub returns-in_default-parse_str-clause-shape : goal.returns-in_default-parse_str-clause-shape
-returns-in_default-parse_str-clause-shape g c _ =
+returns-in_default-parse_str-clause-shape g c _ _ =
     ap (is_text_of is_uuid_text) (text-of _ _ c.in-Some.ensures)
     ∙ unparsed c.in-Some.text.now (λ u is. false≢true (c.in_default-parse_str.ensures.ok.1 (u, is)))
 
@@ -31,7 +31,7 @@ returns-then-eq-clause-known g c =
     ap (is_text_of is_uuid_text) (text-of _ _ c.in-Some.ensures) ∙ known c.in-Some.text.now c.in-Ok.uuid c.in-Ok.ensures.bytes (alike g c)
 
 pub returns-else-eq-clause-shape : goal.returns-else-eq-clause-shape
-returns-else-eq-clause-shape g c _ =
+returns-else-eq-clause-shape g c _ _ =
     ap (is_text_of is_uuid_text) (text-of _ _ c.in-Some.ensures)
     ∙ unknown c.in-Some.text.now c.in-Ok.uuid c.in-Ok.ensures.bytes
     (ap (λ t. bytes_eq t c.in-Some.text.now) (written c.in-Ok.uuid c.hyphenated.result c.encode_lower.result.now c.hyphenated.ensures c.encode_lower.ensures.text) ∙ (sym c.eq.ensures ∙ c.if-eq.false))

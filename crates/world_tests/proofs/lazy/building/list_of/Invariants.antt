@@ -1,10 +1,6 @@
-use Rattle.std.proofs.Common.{◌≡◌, ◌++◌}
-use Rattle.specs_layouts.specs.Slots.{slot_at, slots_of}
-use Rattle.specs_join.specs.Joins.{join_list}
-use Rattle.specs_join.specs.Joining.{items_left}
-use Rattle.world_tests.specs.Stocked.{health_at}
+use Rattle.specs_world.specs.Stocked.{ListsOn}
+use Rattle.world_tests.specs.LazyValues.{healths_kind}
 use Rattle.world_tests.proofs.lazy.building.list_of.Given as goal
 
--- what is listed, and then what is to come, is all
 abbrev pub invariant-loop-health : goal.invariant-loop-health
-invariant-loop-health l = record { all : join_list (health_at l.healths) ≡ l.list.items ++ items_left (λ inner index. slot_at (slots_of inner.now) index) l.health-iterator }
+invariant-loop-health l = record { all : ListsOn healths_kind.part_at l.healths.inner l.list.items l.health-iterator }

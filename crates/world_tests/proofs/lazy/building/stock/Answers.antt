@@ -1,6 +1,6 @@
 use Rattle.std.proofs.Common.{refl}
-use Rattle.world_tests.proofs.StockLemmas.{stocked}
+use Rattle.specs_world.proofs.CallerLemmas.{registered-first}
 use Rattle.world_tests.proofs.lazy.building.stock.Goals as goal
 
 pub returns : goal.returns
-returns c = stocked _ (λ _. refl) _ c.in_ok-world.world c.register.new.self c.in_ok-world.ensures.ok (λ _ new. new.parts) c.in_ok-register.ensures.ok
+returns c = registered-first refl _ _ (λ _. refl) c.in_ok-world.ensures.ok c.in_ok-register.ensures.ok

@@ -1,0 +1,265 @@
+//! A list of kinds.
+ghost use Rattle.std.specs.Bool.{OnFalse};
+ghost use Rattle.std.specs.Prelude.{◌≡◌, ◌≢◌, ◌↔◌, IfOk, IsTrue, OnOk};
+ghost use Rattle.std.specs.List.{All};
+ghost use Rattle.value_writer.specs.Variants.{HaveOwnNames};
+
+use crate::kind::{Form, Kind, LAYOUTS, Layout};
+use crate::names::{is_module_name, is_path, is_type_name};
+use crate::refusal::{Refusal, Stop};
+use std::alloc::{AllocError, Global};
+
+/// What a written file imports from.
+#[derive(Clone, Copy)]
+pub(crate) enum Source {
+    /// From `specs` alone.
+    Specs,
+    /// From the crates that `specs` stands on.
+    Crates,
+}
+
+/// A list of kinds, with the crate that has the values, their module, and the module of the types that the kinds name.
+#[derive(Drop)]
+pub(crate) struct List<'a> {
+    pub(crate) crate_name: &'a str,
+    pub(crate) module: &'a str,
+    pub(crate) parts: &'a str,
+    pub(crate) source: Source,
+    pub(crate) kinds: Vec<Kind<'a>>,
+}
+
+/// The layout of a storage's name.
+fn layout_of(name: &str) -> Option<Layout> {
+    for layout in LAYOUTS {
+        if layout.name() == name {
+            return Some(layout);
+        }
+    }
+    None
+}
+
+/// The form of a type of the library over a type.
+fn over<'a>(head: &str, of: &'a str) -> Option<Form<'a>> {
+    match head {
+        "SimpleMarker" => Some(Form::Simple(of)),
+        "UuidMarker" => Some(Form::Uuid(of)),
+        "SimpleMarkerAllocator" => Some(Form::Over("SimpleMarkerAllocator", of)),
+        "UuidMarkerAllocator" => Some(Form::Over("UuidMarkerAllocator", of)),
+        "LazyUpdate" => Some(Form::Over("LazyUpdate", of)),
+        "SharedLazy" => Some(Form::Over("SharedLazy", of)),
+        _ => None,
+    }
+}
+
+/// The form of a type with another between angle brackets.
+fn generic_form<'a>(text: &'a str) -> Option<Form<'a>> {
+    let (head, rest) = text.split_once('<')?;
+    let of = rest.strip_suffix('>')?;
+    if is_type_name(of) {
+        over(head, of)
+    } else {
+        None
+    }
+}
+
+/// The form that a text behind a colon names.
+fn form_of<'a>(text: &'a str) -> Option<Form<'a>> {
+    if text == "resource" {
+        return Some(Form::Own);
+    }
+    match text.strip_prefix("flagged ") {
+        Some(rest) => match layout_of(rest.trim()) {
+            Some(layout) => Some(Form::Flagged(layout)),
+            None => None,
+        },
+        None => match layout_of(text) {
+            Some(layout) => Some(Form::Stored(layout)),
+            None => generic_form(text),
+        },
+    }
+}
+
+/// Whether a kind has this name.
+fn is_named(kind: &Kind, name: &str) -> bool
+    ensures { IsTrue result ↔ (kind.now.name.now ≡ name.now) }
+{
+    kind.name == name
+}
+
+/// Whether one of the kinds has this name.
+fn has_name(kinds: &[Kind], name: &str) -> bool
+    ensures { OnFalse result (All (λ kind. kind.name.now ≢ name.now) kinds.now) }
+{
+    for kind in kinds {
+        if is_named(kind, name) {
+            return true;
+        }
+    }
+    false
+}
+
+impl<'a> List<'a> {
+    /// A list that names entities and the table of kinds alone.
+    ///
+    /// Errors: `AllocError`.
+    fn new(alloc: Global) -> Result<List<'a>, AllocError>
+        ensures { IfOk result (λ list. HaveOwnNames list.kinds.items) }
+    {
+        let mut kinds = Vec::new(alloc);
+        kinds.push(Kind {
+            name: "Entities",
+            form: Form::Library("EntitiesRes"),
+        })?;
+        kinds.push(Kind {
+            name: "Table",
+            form: Form::Library("MetaTable"),
+        })?;
+        Ok(List {
+            crate_name: "",
+            module: "values",
+            parts: "parts",
+            source: Source::Specs,
+            kinds,
+        })
+    }
+
+    /// Takes in a kind.
+    ///
+    /// Errors: `WrongName`, `TakenName`, `UnknownForm`, or want of memory; the list is as it was.
+    #[tactic(auto, using(crate::proofs::VariantLemmas::own_names_with))]
+    fn add(&mut self, name: &'a str, text: &'a str) -> Result<(), Stopped>
+        ensures { HaveOwnNames self.old.kinds.items → OnOk result (HaveOwnNames self.new.kinds.items) }
+    {
+        if !is_type_name(name) {
+            return Err(Stopped::By(Refusal::WrongName));
+        }
+        if has_name(&self.kinds, name) {
+            return Err(Stopped::By(Refusal::TakenName));
+        }
+        let Some(form) = form_of(text) else {
+            return Err(Stopped::By(Refusal::UnknownForm));
+        };
+        match self.kinds.push(Kind { name, form }) {
+            Ok(()) => Ok(()),
+            Err(_) => Err(Stopped::Memory),
+        }
+    }
+
+    /// Sets what a setting names.
+    ///
+    /// Errors: `UnknownSetting`, `WrongSetting`; the list is as it was.
+    fn set(&mut self, name: &str, text: &'a str) -> Result<(), Refusal>
+        ensures { self.new.kinds ≡ self.old.kinds }
+    {
+        match name {
+            "crate" => set_name(&mut self.crate_name, text, is_module_name(text)),
+            "module" => set_name(&mut self.module, text, is_path(text)),
+            "parts" => set_name(&mut self.parts, text, is_path(text)),
+            "from" => set_source(&mut self.source, text),
+            _ => Err(Refusal::UnknownSetting),
+        }
+    }
+
+    /// Takes in a line.
+    ///
+    /// Errors: those of `add` and `set`, and `NoColon`; the list is as it was.
+    fn take(&mut self, line: &'a str) -> Result<(), Stopped>
+        ensures { HaveOwnNames self.old.kinds.items → OnOk result (HaveOwnNames self.new.kinds.items) }
+    {
+        let line = line.trim();
+        if line.is_empty() || line.starts_with('#') {
+            return Ok(());
+        }
+        let Some((name, text)) = line.split_once(':') else {
+            return Err(Stopped::By(Refusal::NoColon));
+        };
+        let (name, text) = (name.trim(), text.trim());
+        if is_setting(name) {
+            return match self.set(name, text) {
+                Ok(()) => Ok(()),
+                Err(refusal) => Err(Stopped::By(refusal)),
+            };
+        }
+        self.add(name, text)
+    }
+
+    /// What the list as a whole lacks.
+    fn lack(&self) -> Option<Refusal> {
+        if self.crate_name.is_empty() {
+            Some(Refusal::NoCrate)
+        } else if !self.kinds.iter().any(|kind| kind.form.is_storage()) {
+            Some(Refusal::NoStorage)
+        } else {
+            None
+        }
+    }
+}
+
+/// Why a line isn't taken in.
+#[derive(Clone, Copy)]
+enum Stopped {
+    By(Refusal),
+    Memory,
+}
+
+impl Stopped {
+    fn at(self, line: u32) -> Stop {
+        match self {
+            Stopped::By(refusal) => Stop::Refused { line, refusal },
+            Stopped::Memory => Stop::Memory,
+        }
+    }
+}
+
+/// Whether a name is one of a setting: it begins with no capital letter.
+fn is_setting(name: &str) -> bool {
+    match name.as_bytes().first() {
+        Some(first) => !first.is_ascii_uppercase(),
+        None => true,
+    }
+}
+
+fn set_name<'a>(name: &mut &'a str, text: &'a str, fits: bool) -> Result<(), Refusal> {
+    if !fits {
+        return Err(Refusal::WrongSetting);
+    }
+    *name = text;
+    Ok(())
+}
+
+fn set_source(source: &mut Source, text: &str) -> Result<(), Refusal> {
+    *source = match text {
+        "specs" => Source::Specs,
+        "crates" => Source::Crates,
+        _ => return Err(Refusal::WrongSetting),
+    };
+    Ok(())
+}
+
+/// The list of a text.
+///
+/// Errors: the first refusal of a line, with its number; what the list lacks, with the number of its last line; want of
+/// memory.
+pub(crate) fn read_list<'a>(alloc: Global, text: &'a str) -> Result<List<'a>, Stop>
+    ensures { IfOk result (λ list. HaveOwnNames list.kinds.items) }
+{
+    let mut list = match List::new(alloc) {
+        Ok(list) => list,
+        Err(_) => return Err(Stop::Memory),
+    };
+    let mut number = 0u32;
+    for line in text.lines() {
+        number = number.saturating_add(1);
+        match list.take(line) {
+            Ok(()) => {}
+            Err(stopped) => return Err(stopped.at(number)),
+        }
+    }
+    match list.lack() {
+        None => Ok(list),
+        Some(refusal) => Err(Stop::Refused {
+            line: number,
+            refusal,
+        }),
+    }
+}
