@@ -1,4 +1,4 @@
-//! What `phase_runs times` measures, as plain Rust does it: `rustc -O phases.rs && ./phases`.
+//! What `bench_joins phases` measures, as plain Rust does it: `rustc -O phases.rs && ./phases`.
 //!
 //! A claim counter and sets of four layers of atomic words, shared by threads; each thread keeps a list of what it created.
 use std::sync::atomic::{AtomicU64, Ordering::SeqCst};

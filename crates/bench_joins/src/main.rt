@@ -1,16 +1,19 @@
-//! Measures sets of indices, entities and their parts, changes of parts, and saving.
+//! Measures sets of indices, entities and their parts, changes of parts, saving, and phases.
 //!
 //! Without an argument it runs small numbers and prints checksums. With the argument `times` it prints the times of all,
-//! with `sets`, `parts`, `changes` or `saving` those of that subject alone.
+//! with `sets`, `parts`, `changes`, `saving` or `phases` those of that subject alone. With a number it makes so many runs
+//! of phases.
 #![tactic(auto)]
 
 mod changes;
 mod parts;
+mod phases;
 mod saving;
 mod sets;
 mod timed;
 
 use std::alloc::Global;
+use std::sync::Wait;
 use std::thread::Threads;
 use std::time::Clock;
 use std::{env, io};
@@ -22,6 +25,7 @@ enum Subject {
     Parts,
     Changes,
     Saving,
+    Phases,
 }
 
 /// What a word asks for.
@@ -33,17 +37,20 @@ enum Wish {
     Times,
     /// The times of one.
     TimesOf(Subject),
+    /// So many runs of phases.
+    Phases(u32),
 }
 
 /// All subjects.
-const SUBJECTS: [Subject; 4] = [
+const SUBJECTS: [Subject; 5] = [
     Subject::Sets,
     Subject::Parts,
     Subject::Changes,
     Subject::Saving,
+    Subject::Phases,
 ];
 
-/// What a word asks for; one that is none of these, for the checksums.
+/// What a word asks for: one that is none of these and no number, for the checksums.
 fn wish_of(word: &str) -> Wish {
     match word {
         "times" => Wish::Times,
@@ -51,7 +58,11 @@ fn wish_of(word: &str) -> Wish {
         "parts" => Wish::TimesOf(Subject::Parts),
         "changes" => Wish::TimesOf(Subject::Changes),
         "saving" => Wish::TimesOf(Subject::Saving),
-        _ => Wish::Checksums,
+        "phases" => Wish::TimesOf(Subject::Phases),
+        _ => match word.parse::<u32>() {
+            Ok(runs) => Wish::Phases(runs),
+            Err(_) => Wish::Checksums,
+        },
     }
 }
 
@@ -62,11 +73,12 @@ fn checksums<R: Print + Threads + Sync>(rt: &R, alloc: Global, subject: Subject)
         Subject::Parts => parts::checksums(rt, alloc),
         Subject::Changes => changes::checksums(rt, alloc),
         Subject::Saving => saving::checksums(rt, alloc),
+        Subject::Phases => phases::checksums(rt, alloc),
     }
 }
 
 /// The lines of times of a subject.
-fn times<R: Clock + Print + Threads + Sync>(
+fn times<R: Clock + Print + Threads + Wait + Sync>(
     rt: &R,
     alloc: Global,
     subject: Subject,
@@ -76,6 +88,7 @@ fn times<R: Clock + Print + Threads + Sync>(
         Subject::Parts => parts::times(rt, alloc),
         Subject::Changes => changes::times(rt, alloc),
         Subject::Saving => saving::times(rt, alloc),
+        Subject::Phases => phases::times(rt, alloc),
     }
 }
 
@@ -88,7 +101,7 @@ fn all_checksums<R: Print + Threads + Sync>(rt: &R, alloc: Global) -> io::Result
 }
 
 /// The lines of times of all.
-fn all_times<R: Clock + Print + Threads + Sync>(rt: &R, alloc: Global) -> io::Result<()> {
+fn all_times<R: Clock + Print + Threads + Wait + Sync>(rt: &R, alloc: Global) -> io::Result<()> {
     for subject in SUBJECTS {
         times(rt, alloc, subject)?;
     }
@@ -104,5 +117,6 @@ fn main(rt: HostRuntime) -> io::Result<()> {
         Wish::Checksums => all_checksums(&rt, rt.alloc()),
         Wish::Times => all_times(&rt, rt.alloc()),
         Wish::TimesOf(subject) => times(&rt, rt.alloc(), subject),
+        Wish::Phases(runs) => phases::counts(&rt, rt.alloc(), runs),
     }
 }

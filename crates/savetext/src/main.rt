@@ -5,13 +5,11 @@
 
 use saveload_tests::kinds::{Health, Owner};
 use serde_json::Value;
-use specs_entity::{EntitiesRes, Entity, Error};
-use specs_layouts::{DenseVecStorage, MaskedStorage, TryDefault, VecStorage};
-use specs_markers::{MarkerAllocator, SimpleMarker, SimpleMarkerAllocator};
-use specs_saveload::{
-    DeserializeComponents, EntityData, FormError, JsonForm, PartForms, SerializeComponents,
-    list_from_value,
+use specs::saveload::{
+    DeserializeComponents, EntityData, FormError, JsonForm, MarkerAllocator, PartForms,
+    SerializeComponents, SimpleMarker, SimpleMarkerAllocator, list_from_value,
 };
+use specs::{DenseVecStorage, EntitiesRes, Entity, Error, MaskedStorage, TryDefault, VecStorage};
 use std::alloc::{AllocError, Global};
 use std::io;
 

@@ -14,8 +14,8 @@ use Rattle.scene_world.specs.Standing.{Sight, Kinds, roll_of, events_in, marker_
 use Rattle.scene_world.specs.Putting.{each_there}
 use Rattle.scene_commands.specs.declared.watching.Watcher.{Watcher}
 use Rattle.scene_commands.specs.declared.watching.Watchers.{Watchers}
-use Rattle.scene_snapshot.specs.Rows.{seat_at, datum_at}
-use Rattle.scene_snapshot.specs.declared.kept.KeptScene.{KeptScene}
+use Rattle.scene.specs.Rows.{seat_at, datum_at}
+use Rattle.scene.specs.declared.snapshot.kept.KeptScene.{KeptScene}
 use Rattle.scene_commands.specs.Watching.{watcher_at}
 use Rattle.scene.specs.Keeping.{IsBelow, mark_told, part_told, AreToldSince, IsFullByIndex}
 use Rattle.scene.specs.Changes.{IsChange, AreChanges, AreTouched, IsSound, AreFree, row_after}

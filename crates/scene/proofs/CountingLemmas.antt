@@ -14,8 +14,8 @@ use Rattle.scene_commands.specs.declared.watching.ReaderTurn.{ReaderTurn}
 use Rattle.scene_commands.specs.declared.watching.Watcher.{Watcher}
 use Rattle.scene_commands.specs.declared.watching.Watchers.{Watchers}
 use Rattle.scene_commands.specs.declared.watching.ReaderTurn.TheVariants.{Frame}
-use Rattle.scene_snapshot.specs.Rows.{seat_at}
-use Rattle.scene_snapshot.specs.declared.kept.KeptScene.{KeptScene}
+use Rattle.scene.specs.Rows.{seat_at}
+use Rattle.scene.specs.declared.snapshot.kept.KeptScene.{KeptScene}
 use Rattle.scene.specs.Keeping.{CountsMore, bearing, changes_at, mark_told, part_told, parts_told, is_touched}
 use Rattle.scene.specs.Changes.{AreTouched, OnlyTouched}
 use Rattle.scene.specs.Taken.{is_one_of, behind_themselves, marks_at}

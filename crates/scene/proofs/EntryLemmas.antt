@@ -15,9 +15,9 @@ use Rattle.scene_model.proofs.CallerLemmas.{same_scene}
 use Rattle.scene_world.specs.Standing.{Sight, Kinds}
 use Rattle.scene_world.specs.Putting.{each_there}
 use Rattle.scene_world.proofs.CallerLemmas.{each-mapped}
-use Rattle.scene_snapshot.specs.Rows.{seats_kept, seat_at, datum_at, kinds_kept, IsSettled}
-use Rattle.scene_snapshot.specs.KeptScenes.{with_bearer, bearers_from, bearers, part_kept, kept_scene}
-use Rattle.scene_snapshot.specs.declared.kept.KeptScene.{KeptScene}
+use Rattle.scene.specs.Rows.{seats_kept, seat_at, datum_at, kinds_kept, IsSettled}
+use Rattle.scene.specs.KeptScenes.{with_bearer, bearers_from, bearers, part_kept, kept_scene}
+use Rattle.scene.specs.declared.snapshot.kept.KeptScene.{KeptScene}
 use Rattle.scene.specs.Keeping.{SameEntries}
 use Rattle.scene.specs.Taken.{part_at, AreOfPairs}
 

@@ -32,10 +32,10 @@ use Rattle.scene_world.specs.Standing.{Sight, Kinds, roll_of, column_of, value_o
 use Rattle.scene_world.proofs.CallerLemmas.{id-at-index, lives-index, ids-ascend, index-of-id}
 use Rattle.scene_world.specs.Putting.{named_in, part_read, each_there, AreReadAt}
 use Rattle.scene_world.proofs.CallerLemmas.{each-same, each-none, each-mapped}
-use Rattle.scene_snapshot.specs.Rows.{seats_kept, seat_at, datum_at, HasRoom, SameCourse}
-use Rattle.scene_snapshot.specs.KeptScenes.{bearers, part_kept, kept_scene}
-use Rattle.scene_snapshot.specs.declared.kept.KeptScene.{KeptScene}
-use Rattle.scene_snapshot.proofs.CallerLemmas.{kept-scene-is, bearer-none, bearer-one}
+use Rattle.scene.specs.Rows.{seats_kept, seat_at, datum_at, HasRoom, SameCourse}
+use Rattle.scene.specs.KeptScenes.{bearers, part_kept, kept_scene}
+use Rattle.scene.specs.declared.snapshot.kept.KeptScene.{KeptScene}
+use Rattle.scene.proofs.CallerLemmas.{kept-scene-is, bearer-none, bearer-one}
 use Rattle.scene.specs.Taken.{AreMarkedBy, AreMarkersOf, IsAmong, ArePairs, turned, with_last, part_at, AreOfPairs, IsRowOf, AreRowsOf}
 use Rattle.scene.proofs.KeptPlaceLemmas.{by-name, keys-ascend, keys-there}
 

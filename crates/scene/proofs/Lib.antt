@@ -17,3 +17,22 @@ pub mod PlaceLemmas
 pub mod AloneLemmas
 pub mod FrameLemmas
 pub mod RestLemmas
+mod DeviceLemmas
+pub mod CallerLemmas
+pub mod PrintLemmas
+pub mod KeptTextLemmas
+pub mod KeptLemmas
+pub mod BearerLemmas
+pub mod IdLemmas
+pub mod GivenIdLemmas
+pub mod ReferenceLemmas
+pub mod SystemChangeLemmas
+pub mod BeginLemmas
+pub mod SoundLemmas
+pub mod ResumedTurnLemmas
+pub mod OneOutcomeLemmas
+pub mod PartLemmas
+pub mod PrintedLemmas
+pub mod LoadLemmas
+pub mod ReadyLemmas
+pub mod ResumeLemmas

@@ -15,8 +15,8 @@ use Rattle.scene_world.specs.Standing.{Sight, Kinds}
 use Rattle.scene_commands.specs.declared.watching.Watcher.{Watcher}
 use Rattle.scene_commands.specs.Watching.{watcher_at}
 use Rattle.scene.specs.Keeping.{part_told}
-use Rattle.scene_snapshot.specs.Rows.{seat_at, datum_at, HasRoom, SameCourse}
-use Rattle.scene_snapshot.specs.declared.kept.KeptScene.{KeptScene}
+use Rattle.scene.specs.Rows.{seat_at, datum_at, HasRoom, SameCourse}
+use Rattle.scene.specs.declared.snapshot.kept.KeptScene.{KeptScene}
 use Rattle.scene.specs.Changes.{IsChange, AreChanges, AreTouched, OnlyTouched, row_after}
 use Rattle.scene.specs.Taken.{is_one_of, behind_themselves, marks_at}
 use Rattle.scene.specs.declared.changes.RowChange.{RowChange}

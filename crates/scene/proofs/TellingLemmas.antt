@@ -27,7 +27,7 @@ use Rattle.scene_commands.specs.declared.watching.Watcher.{Watcher}
 use Rattle.scene_commands.specs.declared.watching.Watchers.{Watchers}
 use Rattle.scene_commands.proofs.CatchLemmas.{name-known}
 use Rattle.scene_commands.proofs.WatchLemmas.{roll-stays, stands-still}
-use Rattle.scene_snapshot.specs.declared.kept.KeptScene.{KeptScene}
+use Rattle.scene.specs.declared.snapshot.kept.KeptScene.{KeptScene}
 use Rattle.scene.specs.Keeping.{HaveReadFrame, HaveAlike, OfEach, IsBelow, AreToldSince, IsFullByIndex, IsKept, mark_told, parts_told, touched_in}
 use Rattle.scene.specs.Waiting.{NoneWaits}
 use Rattle.scene.specs.Running.{Stands}

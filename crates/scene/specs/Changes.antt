@@ -6,8 +6,8 @@ use Rattle.scene_model.specs.Parts.{Name, Part, name_at}
 use Rattle.scene_world.specs.Putting.{each_there}
 use Rattle.scene_world.specs.Standing.{Sight, Kinds}
 use Rattle.scene_commands.specs.declared.watching.Watcher.{Watcher}
-use Rattle.scene_snapshot.specs.Rows.{seat_at}
-use Rattle.scene_snapshot.specs.declared.kept.KeptScene.{KeptScene}
+use Rattle.scene.specs.Rows.{seat_at}
+use Rattle.scene.specs.declared.snapshot.kept.KeptScene.{KeptScene}
 use Rattle.scene_commands.specs.Watching.{watcher_at}
 use Rattle.scene.specs.Keeping.{part_told}
 use Rattle.scene.specs.Taken.{IsAmong, is_one_of, behind_themselves, with_last, AreOfPairs}

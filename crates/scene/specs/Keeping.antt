@@ -16,8 +16,8 @@ use Rattle.scene_commands.specs.Watching.{HaveRead, reader_at, watcher_at}
 use Rattle.scene_commands.specs.declared.watching.ReaderTurn.{ReaderTurn}
 use Rattle.scene_commands.specs.declared.watching.Watcher.{Watcher}
 use Rattle.scene_commands.specs.declared.watching.Watchers.{Watchers}
-use Rattle.scene_snapshot.specs.declared.kept.KeptScene.{KeptScene}
-use Rattle.scene_snapshot.specs.Rows.{seat_at, datum_at, kinds_kept, SameCourse}
+use Rattle.scene.specs.declared.snapshot.kept.KeptScene.{KeptScene}
+use Rattle.scene.specs.Rows.{seat_at, datum_at, kinds_kept, SameCourse}
 use Rattle.scene.specs.Taken.{IsRowOf}
 
 -- so many changes were counted more, where their number fits 64 bits

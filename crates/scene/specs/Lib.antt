@@ -6,7 +6,8 @@ pub mod Waiting
 pub mod Coming
 pub mod Refusals
 pub mod Sparing
-pub use Rattle.scene_snapshot.specs.KeptScenes
+pub mod Rows
+pub mod KeptScenes
 pub use Rattle.scene_world.specs.Standing
 pub mod Taken
 pub use Rattle.scene_commands.specs.Watching
@@ -26,6 +27,15 @@ pub mod Turns
 pub mod Running
 pub mod Outcomes
 pub mod Members
-pub use Rattle.scene_devices.specs.Faults
-pub use Rattle.scene_devices.specs.Reading
-pub use Rattle.scene_devices.specs.Counted
+pub mod Faults
+pub mod Reading
+pub mod Counted
+pub mod Printing
+-- The definitions that the laws cite.
+pub mod Ids
+pub mod References
+pub mod SystemChanges
+pub mod OneOutcome
+pub mod TwoParts
+pub mod Printed
+pub mod Resumed

@@ -9,7 +9,7 @@ use Rattle.scene_model.specs.Parts.{Json}
 use Rattle.scene_model.specs.Queues.{plain_commands}
 use Rattle.scene_model.specs.Scenes.{PlainScene, PlainFrame}
 use Rattle.scene_document.specs.declared.loaded.Limits.{Limits}
-use Rattle.scene_snapshot.specs.declared.kept.KeptScene.{KeptScene}
+use Rattle.scene.specs.declared.snapshot.kept.KeptScene.{KeptScene}
 use Rattle.scene_world.specs.Members.{Members, kinds_by, placed_by}
 use Rattle.scene_world.specs.declared.placed.Placed.{Placed}
 use Rattle.scene_world.specs.declared.value.SceneValue as values

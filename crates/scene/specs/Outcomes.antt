@@ -1,8 +1,8 @@
 -- What a whole run may answer, in terms of the bytes that were read.
 use Rattle.std.specs.Prelude.{◌≡◌, ◌≤◌, ℕ, List, length, Option, IfSome, IfOk, IfErr, Result, Ok, Err, ◌⊎◌, take}
 use Rattle.std.specs.Io.KnownBytes.{Appends, IsAtEnd}
-use Rattle.scene_devices.specs.Faults.{HasFailed}
-use Rattle.scene_devices.specs.Reading.{GivesAtLeast}
+use Rattle.scene.specs.Faults.{HasFailed}
+use Rattle.scene.specs.Reading.{GivesAtLeast}
 use Rattle.scene_model.specs.declared.refusals.DocRefusal.{DocRefusal}
 use Rattle.scene_model.specs.declared.refusals.Report.{Report}
 use Rattle.scene_document.specs.declared.loaded.LoadError.{LoadError}

@@ -25,8 +25,8 @@ use Rattle.scene_document.specs.Apart.{IsApart}
 use Rattle.scene_document.specs.Documents.{document_from, refusal_of}
 use Rattle.scene_document.specs.Openings.{first_scene, frames_of}
 use Rattle.scene_document.specs.Loading.{commands_at}
-use Rattle.scene_snapshot.specs.declared.kept.KeptScene.{KeptScene}
-use Rattle.scene_snapshot.specs.KeptScenes.{kept_scene}
+use Rattle.scene.specs.declared.snapshot.kept.KeptScene.{KeptScene}
+use Rattle.scene.specs.KeptScenes.{kept_scene}
 use Rattle.scene_world.specs.Standing.{Kinds, plain_of, IsSceneWorld}
 use Rattle.scene_world.specs.Turns.{Meaning, IsOfBook}
 use Rattle.scene_world.specs.declared.placed.Placed.{Placed}

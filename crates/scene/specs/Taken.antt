@@ -11,8 +11,8 @@ use Rattle.scene_world.specs.Stored.{part_under}
 use Rattle.scene_world.specs.Rolls.{Roll, id_at, ref_to}
 use Rattle.scene_world.specs.Standing.{Sight, Kinds, roll_of, column_of}
 use Rattle.scene_world.specs.Putting.{each_there}
-use Rattle.scene_snapshot.specs.declared.kept.KeptScene.{KeptScene}
-use Rattle.scene_snapshot.specs.Rows.{seat_at, datum_at}
+use Rattle.scene.specs.declared.snapshot.kept.KeptScene.{KeptScene}
+use Rattle.scene.specs.Rows.{seat_at, datum_at}
 
 -- these are the ids with which the indices of entities are marked
 abbrev pub AreMarkedBy : Roll → List LifeAt → List ℕ → Type 0

@@ -11,8 +11,8 @@ ghost use Rattle.scene_world.specs.Standing.{Sight, IsSceneWorld};
 ghost use Rattle.scene_world.specs.Telling.{is_told};
 ghost use Rattle.scene_commands.specs.Acts.{seen_of};
 ghost use Rattle.scene_commands.specs.Members.{scene_in};
-ghost use Rattle.scene_snapshot.specs.KeptScenes.{kept_scene};
-ghost use Rattle.scene_snapshot.specs.Rows.{seat_at, datum_at, kinds_kept, HasRoom, SameCourse};
+ghost use Rattle.scene.specs.KeptScenes.{kept_scene};
+ghost use Rattle.scene.specs.Rows.{seat_at, datum_at, kinds_kept, HasRoom, SameCourse};
 ghost use Rattle.scene_commands.specs.declared.watching.ReaderTurn.TheVariants.{Frame};
 ghost use Rattle.scene.specs.Keeping.{IsBelow, part_told, touched_in, AreToldSince, IsFullByIndex, SameEntries};
 ghost use Rattle.scene.specs.Keeping.{CountsMore, changes_at};
@@ -20,11 +20,11 @@ ghost use Rattle.scene.specs.Changes.{IsChange, AreChanges, AreTouched, OnlyTouc
 ghost use Rattle.scene.specs.Taken.{is_one_of, behind_themselves, marks_at};
 
 use crate::keeping::{enter_all, read_row, room_for, write_found};
+use crate::snapshot::{ByPlace, KeptScene};
 use crate::taking::{globals_in, markers_in, next_in};
 use hibitset::BitSetLike;
 use hibitset_sets::BitSet;
 use scene_commands::{Watcher, Watchers};
-use scene_snapshot::{ByPlace, KeptScene};
 use scene_world::{Rules, SceneMarker, told_indices};
 use shred_world::World;
 use specs_layouts::{MaskedStorage, ReaderId};
@@ -118,8 +118,8 @@ fn change_of_kind<R: Rules>(
         (seen_of world.now) }
     requires known { is_among kind.now R.columns.part_names ≡ true }
     requires within { (index : ℕ) → has_member touched.old index ≡ true → index < 16777216 }
-    ensures change { IfOk result (IsChange (kinds_by R.Rules R.Value.SceneValue) R.part_of (seen_of world.now)
-        kind.now (part_told (kinds_by R.Rules R.Value.SceneValue) (seen_of world.now) kind.now reader.now)) }
+    ensures change { IfOk result (let kinds = kinds_by R.Rules R.Value.SceneValue in
+        IsChange kinds R.part_of (seen_of world.now) kind.now (part_told kinds (seen_of world.now) kind.now reader.now)) }
     ensures within { OnOk result ((index : ℕ) → has_member touched.new index ≡ true → index < 16777216) }
     ensures kept { OnOk result ((index : ℕ) → has_member touched.old index ≡ true
         → has_member touched.new index ≡ true) }

@@ -11,13 +11,13 @@ use crate::load::{
     Course, Opened, ReadDocument, place_document, prepare_document, prepare_read,
     read_apart_or_whole,
 };
+use crate::snapshot::{KeptScene, kept_text};
 use crate::{FrameInput, keep_scene};
 use scene_commands::laws::events_are_no_part_of_a_scene;
 use scene_commands::{Watchers, watch_world};
 use scene_dispatch::{SceneDispatcher, Works};
 use scene_document::{Limits, LoadError};
 use scene_model::{Command, FrameRefusal, Report, Skips};
-use scene_snapshot::{KeptScene, kept_text};
 use scene_world::Rules;
 use serde_json::Value;
 use shred_crew::Crew;
@@ -194,8 +194,8 @@ where
         requires limits { AreLimits limits }
         requires placed { (json : Json) × IsPlacedBy R.Rules R.Value.SceneValue rules limits json opened }
         ensures { MatchResult result
-            (λ scene. (json : Json) → IsPlacedBy R.Rules R.Value.SceneValue rules limits json opened
-            → IsOpenedBy R.Rules R.Value.SceneValue rules limits json scene) (λ error. error ≡ Memory) }
+            (λ one. (json : Json) → IsPlacedBy R.Rules R.Value.SceneValue rules limits json opened
+            → IsOpenedBy R.Rules R.Value.SceneValue rules limits json one) (λ why. why ≡ Memory) }
     {
         let Opened {
             mut world,

@@ -6,14 +6,14 @@ ghost use Rattle.scene_world.specs.Standing.{roll_of, IsSceneWorld};
 ghost use Rattle.scene_world.specs.Members.{kinds_by};
 ghost use Rattle.scene_commands.specs.Acts.{seen_of};
 ghost use Rattle.scene_commands.specs.Members.{scene_in};
-ghost use Rattle.scene_snapshot.specs.Rows.{seat_at, datum_at, kinds_kept, HasRoom, SameCourse};
-ghost use Rattle.scene_snapshot.specs.KeptScenes.{kept_scene};
+ghost use Rattle.scene.specs.Rows.{seat_at, datum_at, kinds_kept, HasRoom, SameCourse};
+ghost use Rattle.scene.specs.KeptScenes.{kept_scene};
 ghost use Rattle.scene_world.specs.Putting.{each_there};
 ghost use Rattle.scene.specs.Keeping.{IsBelow, IsFullByIndex, CountsMore};
 ghost use Rattle.scene.specs.Taken.{ArePairs, IsAmong, IsRowOf, AreRowsOf, AreOfPairs, IsBare, part_at, turned, with_last};
 
+use crate::snapshot::{ByPlace, KeptScene};
 use crate::taking::{data_at, globals_in, next_in, pairs_in};
-use scene_snapshot::{ByPlace, KeptScene};
 use scene_world::Rules;
 use shred_world::World;
 use std::alloc::{AllocError, Global};
@@ -30,8 +30,8 @@ pub fn keep_scene<R: Rules>(
 ) -> Result<KeptScene<R::Data, Vec<Option<R::Global>>>, AllocError>
     requires stands { IsSceneWorld (kinds_by R.Rules R.Value.SceneValue) (R.book rules.now)
         (seen_of world.now) }
-    ensures scene { IfOk result (λ kept. kept_scene R.part_of R.global_of
-        ⟦<Vec<Option<R::Global>> as ByPlace<R::Global>>⟧.at_place (R.book rules.now) kept
+    ensures scene { IfOk result (λ one. kept_scene R.part_of R.global_of
+        ⟦<Vec<Option<R::Global>> as ByPlace<R::Global>>⟧.at_place (R.book rules.now) one
         ≡ scene_in R.Rules R.Value.SceneValue world.now) }
     ensures full { IfOk result (λ kept. IsFullByIndex (kinds_by R.Rules R.Value.SceneValue) R.part_of
         R.columns.part_names kept (seen_of world.now)) }

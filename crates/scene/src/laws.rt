@@ -1,23 +1,22 @@
-//! Laws of frames in a world. The functions have no code; each contract is the law.
-ghost use Rattle.std.specs.Prelude.{◌≤◌};
-ghost use Rattle.scene_model.specs.declared.refusals.FrameRefusal.{FrameRefusal};
-ghost use Rattle.scene_model.specs.Bounds.{FrameLimit};
-ghost use Rattle.scene_world.specs.Rolls.{Roll};
-ghost use Rattle.scene_dispatch.specs.Frames.{WantsThread};
-ghost use Rattle.scene_commands.specs.Bounds.{IsBounded};
-ghost use Rattle.scene_model.specs.Scenes.{PlainScene, PlainFrame};
-ghost use Rattle.scene_model.specs.Frames.{Refuses};
-ghost use Rattle.scene.specs.Refusals.{RefusedIn};
-ghost use Rattle.scene_world.specs.Members.{kinds_by};
+//! Laws of scenes: functions with an empty body, each with a law over the definitions of runs as its contract.
+//!
+//! A function of these takes the rules that its law is of, and does nothing; a caller has the law from then on. Two make the
+//! calls that their law is of: `print_and_load` and `run_in_parts`.
 
-use scene_world::Rules;
+mod changes;
+mod ids;
+mod outcomes;
+mod parts;
+mod printed;
+mod references;
+mod refusals;
+mod resumed;
 
-/// What refuses a frame in a world refuses it for the scene that stands there, where the entities were under a limit as its commands
-/// began, and a thread is wanting only with two workers or more.
-pub fn a_refusal_in_a_world_is_one_of_the_scene<R: Rules>(rules: &R)
-    ensures { (limit : FrameLimit) (start : Roll) (frame : PlainFrame) (scene : PlainScene) (cause : FrameRefusal)
-        → IsBounded limit.indices limit.generation limit.unlisted start
-        → (WantsThread cause → 2 ≤ limit.workers)
-        → RefusedIn (kinds_by R.Rules R.Value.SceneValue) (R.book rules.now) limit.commands start frame scene cause
-        → Refuses (R.book rules.now) limit frame scene cause }
-{}
+pub use changes::a_system_changes_what_it_declares;
+pub use ids::an_id_is_given_once;
+pub use outcomes::{one_outcome, workers_and_store_change_nothing};
+pub use parts::frames_in_two_parts;
+pub use printed::{a_printed_scene_is_read_again, a_ready_scene_can_be_read, print_and_load};
+pub use references::references_live;
+pub use refusals::a_refusal_in_a_world_is_one_of_the_scene;
+pub use resumed::{Course, ResumeError, run_in_parts};

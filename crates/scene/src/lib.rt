@@ -10,6 +10,7 @@
 mod advance;
 mod changes;
 mod commands;
+pub mod devices;
 mod frame;
 mod keeping;
 pub mod laws;
@@ -17,15 +18,16 @@ mod load;
 mod queues;
 mod runner;
 mod running;
+pub mod snapshot;
 mod standing;
 mod taking;
 
 pub use commands::{FrameInput, run_commands};
+pub use devices::{Counted, CountedRead, CountedWrite, Faults};
 pub use frame::{Refused, Scene};
 pub use keeping::keep_scene;
 pub use runner::{RunError, run, run_to_end, run_with};
 pub use running::run_frame;
-pub use scene_devices::{Counted, CountedRead, CountedWrite, Faults};
 pub use scene_document::{Limits, LoadError};
 pub use scene_model::{
     Command, DocRefusal, DocumentRules, FrameRefusal, NotQueued, Queue, ReadError, Report,

@@ -236,8 +236,8 @@ where
     R::Value: Drop,
     requires limits { AreLimits limits }
     requires prepared { (json : Json) × IsPreparedBy R.Rules rules.now limits json prepared }
-    ensures { MatchResult result (λ opened. (json : Json) → IsPreparedBy R.Rules rules.now limits json prepared
-        → IsPlacedBy R.Rules R.Value.SceneValue rules.now limits json opened) (λ error. error ≡ Memory) }
+    ensures { MatchResult result (λ one. (json : Json) → IsPreparedBy R.Rules rules.now limits json prepared
+        → IsPlacedBy R.Rules R.Value.SceneValue rules.now limits json one) (λ why. why ≡ Memory) }
 {
     let Prepared {
         draft,

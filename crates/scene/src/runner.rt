@@ -7,8 +7,8 @@ ghost use Rattle.scene.specs.Limits.{bounds_of, full_bounds};
 ghost use Rattle.scene.specs.Running.{rules_of};
 ghost use Rattle.scene.specs.Members.{shown_by, IsReadyBy, MayBeginBy, HasRunOutBy};
 
+use crate::devices::{CountedRead, CountedWrite, ReadFailure, read_bytes, write_text};
 use crate::frame::Scene;
-use scene_devices::{CountedRead, CountedWrite, ReadFailure, read_bytes, write_text};
 use scene_document::{Limits, LoadError};
 use scene_model::{DocRefusal, Report};
 use scene_world::Rules;

@@ -57,9 +57,9 @@ where
     requires given { All (IsLawful (R.book rules.now)) (plain_commands R.part_of input.now.given.now) }
     ensures accepted { OnOk result ((scene : PlainScene)
         → HaveComeBy R.Rules R.Value.SceneValue rules.now dispatcher.now world.old scene outcome
-        → (skipped : List ℕ) × Accepts (R.book rules.now) input.now.limit
+        → (left : List ℕ) × Accepts (R.book rules.now) input.now.limit
         (frame_by R.Rules dispatcher.now input.now.given.now) scene (scene_in R.Rules R.Value.SceneValue world.new)
-        skipped × (skips.new.items ≡ skips.old.items ++ skips_of input.now.number skipped)) }
+        left × (skips.new.items ≡ skips.old.items ++ skips_of input.now.number left)) }
     ensures ready { OnOk result (AreReady (kinds_by R.Rules R.Value.SceneValue) (placed_by R.Rules)
         (R.book rules.now) dispatcher.now (holding_of world.new)) }
     ensures none { OnOk result (NoneWaits (kinds_by R.Rules R.Value.SceneValue) (seen_of world.new)) }

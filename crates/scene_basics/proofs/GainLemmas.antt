@@ -18,7 +18,7 @@ use Rattle.scene_model.specs.Lawful.{IsKnownPart, IsLawful}
 use Rattle.scene_basics.specs.Names.{number_kinds, pos_kind, vel_kind, hp_kind, g_name}
 use Rattle.scene_basics.specs.Numbers.{counting, admits}
 use Rattle.scene_basics.specs.Gains.{Gains, sum_at, number_at, global_number, Overflows}
-use Rattle.scene_laws.specs.OneOutcome.{SameLeft}
+use Rattle.scene.specs.OneOutcome.{SameLeft}
 use Rattle.scene_basics.specs.Systems.{basics, Makes}
 use Rattle.scene_basics.specs.RuleLaws.{admits-counting}
 

@@ -5,8 +5,8 @@ use Rattle.std.proofs.lemmas.List.Elements.{All-nil}
 use Rattle.scene_model.specs.Parts.{Name, Part}
 use Rattle.scene_model.specs.Rulebook.{Access, Fragment, Outcome, leaves, refuses, fills, Command}
 use Rattle.scene_model.specs.Scenes.{RefLives}
-use Rattle.scene_laws.specs.OneOutcome.{SameOutcome}
-use Rattle.scene_laws.specs.References.{RefsLiveUnder}
+use Rattle.scene.specs.OneOutcome.{SameOutcome}
+use Rattle.scene.specs.References.{RefsLiveUnder}
 use Rattle.scene_basics.specs.declared.data.BasicSystem.{BasicSystem}
 use Rattle.scene_basics.specs.declared.data.BasicSystem.TheVariants.{Drift, Pull, Decay, Reap, Bud}
 use Rattle.scene_basics.specs.Names.{pos_kind, vel_kind, hp_kind, g_name, part_kinds}

@@ -6,7 +6,7 @@ use Rattle.std.proofs.lemmas.Grind.{flat_map-append}
 use Rattle.std.proofs.lemmas.List.{take_all, take-append-drop, take-append-le}
 use Rattle.std.specs.Io.KnownBytes.{Appends}
 use Rattle.std.proofs.KnownBytes.{Appends-trans}
-use Rattle.scene_devices.specs.Faults.{HasFailed}
+use Rattle.scene.specs.Faults.{HasFailed}
 use Rattle.scene_basics.specs.Lines.{Tells}
 
 -- all went out

@@ -1,22 +1,19 @@
 -- Lemmas on what the rules read and write, and their laws.
-use Rattle.std.proofs.Common.{◌≡◌, ◌^◌, ℕ, ℤ, pos, negsuc, Bool, true, false, ◌&&◌, ◌||◌, ◌⊎◌, inl, inr, cond, eqb, [], ◌∷◌, Option, Some, None, option_map, option_and_then, is_some, refl, sym, ◌∙◌, ap, subst, below_none, FitsSigned, All}
+use Rattle.std.proofs.Common.{◌≡◌, ◌^◌, ℕ, ℤ, pos, negsuc, Bool, true, false, ◌&&◌, ◌||◌, ◌⊎◌, inl, inr, cond, eqb, [], ◌∷◌, Option, Some, None, option_map, option_and_then, is_some, refl, sym, ◌∙◌, ap, subst, FitsSigned, All}
 use Rattle.std.specs.Int.{w64}
 use Rattle.std.specs.Str.{bytes_eq}
-use Rattle.std.specs.Ordering.{nat_cmp}
-use Rattle.std.specs.Cmp.Lexicographic.{slice_cmp}
-use Rattle.std.specs.declared.cmp.Ordering.TheVariants.{Less}
 use Rattle.std.proofs.lemmas.Option.{none-some, same_Some}
 use Rattle.std.proofs.lemmas.Bool.{false≢true, or_cases}
 use Rattle.std.proofs.lemmas.Bool.Decides.{Decides-ltb, Decides-eqb}
 use Rattle.std.proofs.lemmas.Slice.Eq.{bytes_eq-Decides}
 use Rattle.std.proofs.lemmas.List.Elements.{All-nil, All-cons}
-use Rattle.std.proofs.lemmas.List.Kept.{AllPairs-cons}
-use Rattle.serde_json.specs.Data.{unsigned, null, boolean, number, string, array, object}
+use Rattle.serde_json.specs.Data.{unsigned, number}
 use Rattle.serde_json.specs.Find.{as_null}
 use Rattle.serde_json.specs.Written.{has_float}
 use Rattle.scene_model.specs.Parts.{Json, Name, Part, is_among}
 use Rattle.scene_model.specs.Rulebook.{Facts, known, misshapen}
 use Rattle.scene_model.specs.Laws.{Ascend, DeclaresKnown}
+use Rattle.scene_world.specs.RuleLemmas.{ascending-names}
 use Rattle.scene_basics.specs.declared.data.Datum.{Datum}
 use Rattle.scene_basics.specs.declared.data.Datum.TheVariants.{Whole, Owner}
 use Rattle.scene_basics.specs.declared.data.BasicSystem.{BasicSystem}
@@ -142,20 +139,11 @@ law-no_float (Whole z) = law-no_global_float z
 law-no_float (Owner id) = refl
 
 -- the names ascend
-abbrev Below : Name → Name → Type 0
-Below one other = slice_cmp nat_cmp one other ≡ Less
-
 pub law-kinds_ascend : Ascend part_kinds
-law-kinds_ascend =
-    AllPairs-cons Below bond_kind (hp_kind ∷ owner_kind ∷ pos_kind ∷ vel_kind ∷ [])
-    (All-cons (Below bond_kind) hp_kind (owner_kind ∷ pos_kind ∷ vel_kind ∷ []) refl (All-cons (Below bond_kind) owner_kind (pos_kind ∷ vel_kind ∷ []) refl (All-cons (Below bond_kind) pos_kind (vel_kind ∷ []) refl (All-cons (Below bond_kind) vel_kind [] refl (All-nil (Below bond_kind))))))
-    (AllPairs-cons Below hp_kind (owner_kind ∷ pos_kind ∷ vel_kind ∷ []) (All-cons (Below hp_kind) owner_kind (pos_kind ∷ vel_kind ∷ []) refl (All-cons (Below hp_kind) pos_kind (vel_kind ∷ []) refl (All-cons (Below hp_kind) vel_kind [] refl (All-nil (Below hp_kind)))))
-    (AllPairs-cons Below owner_kind (pos_kind ∷ vel_kind ∷ []) (All-cons (Below owner_kind) pos_kind (vel_kind ∷ []) refl (All-cons (Below owner_kind) vel_kind [] refl (All-nil (Below owner_kind))))
-    (AllPairs-cons Below pos_kind (vel_kind ∷ []) (All-cons (Below pos_kind) vel_kind [] refl (All-nil (Below pos_kind)))
-    (AllPairs-cons Below vel_kind [] (All-nil (Below vel_kind)) (λ i j d lt within. absurd (below_none (λ (k : ℕ). ⊥) j within))))))
+law-kinds_ascend = ascending-names part_kinds refl
 
 pub law-globals_ascend : Ascend (g_name ∷ [])
-law-globals_ascend = AllPairs-cons Below g_name [] (All-nil (Below g_name)) (λ i j d lt within. absurd (below_none (λ (k : ℕ). ⊥) j within))
+law-globals_ascend = ascending-names (g_name ∷ []) refl
 
 -- a system's kind names it
 pub system_named-kind_of : (system : BasicSystem) → system_named (kind_of system) ≡ Some system
@@ -176,15 +164,6 @@ kind_of-system_named kind system is = here (bytes_eq kind drift_kind) (bytes_eq 
     here false false false true f one two three four five e = subst (λ (s : BasicSystem). kind_of s ≡ kind) (same_Some Reap system e) (sym (four refl))
     here false false false false true one two three four five e = subst (λ (s : BasicSystem). kind_of s ≡ kind) (same_Some Bud system e) (sym (five refl))
     here false false false false false one two three four five e = absurd (none-some system e)
-
--- a configuration that is null is null
-pub null-as_null : (config : Json) → is_some (as_null config) ≡ true → null ≡ config
-null-as_null null e = refl
-null-as_null (boolean b) e = absurd (false≢true e)
-null-as_null (number n) e = absurd (false≢true e)
-null-as_null (string s) e = absurd (false≢true e)
-null-as_null (array _) e = absurd (false≢true e)
-null-as_null (object _) e = absurd (false≢true e)
 
 -- what is known of a configured system is known of the system
 pub configured-facts : (system : BasicSystem) (config : Json) (facts : Facts) → configured (Some system) config ≡ known facts → facts_of system ≡ facts

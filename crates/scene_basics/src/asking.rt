@@ -65,7 +65,7 @@ fn birth_of<W: Holder<Value>>(
     view: &W,
     id: u64,
 ) -> Result<Option<Command<Datum>>, AllocError>
-    ensures { IfOk result (λ command. option_map (plain_command part_of) command
+    ensures { IfOk result (λ one. option_map (plain_command part_of) one
         ≡ birth_by (number_under (W.slots view.now) hp_kind id)
         (option_map counting (number_under (W.slots view.now) pos_kind id))) }
 {

@@ -8,13 +8,13 @@ ghost use Rattle.scene_document.specs.Documents.{document_of};
 ghost use Rattle.scene_model.specs.Frames.{Reaches};
 ghost use Rattle.scene.specs.Runs.{CanBegin, Ran};
 ghost use Rattle.scene.specs.Outcomes.{Bounds, IsRunOf};
-ghost use Rattle.scene_laws.specs.OneOutcome.{OneOutcome, HadMeans, SameButPlace};
-ghost use Rattle.scene_laws.specs.References.{KeepsReferences, RefsLiveUnder};
+ghost use Rattle.scene.specs.OneOutcome.{OneOutcome, HadMeans, SameButPlace};
+ghost use Rattle.scene.specs.References.{KeepsReferences, RefsLiveUnder};
 ghost use Rattle.scene_basics.specs.Names.{part_kinds};
 ghost use Rattle.scene_basics.specs.Systems.{basics};
 
 use crate::rules::Basics;
-use scene_laws::{one_outcome, references_live, workers_and_store_change_nothing};
+use scene::laws::{one_outcome, references_live, workers_and_store_change_nothing};
 
 /// What a system is lent determines what becomes of its turn: what it leaves and asks for, the text of its refusal, or
 /// what fills its queue.

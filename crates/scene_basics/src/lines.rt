@@ -2,13 +2,13 @@
 ghost use Rattle.std.specs.Prelude.{◌≡◌, OnOk, ◌≤◌, length, OnErr, IfErr, take};
 ghost use Rattle.std.specs.List.{flat_map};
 ghost use Rattle.std.specs.Io.KnownBytes.{Appends};
-ghost use Rattle.scene_devices.specs.Faults.{HasFailed};
+ghost use Rattle.scene.specs.Faults.{HasFailed};
 ghost use Rattle.scene_basics.specs.Lines.{name_of, piece_text, cause_name, frame_line, error_line, line_of};
 ghost use Rattle.scene_basics.specs.Lines.{status_of, Tells};
 
 use itoa::Buffer;
+use scene::devices::{CountedWrite, WriteFailure, write_text};
 use scene::{DocRefusal, FrameRefusal, Report, RunError};
-use scene_devices::{CountedWrite, WriteFailure, write_text};
 
 /// A piece of a line.
 #[derive(Clone, Copy)]

@@ -1,5 +1,5 @@
 -- A world whose value at one id was lent for writing.
-use Rattle.std.proofs.Common.{◌≡◌, ℕ, false, cond, eqb, List, Option, Some, ap, sym, ◌∙◌, subst}
+use Rattle.std.proofs.Common.{◌≡◌, ℕ, false, cond, eqb, List, Option, Some, refl, ap, sym, ◌∙◌, subst}
 use Rattle.std.specs.Option.{option_map_or}
 use Rattle.std.specs.Prelude.{option_and_then}
 use Rattle.std.specs.FinMap as slots
@@ -16,6 +16,7 @@ use Rattle.scene_model.specs.Parts.{Name, Part}
 use Rattle.scene_world.specs.Stored.{Stored}
 use Rattle.scene_world.specs.Standing.{Kinds, column_in, events_in, emits_in}
 use Rattle.specs_layouts.specs.Channels.{no_log}
+use Rattle.specs_layouts.specs.Parts.{Puts}
 use Rattle.specs_layouts.specs.Shows.{Shows}
 use Rattle.scene_world.proofs.CallerLemmas.{shows-seen}
 use Rattle.scene_world.specs.Telling.{CatchesUp}
@@ -24,6 +25,8 @@ use Rattle.scene_world.specs.Putting.{PutsIn}
 use Rattle.scene_commands.specs.Acts.{seen_of, SetsColumn, PutsPart}
 use Rattle.scene_commands.specs.Watching.{GainsWatcher, WatchesKind, ReadsKind}
 use Rattle.scene_commands.specs.declared.watching.Watcher.{Watcher}
+use Rattle.scene_commands.specs.Elsewhere.{SetsMark}
+use Rattle.scene_commands.proofs.DeathLemmas.{sets-mark}
 use Rattle.scene_commands.proofs.LookLemmas.{seen-value}
 use Rattle.scene_commands.proofs.WatchLemmas.{watcher-seen}
 use Rattle.scene_commands.proofs.CatchLemmas.{catches-seen}
@@ -125,3 +128,13 @@ module _ {V : Type 0} (kinds : Kinds V) (w later : Slots V) (kind : Name) (id : 
         reader reads;
     others = sees-other w later (kinds.part_id kind) was left stood leaves;
   }
+
+-- markers of which one is another, or is taken out, in the value that stands where they do
+module _ {V : Type 0} (kinds : Kinds V) (w later : Slots V) (id : ResourceId) (at_markers : id ≡ kinds.markers_id)
+    (lent : Option (MutBor V)) (value : MutBor V) (is : lent ≡ Some value) (copied : option_copied_mut lent ≡ value_at w id) (left : V) (puts_back : OnSome lent (later ≡ slots.insert w id (Some left))) where
+  pub lent-mark : (index : ℕ) (given : Option ℕ) → Shows kinds.marker kinds.marker_events kinds.marker_emits value.now left → Puts (kinds.marker value.now) index given (kinds.marker left) → SetsMark kinds index given (seen_of w) (seen_of later)
+  lent-mark index given shown puts =
+      let stood : value_at w kinds.markers_id ≡ Some value.now = subst (λ i. value_at w i ≡ Some value.now) at_markers (stood-there w id lent value is copied) in
+      let leaves : later ≡ slots.insert w kinds.markers_id (Some left) = on_some lent value _ is puts_back ∙ ap (λ i. slots.insert w i (Some left)) at_markers in
+      sets-mark kinds w later value.now left (saw w later kinds.markers_id value.now left stood leaves) (sees w later kinds.markers_id value.now left stood leaves) (sees-other w later kinds.markers_id value.now left stood leaves)
+      (kinds.marker value.now) (kinds.marker left) (λ at. refl) (λ at. refl) index given shown puts

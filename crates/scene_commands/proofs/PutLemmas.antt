@@ -28,7 +28,7 @@ module _ {V : Type 0} (kinds : Kinds V) (apart : StandApart kinds) (kind : Name)
   same-allocator : later kinds.allocator_id ≡ w kinds.allocator_id
   same-allocator = sets.others kinds.allocator_id (apart allocator (parts kind) refl known)
 
-  roll-stays : roll_of kinds later ≡ roll_of kinds w
+  pub roll-stays : roll_of kinds later ≡ roll_of kinds w
   roll-stays = same-roll kinds later w same-entities same-markers same-allocator
 
   -- and so are the other columns, and the globals

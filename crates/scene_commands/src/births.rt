@@ -123,24 +123,11 @@ pub fn mark<R: Rules>(world: &mut World<R::Value>, index: u32, given: u64) -> Re
     ensures { OnOk result
         (Marks (kinds_by R.Rules R.Value.SceneValue) index given (seen_of world.old) (seen_of world.new)) }
 {
-    let id = <R::Value as SceneValue<R::Data>>::markers_id();
-    let Some(value) = world.take_raw(id) else {
+    let Some(value) = world.get_mut_raw(<R::Value as SceneValue<R::Data>>::markers_id()) else {
         return Err(AllocError);
     };
-    match <R::Value as SceneValue<R::Data>>::unwrap_markers(value) {
-        Ok(mut markers) => {
-            let outcome = markers.insert(index, SceneMarker::new(given));
-            world.put_back(id, <R::Value as SceneValue<R::Data>>::wrap_markers(markers));
-            match outcome {
-                Ok(_) => Ok(()),
-                Err(_) => Err(AllocError),
-            }
-        }
-        Err(other) => {
-            world.put_back(id, other);
-            Err(AllocError)
-        }
-    }
+    <R::Value as SceneValue<R::Data>>::insert_marker(value, index, SceneMarker::new(given))?;
+    Ok(())
 }
 
 /// Puts a part of a newborn in. Errors: want of memory, and where one of its references is to nobody.

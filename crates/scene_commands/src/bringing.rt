@@ -27,8 +27,8 @@ fn note_part<R: Rules>(
 ) -> Result<(), AllocError>
     requires { IsChained (end_in holders.old.ends) holders.old.links.items }
     ensures grows { OnOk result (Grows holders.old holders.new) }
-    ensures noted { OnOk result (holders.old.made ≡ true → R.columns.owning kind.now ≡ true → (target : ℕ)
-        → refers_to target (Some (R.part_of datum.now)) ≡ true → Holds holders.new.links.items id target) }
+    ensures noted { OnOk result (holders.old.made ≡ true → R.columns.owning kind.now ≡ true → (one : ℕ)
+        → refers_to one (Some (R.part_of datum.now)) ≡ true → Holds holders.new.links.items id one) }
 {
     if !holders.made || !R::owning(kind) {
         return Ok(());

@@ -43,24 +43,11 @@ fn unmark<R: Rules>(world: &mut World<R::Value>, index: u32) -> Result<(), Alloc
     ensures { OnOk result
         (Unmarks (kinds_by R.Rules R.Value.SceneValue) index (seen_of world.old) (seen_of world.new)) }
 {
-    let id = <R::Value as SceneValue<R::Data>>::markers_id();
-    let Some(value) = world.take_raw(id) else {
+    let Some(value) = world.get_mut_raw(<R::Value as SceneValue<R::Data>>::markers_id()) else {
         return Err(AllocError);
     };
-    match <R::Value as SceneValue<R::Data>>::unwrap_markers(value) {
-        Ok(mut markers) => {
-            let outcome = markers.drop(index);
-            world.put_back(id, <R::Value as SceneValue<R::Data>>::wrap_markers(markers));
-            match outcome {
-                Ok(()) => Ok(()),
-                Err(_) => Err(AllocError),
-            }
-        }
-        Err(other) => {
-            world.put_back(id, other);
-            Err(AllocError)
-        }
-    }
+    <R::Value as SceneValue<R::Data>>::drop_marker(value, index)?;
+    Ok(())
 }
 
 /// Takes out what the allocator of ids notes under an id. Errors: where the world has none, told as want of memory.

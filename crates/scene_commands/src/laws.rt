@@ -30,13 +30,11 @@ pub fn a_scene_stands_after_commands<R: Rules>(rules: &R)
 /// Where nothing in a world is another but the events that tell of its markers and parts, the same scene stands there,
 /// the same entities live under the same ids, and the same commands wait.
 pub fn events_are_no_part_of_a_scene<R: Rules>(rules: &R)
-    ensures scene { (w later : Slots R.Value)
-        → StaysButEvents (kinds_by R.Rules R.Value.SceneValue) (seen_of w) (seen_of later)
-        → scene_in R.Rules R.Value.SceneValue later ≡ scene_in R.Rules R.Value.SceneValue w }
-    ensures roll { (w later : Slots R.Value)
-        → StaysButEvents (kinds_by R.Rules R.Value.SceneValue) (seen_of w) (seen_of later)
-        → roll_of (kinds_by R.Rules R.Value.SceneValue) (seen_of later)
-        ≡ roll_of (kinds_by R.Rules R.Value.SceneValue) (seen_of w) }
+    ensures scene { (w now : Slots R.Value) → let value = R.Value.SceneValue in
+        StaysButEvents (kinds_by R.Rules value) (seen_of w) (seen_of now)
+        → scene_in R.Rules value now ≡ scene_in R.Rules value w }
+    ensures roll { (w now : Slots R.Value) → let kinds = kinds_by R.Rules R.Value.SceneValue in
+        StaysButEvents kinds (seen_of w) (seen_of now) → roll_of kinds (seen_of now) ≡ roll_of kinds (seen_of w) }
     ensures queues { (w later : Slots R.Value) (position : ℕ)
         → StaysButEvents (kinds_by R.Rules R.Value.SceneValue) (seen_of w) (seen_of later)
         → commands_of (kinds_by R.Rules R.Value.SceneValue) (seen_of later) position

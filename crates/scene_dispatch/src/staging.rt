@@ -36,8 +36,8 @@ where
     requires document { AreOfDocument (R.book rules.now) (map plain_draft entries.items) }
     requires said { All (IsSaidBy R.kind_of R.config_of (R.book rules.now)) entries.items }
     requires made { AreMade R.declared R.said_time (R.made_by rules.now) entries.items }
-    ensures order { IfOk result (λ dispatcher. (plain : Draft) (frame : ℕ) → plain.entries ≡ map plain_draft
-        entries.entry.items → turn_order (placed_by R.Rules).plain dispatcher ≡ (frames_of plain frame).order) }
+    ensures order { IfOk result (λ made. (plain : Draft) (frame : ℕ) → plain.entries ≡ map plain_draft
+        entries.entry.items → turn_order (placed_by R.Rules).plain made ≡ (frames_of plain frame).order) }
     ensures staged { IfOk result
         (λ dispatcher. All (IsOfBook (placed_by R.Rules) (R.book rules.now)) dispatcher.staging.systems) }
     ensures locals { IfOk result

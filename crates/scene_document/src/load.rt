@@ -56,13 +56,12 @@ pub fn read_document_with<'a, R: DocumentRules>(
     rest: &'a Value,
     entities: Vec<EntityDraft<R::Data>>,
 ) -> Result<DocumentDraft<'a, R::Data, R::Global, R::System>, LoadError>
-    ensures { (json : Json) → IsApart R.part_of (R.book rules.now) json (view rest.now) entities.items
+    ensures { (json : Json) → let book = R.book rules.now in IsApart R.part_of book json (view rest.now) entities.items
         → MatchResult result
-        (λ draft. (plain : Draft)
-        × (document_from (R.book rules.now) limits.indices json ≡ Ok plain)
-        × IsDraft R.part_of R.global_of R.kind_of R.config_of (R.book rules.now) plain draft
+        (λ draft. (one : Draft) × (document_from book limits.indices json ≡ Ok one)
+        × IsDraft R.part_of R.global_of R.kind_of R.config_of book one draft
         × AreMade R.declared R.said_time (R.made_by rules.now) draft.entries.items)
-        (IsNotLoaded (R.book rules.now) limits.indices json) }
+        (IsNotLoaded book limits.indices json) }
 {
     let draft = match read_draft_with(alloc, rules, rest, entities) {
         Ok(draft) => draft,

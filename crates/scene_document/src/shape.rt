@@ -56,12 +56,12 @@ pub fn read_draft_with<'a, R: DocumentRules>(
     rest: &'a Value,
     entities: Vec<EntityDraft<R::Data>>,
 ) -> Result<DocumentDraft<'a, R::Data, R::Global, R::System>, ReadError>
-    ensures { (json : Json) → IsApart R.part_of (R.book rules.now) json (view rest.now) entities.items
+    ensures { (json : Json) → let book = R.book rules.now in IsApart R.part_of book json (view rest.now) entities.items
         → MatchResult result
-        (λ draft. (plain : Draft) × (draft_from (R.book rules.now) json ≡ Some plain)
-        × IsDraft R.part_of R.global_of R.kind_of R.config_of (R.book rules.now) plain draft
+        (λ draft. (one : Draft) × (draft_from book json ≡ Some one)
+        × IsDraft R.part_of R.global_of R.kind_of R.config_of book one draft
         × AreMade R.declared R.said_time (R.made_by rules.now) draft.entries.items)
-        (λ error. error ≡ Shape → draft_from (R.book rules.now) json ≡ None) }
+        (λ why. why ≡ Shape → draft_from book json ≡ None) }
 {
     let Some(members) = rest.as_object() else {
         return Err(ReadError::Shape);

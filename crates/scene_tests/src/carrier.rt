@@ -1,10 +1,10 @@
 //! A run in small: the document that was read is the text that is written.
 ghost use Rattle.std.specs.Prelude.{◌≡◌, ◌⊎◌, ℕ, ◌≤◌, length, take, IfSome, IfOk, OnOk};
 ghost use Rattle.std.specs.Io.KnownBytes.{Appends};
-ghost use Rattle.scene_devices.specs.Faults.{HasFailed};
-ghost use Rattle.scene_devices.specs.Reading.{GivesAtLeast};
+ghost use Rattle.scene.specs.Faults.{HasFailed};
+ghost use Rattle.scene.specs.Reading.{GivesAtLeast};
 
-use scene_devices::{
+use scene::devices::{
     Counted, CountedRead, CountedWrite, MOST_READS, ReadFailure, read_bytes, write_text,
 };
 use std::alloc::Global;

@@ -1,7 +1,7 @@
 //! Reads to the end and writes of a whole text over devices that count their failures.
 use crate::carrier::{CarryError, carry, carry_in_memory};
 use crate::devices::{Buffered, Full, Narrow, Slow};
-use scene_devices::{Counted, Faults, ReadFailure, WriteFailure, read_bytes, read_within};
+use scene::devices::{Counted, Faults, ReadFailure, WriteFailure, read_bytes, read_within};
 use std::alloc::{AllocError, Global};
 use std::io::{self, ErrorKind, Read, Write};
 use std::test::Fail;

@@ -2,7 +2,7 @@
 ghost use Rattle.std.specs.Prelude.{◌≡◌, [], ◌++◌, Some};
 ghost use Rattle.std.specs.Io.{ReadsAtMost};
 
-use scene_devices::{CountedWrite, Faults};
+use scene::devices::{CountedWrite, Faults};
 use std::alloc::Global;
 use std::io::{Error, ErrorKind, Read, Result, Write};
 

@@ -1,8 +1,8 @@
 //! A caller that puts another entity in the place of one that is kept.
 ghost use Rattle.std.specs.Prelude.{◌≡◌, ◌≢◌, ◌<◌, ◌+◌, ℕ, Some, is_some, if◌then◌else◌};
-ghost use Rattle.scene_snapshot.specs.Rows.{seat_at, datum_at, counted, kinds_kept, HasRoom};
+ghost use Rattle.scene.specs.Rows.{seat_at, datum_at, counted, kinds_kept, HasRoom};
 
-use scene_snapshot::KeptScene;
+use scene::snapshot::KeptScene;
 
 /// At an index another id stands, with this datum of the first kind: what the index bore is left out, the datum is
 /// written, and the id is entered.

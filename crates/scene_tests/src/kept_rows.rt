@@ -1,8 +1,8 @@
 //! Calls on what is kept, one after the other, and what each leaves.
 ghost use Rattle.std.specs.Prelude.{◌≡◌, IfOk};
-ghost use Rattle.scene_snapshot.specs.Rows.{kinds_kept};
+ghost use Rattle.scene.specs.Rows.{kinds_kept};
 
-use scene_snapshot::KeptScene;
+use scene::snapshot::KeptScene;
 use std::alloc::{AllocError, Global};
 
 /// A call.

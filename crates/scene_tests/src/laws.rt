@@ -2,15 +2,15 @@
 ghost use Rattle.std.specs.Prelude.{IfSome};
 ghost use Rattle.scene.specs.Members.{IsReadyBy};
 
+use scene::laws::{
+    a_printed_scene_is_read_again, a_ready_scene_can_be_read, a_system_changes_what_it_declares,
+    an_id_is_given_once, frames_in_two_parts, print_and_load,
+};
 use scene::{Limits, Rules, Scene};
 use scene_basics::Basics;
 use scene_basics::laws::{
     a_document_has_one_outcome, a_turn_has_one_outcome, a_turn_keeps_references,
     references_go_on_living, workers_and_store_do_not_show,
-};
-use scene_laws::{
-    a_printed_scene_is_read_again, a_ready_scene_can_be_read, a_system_changes_what_it_declares,
-    an_id_is_given_once, frames_in_two_parts, print_and_load,
 };
 use std::alloc::{AllocError, Global};
 use std::sync::Wait;

@@ -31,6 +31,8 @@ mod memory;
 #[cfg(test)]
 mod pictures;
 #[cfg(test)]
+mod printed_values;
+#[cfg(test)]
 mod queues;
 #[cfg(test)]
 mod readings;

@@ -3,13 +3,13 @@ ghost use Rattle.std.specs.Prelude.{◌≡◌, IfOk};
 ghost use Rattle.serde_json.specs.View.{view};
 ghost use Rattle.scene.specs.Limits.{AreLimits};
 ghost use Rattle.scene_basics.specs.Systems.{basics};
-ghost use Rattle.scene_laws.specs.Resumed.{GoesOn};
+ghost use Rattle.scene.specs.Resumed.{GoesOn};
 
+use scene::laws::{Course, ResumeError, run_in_parts};
 use scene::{DocRefusal, Limits, LoadError};
 use scene_basics::Basics;
 use scene_basics::laws::a_turn_has_one_outcome;
 use scene_document::{JsonError, read_json};
-use scene_laws::{Course, ResumeError, run_in_parts};
 use serde_json::Value;
 use std::alloc::Global;
 use std::sync::Wait;

@@ -1,10 +1,10 @@
 //! Texts of scenes that are kept.
 ghost use Rattle.std.specs.Prelude.{◌≡◌};
-ghost use Rattle.scene_snapshot.specs.Rows.{kinds_kept};
+ghost use Rattle.scene.specs.Rows.{kinds_kept};
 
+use scene::snapshot::{KeptScene, kept_text};
 use scene_basics::Basics;
 use scene_basics::data::Datum;
-use scene_snapshot::{KeptScene, kept_text};
 use std::alloc::{AllocError, Global};
 
 /// What is kept of an entity: its bond, its hp, its owner, its pos and its vel.

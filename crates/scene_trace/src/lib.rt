@@ -14,6 +14,7 @@ mod following;
 mod leads;
 mod lines;
 mod outline;
+pub mod pictures;
 mod plain;
 mod recording;
 mod together;

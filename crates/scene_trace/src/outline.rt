@@ -1,8 +1,8 @@
 //! What a document is to do: the plan of its systems, and how many frames.
+use crate::pictures::{Plan, PlanSystem};
 use crate::turning::json_of;
 use scene_document::{DocumentDraft, EntryDraft, Limits, LoadError, SystemDraft, read_document};
 use scene_model::DocumentRules;
-use scene_pictures::{Plan, PlanSystem};
 use shred_plan::{Adding, Planner};
 use smallvec::SmallVec;
 use std::alloc::{AllocError, Global};

@@ -2,9 +2,9 @@
 use crate::course::Kinds;
 use crate::events::{FrameTrace, Refusal};
 use crate::lines::{deed_sentences, lead_text};
+use crate::pictures::Record;
 use crate::plain::{Part, Parts, Plain};
 use crate::tracing::{Halted, Watcher};
-use scene_pictures::Record;
 use serde_json::Value;
 use std::alloc::{AllocError, Global};
 use std::collections::BTreeMap;

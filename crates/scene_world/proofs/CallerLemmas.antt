@@ -11,4 +11,5 @@ pub use Rattle.scene_world.proofs.ShownLemmas.{HasColumn, shown-put, shown-taken
 pub use Rattle.scene_world.proofs.AgeLemmas.{ages-none, ages-both, ages-by-death, ages-by-birth}
 pub use Rattle.scene_world.proofs.EachLemmas.{each-same, each-none, each-mapped, each-more, each-passed}
 pub use Rattle.scene_world.proofs.OwningLemmas.{same-owning}
-pub use Rattle.scene_world.proofs.KnownLemmas.{none-noted, none-lives, lent-none, lent-some, found-give}
+pub use Rattle.scene_world.proofs.KnownLemmas.{none-noted, none-lives, lent-none, lent-some, found-give, known-index}
+pub use Rattle.scene_world.proofs.ColumnLemmas.{plain-registers, having-each, given-kept, given-next, given-all}

@@ -90,7 +90,7 @@ module _ (roll : Roll) where
       by later (Some m) known f = at later m known (eqb m id) refl f
 
   -- an id that is known at one of them is found
-  lives-found : (id index : ℕ) → known_at roll index ≡ Some id → (indices : List ℕ) → list_any (eqb index) indices ≡ true → lives id (found indices) ≡ true
+  pub lives-found : (id index : ℕ) → known_at roll index ≡ Some id → (indices : List ℕ) → list_any (eqb index) indices ≡ true → lives id (found indices) ≡ true
   lives-found id index known [] e = absurd (false≢true e)
   lives-found id index known (first ∷ indices) e = by (eqb index first) refl e (lives-found id index known indices)
     where

@@ -16,3 +16,4 @@ pub mod EachLemmas
 pub mod ShownLemmas
 pub mod AgeLemmas
 pub mod KnownLemmas
+pub mod ColumnLemmas

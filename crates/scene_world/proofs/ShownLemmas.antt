@@ -1,10 +1,8 @@
 -- What the events of a world show, of no change, of one change after another, and of a value through what stands there.
-use Rattle.std.proofs.Common.{◌≡◌, ◌<◌, ℕ, Bool, true, false, cond, ◌&&◌, ◌||◌, [], ◌∷◌, length, Option, None, Some, is_some, option_map, inl, inr, ◌⊎◌, refl, ap, sym, subst, ◌∙◌, arith}
+use Rattle.std.proofs.Common.{◌≡◌, ◌<◌, ℕ, Bool, true, false, cond, [], ◌∷◌, length, Option, None, Some, is_some, option_map, inl, inr, ◌⊎◌, refl, ap, sym, subst, ◌∙◌, arith}
 use Rattle.std.proofs.lemmas.Bool.{cases_eq, false≢true}
 use Rattle.std.proofs.lemmas.List.{append-nil}
-use Rattle.std.specs.Prelude.{nat_lt}
-use Rattle.hibitset_sets.specs.BitSet.{SetWithRoom, has_member}
-use Rattle.specs_layouts.specs.Channels.{Log, CaughtUp, IsReader, log_of, no_log, unread, with_more}
+use Rattle.specs_layouts.specs.Channels.{Log, CaughtUp, IsReader, log_of, unread, with_more}
 use Rattle.specs_layouts.specs.Flagged.{Flagged, tells}
 use Rattle.specs_layouts.specs.Masked.{Masked}
 use Rattle.specs_layouts.specs.Parts.{Puts, SameParts, told}
@@ -14,7 +12,7 @@ use Rattle.specs_layouts.specs.declared.track.ComponentEvent.TheVariants.{Insert
 use Rattle.specs_layouts.proofs.CallerLemmas.{shows-refl, shows-same, shows-taken, shows-trans}
 use Rattle.scene_model.specs.Parts.{Name}
 use Rattle.scene_world.specs.Standing.{Sight, Kinds, column_in, events_in, emits_in, marker_in, marker_events_in, marker_emits_in}
-use Rattle.scene_world.specs.Telling.{ShowsKind, ShowsMarkers, ShowsWorld, TellsAll, GainsReader, CatchesUp, TakesTold, is_told, with_reader_more}
+use Rattle.scene_world.specs.Telling.{ShowsKind, ShowsMarkers, ShowsWorld, TellsAll, GainsReader, CatchesUp, with_reader_more}
 use Rattle.scene_world.specs.Stored.{Stored}
 use Rattle.scene_world.specs.Stores.{store_part}
 use Rattle.scene_world.specs.declared.any_store.AnyStore.{AnyStore}

@@ -22,3 +22,6 @@ pub mod Writes
 pub mod Stops
 pub mod Members
 pub mod Known
+pub mod Columns
+pub mod ColumnLaws
+pub mod RuleLemmas

@@ -68,7 +68,7 @@ where
     ensures events { OnOk result (log_of channel.new ≡ told_each true (log_of channel.old)
         (shared_indices mask.now (R.joins read))) }
     ensures shows { (more : List ComponentEvent) × (log_of channel.new ≡ with_more (log_of channel.old) more)
-        × ((index : ℕ) → (store_part parts.new index ≡ store_part parts.old index) ⊎ Names more index) }
+        × ((here : ℕ) → (store_part parts.new here ≡ store_part parts.old here) ⊎ Names more here) }
     ensures same { (index : ℕ) → is_some (store_part parts.new index) ≡ is_some (store_part parts.old index) }
     ensures memory { IfErr result (OnMemory
         ((index : ℕ) × AreChangedBelow (C.changed change.now) (store_part parts.old) (R.joins read) index

@@ -68,8 +68,8 @@ pub fn a_part_at_an_index_is_one_at_its_id<V>()
 /// The death of an entity with its parts takes its id out of the scene: references to it are gone, and so they stay. A
 /// kill is the deaths of all that it takes, one after another.
 pub fn a_death_takes_one_out<V>()
-    ensures roll { (kinds : Kinds V) (w later : Sight V) (id index : ℕ) → IsRoll (roll_of kinds w)
-        → id_at (roll_of kinds w) index ≡ Some id → Buries kinds id index w later → IsRoll (roll_of kinds later) }
+    ensures roll { (kinds : Kinds V) (w later : Sight V) (id here : ℕ) → IsRoll (roll_of kinds w)
+        → id_at (roll_of kinds w) here ≡ Some id → Buries kinds id here w later → IsRoll (roll_of kinds later) }
     ensures lived { (kinds : Kinds V) (w : Sight V) (id index : ℕ) → IsRoll (roll_of kinds w)
         → id_at (roll_of kinds w) index ≡ Some id → lives id (plain_of kinds w).ids ≡ true }
     ensures scene { (kinds : Kinds V) (w later : Sight V) (id index : ℕ) → IsRoll (roll_of kinds w)
@@ -83,11 +83,11 @@ pub fn a_birth_is_a_spawn<V>()
     ensures roll { (kinds : Kinds V) (w later : Sight V) (entity : LifeAt) (parts : Name → Option Stored)
         → IsRoll (roll_of kinds w) → AreBelow (roll_of kinds w) → Bears kinds entity parts w later
         → IsRoll (roll_of kinds later) }
-    ensures scene { (owning : List Name) (kinds : Kinds V) (w now : Sight V) (entity : LifeAt)
-        (parts : Name → Option Stored) (given : List (Name × Part)) → IsRoll (roll_of kinds w)
-        → AreBelow (roll_of kinds w) → Bears kinds entity parts w now
-        → HaveLiving (plain_of kinds w) given → HasNextId (roll_of kinds w)
-        → AreGiven kinds w parts given → apply owning (spawn given) (plain_of kinds w) ≡ changed (plain_of kinds now) }
+    ensures scene { (owning : List Name) (kinds : Kinds V) (w now : Sight V) (one : LifeAt)
+        (parts : Name → Option Stored) (list : List (Name × Part)) → let roll = roll_of kinds w in
+        IsRoll roll → AreBelow roll → Bears kinds one parts w now
+        → HaveLiving (plain_of kinds w) list → HasNextId roll
+        → AreGiven kinds w parts list → apply owning (spawn list) (plain_of kinds w) ≡ changed (plain_of kinds now) }
 {}
 
 /// The events of a world show nothing where nothing changed, and of one change after another both. Changes are told

@@ -4,6 +4,7 @@
 
 pub mod any_store;
 pub mod changes;
+pub mod columns;
 pub mod known;
 pub mod laws;
 pub mod marker;
@@ -16,6 +17,7 @@ mod value;
 
 pub use any_store::AnyStore;
 pub use changes::change_parts;
+pub use columns::{Column, PlainPart};
 pub use marker::{SceneMarker, SceneMarkerAllocator, no_markers};
 pub use parts::{SceneStorage, scene_storage};
 pub use placed::Placed;

@@ -1,11 +1,13 @@
 //! What a world of a scene holds beside the parts and globals of its rules.
-ghost use Rattle.std.specs.Prelude.{◌≡◌, ℕ, false, Some, None, IfOk, IfErr, OnErr, IfSome, IfNone, option_copied};
+ghost use Rattle.std.specs.Prelude.{◌≡◌, ◌<◌, ℕ, false, Some, None, IfOk, IfErr, OnOk, OnErr, IfSome, IfNone, option_copied};
 ghost use Rattle.std.specs.Option.{option_and_then, option_copied_mut, option_map_or};
 ghost use Rattle.std.specs.Borrow.{LendsIf, sem};
 ghost use Rattle.shred_world.specs.ResourceIds.{id_of};
 ghost use Rattle.specs_entity.specs.Births.{Births};
 ghost use Rattle.specs_entity.specs.contracts.entities_res.EntitiesRes.{the_row as entities_row};
 ghost use Rattle.specs_layouts.specs.Channels.{no_log};
+ghost use Rattle.specs_layouts.specs.Parts.{Puts};
+ghost use Rattle.specs_layouts.specs.Shows.{Shows};
 ghost use Rattle.specs_markers.specs.Simple.{Noting};
 ghost use Rattle.scene_world.specs.contracts.marker.SceneMarkerAllocator.{the_row as allocator_row};
 ghost use Rattle.scene_world.specs.Markers.{marker_at, marker_log, marker_tells};
@@ -15,6 +17,7 @@ use scene_model::Queue;
 use shred_world::{Resource, ResourceId};
 use specs_entity::EntitiesRes;
 use specs_layouts::MaskedStorage;
+use std::alloc::AllocError;
 
 /// A type of values in one kind of which lies a queue of commands.
 ///
@@ -124,6 +127,23 @@ pub trait SceneValue<D: Drop>: Sized {
         ensures silent { OnErr result (places.marker_events value ≡ no_log) }
         ensures handed_back { IfErr result (λ other. other ≡ value) };
 
+    /// Marks an index, in place of the marker that is there, where a value holds markers.
+    ///
+    /// Errors: want of memory, and where it holds none.
+    fn insert_marker(value: &mut Self, index: u32, marker: SceneMarker) -> Result<(), AllocError>
+        requires { index < 16777216 }
+        ensures puts { OnOk result (Puts (places.marker value.old) index (Some marker) (places.marker value.new)) }
+        ensures shown { OnOk result (Shows places.marker places.marker_events places.marker_emits value.old
+            value.new) };
+
+    /// Takes the marker at an index out, if there is one, where a value holds markers.
+    ///
+    /// Errors: want of memory, and where it holds none.
+    fn drop_marker(value: &mut Self, index: u32) -> Result<(), AllocError>
+        ensures takes { OnOk result (Puts (places.marker value.old) index None (places.marker value.new)) }
+        ensures shown { OnOk result (Shows places.marker places.marker_events places.marker_emits value.old
+            value.new) };
+
     /// The allocator of ids that a value holds, if it holds it.
     fn allocator(value: &Self) -> Option<&SceneMarkerAllocator>
         ensures { option_copied result ≡ places.noting value.now };
@@ -212,6 +232,24 @@ where
 
     fn unwrap_markers(value: V) -> Result<MaskedStorage<SceneMarker>, V> {
         <MaskedStorage<SceneMarker> as Resource<V>>::unwrap(value)
+    }
+
+    fn insert_marker(value: &mut V, index: u32, marker: SceneMarker) -> Result<(), AllocError> {
+        let Some(markers) = <MaskedStorage<SceneMarker> as Resource<V>>::view_mut(value) else {
+            return Err(AllocError);
+        };
+        match markers.insert(index, marker) {
+            Ok(_) => Ok(()),
+            Err(_) => Err(AllocError),
+        }
+    }
+
+    fn drop_marker(value: &mut V, index: u32) -> Result<(), AllocError> {
+        let Some(markers) = <MaskedStorage<SceneMarker> as Resource<V>>::view_mut(value) else {
+            return Err(AllocError);
+        };
+        markers.drop(index)?;
+        Ok(())
     }
 
     fn allocator(value: &V) -> Option<&SceneMarkerAllocator> {

@@ -1,33 +1,24 @@
 -- The laws of the rules of the test.
-use Rattle.std.proofs.Common.{◌≡◌, ℕ, Bool, true, false, cond, [], ◌∷◌, Option, Some, None, option_map, is_some, refl, subst, below_none}
+use Rattle.std.proofs.Common.{◌≡◌, ℕ, Bool, true, false, cond, [], ◌∷◌, Option, Some, None, option_map, is_some, refl, subst}
 use Rattle.std.specs.Str.{bytes_eq}
-use Rattle.std.specs.Ordering.{nat_cmp}
-use Rattle.std.specs.Cmp.Lexicographic.{slice_cmp}
-use Rattle.std.specs.declared.cmp.Ordering.TheVariants.{Less}
 use Rattle.std.proofs.lemmas.Option.{none-some, same_Some}
-use Rattle.std.proofs.lemmas.Bool.{false≢true}
 use Rattle.std.proofs.lemmas.List.Elements.{All-nil, All-cons}
-use Rattle.std.proofs.lemmas.List.Kept.{AllPairs-cons}
-use Rattle.serde_json.specs.Data.{null, boolean, number, string, array, object}
+use Rattle.serde_json.specs.Data.{number}
 use Rattle.serde_json.specs.Find.{as_null}
 use Rattle.serde_json.specs.Written.{has_float}
 use Rattle.scene_model.specs.Parts.{Json, Name, Part, is_among}
 use Rattle.scene_model.specs.Rulebook.{Facts, unknown, known, misshapen}
 use Rattle.scene_model.specs.Laws.{Ascend, DeclaresKnown}
+use Rattle.scene_world.specs.RuleLemmas.{ascending-names}
 use Rattle.scene_world_tests.specs.Drifting.{pos_name, vel_name, drift_name, counting, number_in, is_counting, drift_access, drift_facts, drifting_book}
-
--- one name is below another
-abbrev Below : Name → Name → Type 0
-Below one other = slice_cmp nat_cmp one other ≡ Less
 
 -- the kinds ascend
 pub law-kinds_ascend : Ascend (pos_name ∷ vel_name ∷ [])
-law-kinds_ascend = AllPairs-cons Below pos_name (vel_name ∷ []) (All-cons (Below pos_name) vel_name [] refl (All-nil (Below pos_name)))
-    (AllPairs-cons Below vel_name [] (All-nil (Below vel_name)) (λ i j d lt within. absurd (below_none (λ (k : ℕ). ⊥) j within)))
+law-kinds_ascend = ascending-names (pos_name ∷ vel_name ∷ []) refl
 
 -- and so do no names of globals
 pub law-globals_ascend : Ascend []
-law-globals_ascend = λ i j d lt within. absurd (below_none (λ (k : ℕ). ⊥) j within)
+law-globals_ascend = ascending-names [] refl
 
 -- what is read is a number
 pub law-reads_admitted : (kind : Name) (json : Json) (part : Part) → drifting_book.read_part kind json ≡ Some part → drifting_book.admits kind part ≡ true
@@ -44,15 +35,6 @@ law-reads_back kind n admitted = refl
 -- no float is written for a number
 pub law-no_float : (n : ℕ) → has_float (counting n).json ≡ false
 law-no_float n = refl
-
--- a configuration that is null is null
-pub null-as_null : (config : Json) → is_some (as_null config) ≡ true → null ≡ config
-null-as_null null e = refl
-null-as_null (boolean b) e = absurd (false≢true e)
-null-as_null (number n) e = absurd (false≢true e)
-null-as_null (string s) e = absurd (false≢true e)
-null-as_null (array _) e = absurd (false≢true e)
-null-as_null (object _) e = absurd (false≢true e)
 
 abbrev KindKnown : Name → Type 0
 KindKnown kind = is_among kind drifting_book.part_names ≡ true

@@ -1,36 +1,24 @@
 -- The laws of the rules of the test.
-use Rattle.std.proofs.Common.{◌≡◌, ℕ, Bool, true, false, cond, eqb, [], ◌∷◌, Option, Some, None, refl, subst, below_none}
+use Rattle.std.proofs.Common.{◌≡◌, ℕ, Bool, true, false, cond, eqb, [], ◌∷◌, Option, Some, None, refl, subst}
 use Rattle.std.specs.Prelude.{option_map}
 use Rattle.std.specs.Str.{bytes_eq}
-use Rattle.std.specs.Ordering.{nat_cmp}
-use Rattle.std.specs.Cmp.Lexicographic.{slice_cmp}
-use Rattle.std.specs.declared.cmp.Ordering.TheVariants.{Less}
 use Rattle.std.proofs.lemmas.Option.{none-some, same_Some}
 use Rattle.std.proofs.lemmas.Bool.{false≢true, eq-eqb}
-use Rattle.std.proofs.lemmas.List.Elements.{All-nil, All-cons}
-use Rattle.std.proofs.lemmas.List.Kept.{AllPairs-cons}
 use Rattle.serde_json.specs.Written.{has_float}
 use Rattle.scene_model.specs.Parts.{Json, Name, Part}
 use Rattle.scene_model.specs.Laws.{Ascend}
+use Rattle.scene_world.specs.RuleLemmas.{ascending-names}
 use Rattle.scene_world_tests.specs.Owning.{owner_name, rank_name, era_name, counted, owned_by, ranked, part_of, part_for, number_in, is_owner, is_rank, owning_book}
 use Rattle.scene_world_tests.specs.declared.commands.datum.Datum.{Datum}
 use Rattle.scene_world_tests.specs.declared.commands.datum.Datum.TheVariants.{OwnedBy, Ranked}
 
--- one name is below another
-abbrev Below : Name → Name → Type 0
-Below one other = slice_cmp nat_cmp one other ≡ Less
-
--- a single name ascends
-alone : (name : Name) → Ascend (name ∷ [])
-alone name = AllPairs-cons Below name [] (All-nil (Below name)) (λ i j d lt within. absurd (below_none (λ (k : ℕ). ⊥) j within))
-
 -- the kinds ascend
 pub law-kinds_ascend : Ascend (owner_name ∷ rank_name ∷ [])
-law-kinds_ascend = AllPairs-cons Below owner_name (rank_name ∷ []) (All-cons (Below owner_name) rank_name [] refl (All-nil (Below owner_name))) (alone rank_name)
+law-kinds_ascend = ascending-names (owner_name ∷ rank_name ∷ []) refl
 
 -- and so does the name of the global
 pub law-globals_ascend : Ascend (era_name ∷ [])
-law-globals_ascend = alone era_name
+law-globals_ascend = ascending-names (era_name ∷ []) refl
 
 -- whether a part for a number is of its kind, by whether that is the first
 admitted-as : (owns : Bool) (n : ℕ) → (λ (part : Part). cond owns (is_owner (number_in part.json) part.refs) (is_rank (number_in part.json) part.refs)) (cond owns (owned_by n) (ranked n)) ≡ true

@@ -6,7 +6,7 @@ use crate::writing::write_to;
 use scene::Limits;
 use scene_basics::Basics;
 use scene_basics::lines::name;
-use scene_pictures::run_page;
+use scene_trace::pictures::run_page;
 use scene_trace::{
     FrameTrace, Halted, Kinds, LoadError, Outline, Plain, Recorder, TraceError, Watcher,
     outline_of, trace,

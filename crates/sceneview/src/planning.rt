@@ -5,7 +5,7 @@ use crate::writing::write_to;
 use scene::Limits;
 use scene_basics::Basics;
 use scene_basics::lines::name;
-use scene_pictures::plan_svg;
+use scene_trace::pictures::plan_svg;
 use scene_trace::{LoadError, outline_of};
 use std::rt::Files;
 

@@ -9,3 +9,9 @@ pub mod NumberLemmas
 pub mod BundleLemmas
 pub mod TurnLemmas
 pub mod CallerLemmas
+pub mod HalfLemmas
+pub mod TreeOrderLemmas
+mod CellLemmas
+mod HeldLemmas
+mod SeatLemmas
+mod HashedLemmas

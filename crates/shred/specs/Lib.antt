@@ -16,3 +16,10 @@ pub mod Nothing
 pub mod Standing
 pub mod Eithers
 pub mod Bundling
+pub mod Trees
+pub mod TreeLaws
+pub mod Rooms
+pub mod Causes
+pub mod Cells
+pub mod Held
+pub mod Words

@@ -19,9 +19,9 @@ ghost use Rattle.shred.specs.Histories.{Asked, system as adding, built_from, tol
 ghost use Rattle.shred.specs.Numbers.{IsUnder};
 
 use crate::System;
+pub use crate::trees::laws as trees;
 pub use shred_plan::laws as planner;
 pub use shred_stages::laws as stages;
-pub use shred_trees::laws as trees;
 use shred_world::ResourceId;
 pub use shred_world::laws as worlds;
 

@@ -1,8 +1,8 @@
 //! Trees as local systems.
 ghost use Rattle.std.specs.Prelude.{◌≡◌, None};
 
+use crate::trees::{ParSeq, RunWithPool};
 use crate::{RunNow, Stop};
-use shred_trees::{ParSeq, RunWithPool};
 use shred_world::{Holder, World};
 use std::alloc::AllocError;
 

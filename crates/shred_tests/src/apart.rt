@@ -13,10 +13,10 @@ use shred::laws::{different_numbers_do_not_conflict, systems_apart_commute};
 /// it did, whether it refuses or not, and both come to the same.
 pub fn systems_under_two_numbers_commute<V, S: System<V>>()
     ensures { (number another : ℕ) (one other : Placing Id) (before between after : State V S)
-        (stop stop_other : Option Stop)
+        (stop last : Option Stop)
         → number ≢ another → IsUnder number one → IsUnder another other → one.number ≢ other.number
-        → Turn S.meets one before stop between → Turn S.meets other between stop_other after
-        → (middle : State V S) × Turn S.meets other before stop_other middle × Turn S.meets one middle stop after }
+        → Turn S.meets one before stop between → Turn S.meets other between last after
+        → (middle : State V S) × Turn S.meets other before last middle × Turn S.meets one middle stop after }
 {
     different_numbers_do_not_conflict();
     systems_apart_commute::<V, S>();

@@ -1,6 +1,6 @@
 //! Which borrows of a cell are accepted, and beside whom.
-use shred_cells::TrustCell;
-use shred_cells::cell_core::{MOST_READERS, State, Step, next_state, run};
+use shred::TrustCell;
+use shred::cell_core::{MOST_READERS, State, Step, next_state, run};
 use std::mem;
 use std::sync::Wait;
 

@@ -1,6 +1,6 @@
 //! Calls on resources in cells, one after another: what is lent and beside whom, what is refused, and what comes back.
 use crate::values::{Number, Speed, Value, count_in, number_under};
-use shred_cells::{FetchError, InvalidBorrow, SharedFetch, SharedFetchMut, SharedWorld};
+use shred::{FetchError, InvalidBorrow, SharedFetch, SharedFetchMut, SharedWorld};
 use shred_world::{Missing, ResourceId, World};
 use std::alloc::{AllocError, Global};
 use std::sync::Wait;

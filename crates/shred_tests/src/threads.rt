@@ -1,6 +1,6 @@
 //! What threads leave in cells: writers of several threads add up, and readers of two stand beside each other.
 use crate::values::{Number, Value};
-use shred_cells::{SharedWorld, TrustCell};
+use shred::{SharedWorld, TrustCell};
 use std::alloc::{AllocError, Global};
 use std::sync::Wait;
 use std::sync::atomic::AtomicU64;

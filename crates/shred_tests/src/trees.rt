@@ -3,9 +3,9 @@ use crate::values::Value;
 use crate::workers::{
     Does, End, FIRST, FOURTH, IDLE, Plain, SECOND, THIRD, average, gates, numbers_of, world_of,
 };
+use shred::laws::trees::{par_means_seq, par_runs_either_way};
+use shred::{Leaf, Nil, Par, ParError, ParSeq, RunWithPool, Seq};
 use shred_stages::{Stop, System};
-use shred_trees::laws::{par_means_seq, par_runs_either_way};
-use shred_trees::{Leaf, Nil, Par, ParError, ParSeq, RunWithPool, Seq};
 use shred_world::{ResourceId, World};
 use std::alloc::{AllocError, Global};
 use std::thread::Threads;
@@ -170,7 +170,7 @@ fn in_turn<S: System<Value> + Drop>(
     let Ok(third) = leaf(alloc, third) else {
         return Err(AllocError);
     };
-    Ok(shred_trees::seq![first, second, third])
+    Ok(shred::seq![first, second, third])
 }
 
 /// Three systems, side by side.
@@ -189,7 +189,7 @@ fn side_by_side<S: System<Value> + Drop>(
     let Ok(third) = leaf(alloc, third) else {
         return Err(ParError::Memory);
     };
-    shred_trees::par![in alloc; first, second, third]
+    shred::par![in alloc; first, second, third]
 }
 
 /// How a run ends.

@@ -5,38 +5,17 @@ use Rattle.std.proofs.lemmas.Option.{same_Some}
 use Rattle.std.specs.Option.{option_and_then, option_flatten}
 use Rattle.std.specs.Prelude.{slice_get, slice_set}
 use Rattle.std.specs.FinMap.{get, insert, remove, get-insert, get-remove}
-use Rattle.shred_world.specs.declared.resource_id.ResourceId.{ResourceId}
-use Rattle.shred_world.specs.ResourceIds.{same_id}
-use Rattle.shred_world.specs.Worlds.{Slots, value_at}
-use Rattle.shred_world.specs.Bundles.{Slot, absent, out, shared, owned, Holding, takable, with_slot, holding_of, slot_of, is_listed}
-use Rattle.shred_world.specs.Leaving.{Leaves}
-use Rattle.shred_world.proofs.BundleLemmas.{with_slot-with_slot}
-use Rattle.shred_world.proofs.CallerLemmas.{ids_total}
-use Rattle.shred_plan.specs.Plan.{Placing, plan_order}
-use Rattle.shred_stages.specs.declared.stop.Stop.{Stop}
-use Rattle.shred_stages.specs.declared.error.DispatchError.{DispatchError}
-use Rattle.shred_stages.specs.Views.{cut, error_of}
-use Rattle.shred_stages.specs.Changes.{with_values}
-use Rattle.shred_stages.specs.Runs.{State, Turn}
-use Rattle.shred_stages.specs.Staging.{Staging}
-use Rattle.shred_stages.specs.Orders.{RunsUpToOrder, TakeTurns}
-use Rattle.shred_stages.proofs.CallerLemmas.{lent-owned, leaves-one, same-itself, step-lifted, turn-of, turns-in-any-order}
-use Rattle.shred.specs.declared.work.Work.{Work}
-use Rattle.shred.specs.declared.work.Work.TheVariants.{System}
-use Rattle.shred.specs.declared.nothing.NoBatch.{NoBatch}
-use Rattle.shred.specs.declared.nothing.NoLocal.{NoLocal}
-use Rattle.shred.specs.Batches.{Batched}
-use Rattle.shred.specs.Works.{WorkMeets}
-use Rattle.shred.specs.Dispatching.{Dispatching, StepsThenLocals, DispatchesInAnyOrder}
-use Rattle.shred.specs.Locals.{LocalsRun}
-use Rattle.specs_entity.specs.Births.{Births}
-use Rattle.specs_entity.specs.declared.ids.Entity.{Entity}
-use Rattle.specs_entity.specs.declared.phase_rule.EntityView.{EntityView}
-use Rattle.specs_entity.specs.declared.phase_seat.PhaseSeat.{PhaseSeat}
-use Rattle.specs_entity.specs.PhaseCore.{called}
-use Rattle.specs_entity.specs.PhaseSeats.{phase_at, view_at, births_at, StaysIn}
-use Rattle.specs_entity.specs.PhaseViews.{LooksAt}
-use Rattle.specs_entity.specs.SharedSeats.{IsBirth, IsDeletion}
+use Rattle.specs.specs.ForWorlds.{ResourceId, same_id, Slots, value_at}
+use Rattle.specs.specs.ForWorlds.{Slot, absent, out, shared, owned, Holding, takable, with_slot, holding_of, slot_of, is_listed}
+use Rattle.specs.specs.ForWorlds.{Leaves}
+use Rattle.specs.proofs.CallerLemmas.{with_slot-with_slot, ids_total}
+use Rattle.specs.specs.ForSystems.{Placing, plan_order, Stop, DispatchError, cut, error_of, with_values, State, Turn, Staging}
+use Rattle.specs.specs.ForSystems.{RunsUpToOrder, TakeTurns, Work, System, NoBatch, NoLocal, Batched, WorkMeets}
+use Rattle.specs.proofs.CallerLemmas.{lent-owned, leaves-one, same-itself, step-lifted, turn-of, turns-in-any-order}
+use Rattle.specs.specs.ForSystems.{Dispatching, StepsThenLocals, DispatchesInAnyOrder, LocalsRun}
+use Rattle.specs.specs.ForStorages.{Births, Entity}
+use Rattle.specs.specs.ForSeats.{EntityView, PhaseSeat, called, phase_at, view_at, births_at, StaysIn, LooksAt}
+use Rattle.specs.specs.ForSeats.{IsBirth, IsDeletion}
 use Rattle.simulation.specs.declared.colonies.values.Held.{Held}
 use Rattle.simulation.specs.declared.colonies.values.Held.TheVariants.{EntitiesHeld, TableHeld, SeatHeld}
 use Rattle.simulation.specs.declared.colonies.growing.Growth.{Growth}

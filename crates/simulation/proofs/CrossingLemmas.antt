@@ -2,7 +2,7 @@
 use denote.Param.Send.{IsSync, sendable, recorded_sync, enum_sync}
 use denote.Enum.Declared.{shape}
 use Rattle.std.proofs.Crossing.{crosses}
-use Rattle.specs_entity.proofs.CallerLemmas.{phase_seat_field_sync}
+use Rattle.specs.proofs.CallerLemmas.{phase_seat_field_sync}
 use Rattle.simulation.specs.contracts.colonies.values.Held.{the_row, the_type}
 
 pub held_sync : IsSync the_row

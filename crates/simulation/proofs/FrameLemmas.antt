@@ -6,27 +6,12 @@ use Rattle.std.specs.Option.{option_and_then, option_flatten}
 use Rattle.std.specs.FinMap.{get}
 use Rattle.std.specs.FinSet as fin
 use Rattle.std.proofs.lemmas.Option.{same_Some}
-use Rattle.shred_world.specs.declared.resource_id.ResourceId.{ResourceId}
-use Rattle.shred_world.specs.ResourceIds.{same_id, id_of}
-use Rattle.shred_world.specs.Worlds.{Slots}
-use Rattle.shred_world.specs.Bundles.{Slot, absent, out, shared, owned, Holding, holding_of, readable, slot_of}
-use Rattle.shred_plan.specs.Plan.{Placing, plan_order}
-use Rattle.shred_stages.specs.declared.stop.Stop.{Stop}
-use Rattle.shred_stages.specs.declared.error.DispatchError.{DispatchError}
-use Rattle.shred_stages.specs.Views.{cut}
-use Rattle.shred_stages.specs.Changes.{with_values}
-use Rattle.shred_stages.specs.Runs.{State, Turn}
-use Rattle.shred_stages.specs.Staging.{Staging}
-use Rattle.shred_stages.specs.Orders.{RunsUpToOrder, TakeTurns}
-use Rattle.shred_stages.proofs.CallerLemmas.{lent-owned, lent-read, same-itself, step-lifted, turn-of, turns-in-any-order}
-use Rattle.shred.specs.declared.work.Work.{Work}
-use Rattle.shred.specs.declared.work.Work.TheVariants.{System}
-use Rattle.shred.specs.declared.nothing.NoBatch.{NoBatch}
-use Rattle.shred.specs.declared.nothing.NoLocal.{NoLocal}
-use Rattle.shred.specs.Batches.{Batched}
-use Rattle.shred.specs.Locals.{LocalsRun}
-use Rattle.shred.specs.Works.{WorkMeets}
-use Rattle.shred.specs.Dispatching.{Dispatching, DispatchesInAnyOrder}
+use Rattle.specs.specs.ForWorlds.{ResourceId, same_id, id_of, Slots}
+use Rattle.specs.specs.ForWorlds.{Slot, absent, out, shared, owned, Holding, holding_of, readable, slot_of}
+use Rattle.specs.specs.ForSystems.{Placing, plan_order, Stop, DispatchError, cut, with_values, State, Turn, Staging}
+use Rattle.specs.specs.ForSystems.{RunsUpToOrder, TakeTurns, Work, System, NoBatch, NoLocal, Batched, LocalsRun, WorkMeets}
+use Rattle.specs.proofs.CallerLemmas.{lent-owned, lent-read, same-itself, step-lifted, turn-of, turns-in-any-order}
+use Rattle.specs.specs.ForSystems.{Dispatching, DispatchesInAnyOrder}
 use Rattle.simulation.specs.declared.steps.Step.{Step}
 use Rattle.simulation.specs.declared.steps.Step.TheVariants.{Movement, Reaping}
 use Rattle.simulation.specs.declared.values.Value.{Value}

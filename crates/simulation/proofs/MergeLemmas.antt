@@ -6,17 +6,11 @@ use Rattle.std.specs.FinMap.{get}
 use Rattle.std.specs.FinSet as fin
 use Rattle.std.proofs.lemmas.Option.{same_Some}
 use Rattle.std.proofs.lemmas.Bool.{cases_eq, eq-eqb, eqb-true, true≢false}
-use Rattle.shred_world.specs.declared.resource_id.ResourceId.{ResourceId}
-use Rattle.shred_world.specs.Worlds.{Slots}
-use Rattle.shred_world.specs.Bundles.{Slot, absent, out, shared, owned, Holding, holding_of, readable, slot_of}
-use Rattle.shred_stages.specs.Changes.{with_values}
-use Rattle.specs_entity.specs.Births.{Births, living, merged, is_named, indices_of}
-use Rattle.specs_entity.specs.declared.ids.Entity.{Entity}
-use Rattle.specs_layouts.specs.Drops.{ids_of, without, without_all}
-use Rattle.specs_layouts.specs.Parts.{SameParts}
-use Rattle.specs_join.specs.ChangeEach.{after}
-use Rattle.specs_world.specs.Resources.{Place, place, held}
-use Rattle.specs_world.specs.Dropping.{SlotDrops, Deletes, MergesIn}
+use Rattle.specs.specs.ForWorlds.{ResourceId, Slots, Slot, absent, out, shared, owned, Holding, holding_of, readable, slot_of}
+use Rattle.specs.specs.ForSystems.{with_values}
+use Rattle.specs.specs.ForStorages.{Births, living, merged, is_named, indices_of, Entity, ids_of, without, without_all}
+use Rattle.specs.specs.ForStorages.{SameParts, after}
+use Rattle.specs.specs.ForWorlds.{Place, place, held, SlotDrops, Deletes, MergesIn}
 use Rattle.simulation.specs.declared.parts.Position.{Position}
 use Rattle.simulation.specs.declared.parts.Velocity.{Velocity}
 use Rattle.simulation.specs.declared.values.Value.{Value}

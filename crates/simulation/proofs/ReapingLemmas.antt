@@ -3,12 +3,10 @@ use Rattle.std.proofs.Common.{◌≡◌, ◌≢◌, ℕ, ◌<◌, ◌⊎◌, Boo
 use Rattle.std.specs.FinSet as fin
 use Rattle.std.specs.List.{list_any}
 use Rattle.std.proofs.lemmas.Bool.{cases_eq, eq-eqb, eqb-true, true≢false, false≢true, or_right, and_parts, or_left, or_cases}
-use Rattle.hibitset_sets.specs.Walk.{walk}
-use Rattle.hibitset_sets.proofs.CallerLemmas.{any-walk, contains-with}
-use Rattle.specs_entity.specs.Births.{Births, deleted, living}
+use Rattle.specs.specs.ForStorages.{walk, Births, deleted, living, both_ways}
+use Rattle.specs.proofs.CallerLemmas.{any-walk, contains-with}
 use Rattle.simulation.specs.declared.parts.Position.{Position}
 use Rattle.simulation.specs.Steps.{Accepts, is_far, is_reaped}
-use Rattle.hibitset_sets.specs.BitSetEq.{both_ways}
 
 module _ (position : ℕ → Option Position) (before : Births) where
   -- the deletions that are accepted while some indices are left to look at

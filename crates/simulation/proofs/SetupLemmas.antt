@@ -3,14 +3,9 @@ use Rattle.std.proofs.Common.{◌≡◌, ℕ, eqb, List, [], ◌∷◌, refl, ap
 use Rattle.std.specs.Option.{option_and_then, option_flatten}
 use Rattle.std.specs.FinMap.{get}
 use Rattle.std.proofs.lemmas.Bool.{true≢false}
-use Rattle.shred_world.specs.declared.resource_id.ResourceId.{ResourceId}
-use Rattle.shred_world.specs.Worlds.{Slots}
-use Rattle.specs_world.proofs.CallerLemmas.{became, became-apart, put-parts, registered-anew, begun-births, begun-table, begun-others}
-use Rattle.specs_world.specs.Maintaining.{without_entities}
-use Rattle.specs_world.specs.Resources.{Place, place, Becomes, Registers, Allocates, IsBirth}
-use Rattle.specs_entity.specs.Births.{Births, living, none_born}
-use Rattle.specs_entity.specs.declared.ids.Entity.{Entity}
-use Rattle.specs_layouts.specs.Parts.{HasNone, Puts}
+use Rattle.specs.specs.ForWorlds.{ResourceId, Slots, without_entities, Place, place, Becomes, Registers, Allocates, IsBirth}
+use Rattle.specs.proofs.CallerLemmas.{became, became-apart, put-parts, registered-anew, begun-births, begun-table, begun-others}
+use Rattle.specs.specs.ForStorages.{Births, living, none_born, Entity, HasNone, Puts}
 use Rattle.simulation.specs.declared.parts.Position.{Position}
 use Rattle.simulation.specs.declared.parts.Velocity.{Velocity}
 use Rattle.simulation.specs.declared.values.Value.{Value}

@@ -1,7 +1,7 @@
 -- What is seen of a value.
 use Rattle.std.proofs.Common.{◌≡◌, Option, Some, None, sym, ap, ◌∙◌}
 use Rattle.std.specs.Option.{option_and_then, option_map}
-use Rattle.shred_world.specs.Bundles.{Holding, readable, with_slot, out}
+use Rattle.specs.specs.ForWorlds.{Holding, readable, with_slot, out}
 use Rattle.simulation.specs.Steps.{births_id, position_id, velocity_id}
 use Rattle.simulation.specs.Values.{Positions, Velocities, position_part, velocity_part}
 use Rattle.simulation.specs.declared.values.Value.{Value}

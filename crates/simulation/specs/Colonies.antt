@@ -2,27 +2,10 @@
 use Rattle.std.specs.Prelude.{◌≡◌, ℕ, Bool, true, false, not, ◌&&◌, eqb, List, [], ◌∷◌, ◌++◌, Option, Some, None, map as list_map, refl}
 use Rattle.std.specs.List.{list_any}
 use Rattle.std.specs.FinMap as map
-use Rattle.shred_world.specs.declared.resource_id.ResourceId.{ResourceId}
-use Rattle.shred_world.specs.ResourceIds.{id_of}
-use Rattle.shred_world.specs.Worlds.{Slots, value_at}
-use Rattle.shred_world.specs.Bundles.{Holding, owned}
-use Rattle.shred_plan.specs.Plan.{Placing}
-use Rattle.shred_stages.specs.Changes.{with_values}
-use Rattle.shred_stages.specs.declared.stop.Stop.{Stop}
-use Rattle.shred_stages.specs.Staging.{Staging}
-use Rattle.shred.specs.Dispatching.{Dispatching}
-use Rattle.shred.specs.Batches.{Batched}
-use Rattle.shred.specs.declared.work.Work.{Work}
-use Rattle.shred.specs.declared.work.Work.TheVariants.{System}
-use Rattle.shred.specs.declared.nothing.NoBatch.{NoBatch}
-use Rattle.shred.specs.declared.nothing.NoLocal.{NoLocal}
-use Rattle.specs_entity.specs.Births.{Births}
-use Rattle.specs_entity.specs.declared.ids.Entity.{Entity}
-use Rattle.specs_entity.specs.declared.phase_seat.PhaseSeat.{PhaseSeat}
-use Rattle.specs_entity.specs.PhaseCore.{called}
-use Rattle.specs_entity.specs.PhaseSeats.{phase_at, view_at, births_at, StaysIn}
-use Rattle.specs_entity.specs.PhaseViews.{joined_view}
-use Rattle.specs_entity.specs.SharedSeats.{AreSettled}
+use Rattle.specs.specs.ForWorlds.{ResourceId, id_of, Slots, value_at, Holding, owned}
+use Rattle.specs.specs.ForSystems.{Placing, with_values, Stop, Staging, Dispatching, Batched, Work, System, NoBatch, NoLocal}
+use Rattle.specs.specs.ForStorages.{Births, Entity}
+use Rattle.specs.specs.ForSeats.{PhaseSeat, called, phase_at, view_at, births_at, StaysIn, joined_view, AreSettled}
 use Rattle.simulation.specs.declared.colonies.values.Held.{Held}
 use Rattle.simulation.specs.declared.colonies.values.Held.TheVariants.{EntitiesHeld, TableHeld, SeatHeld}
 use Rattle.simulation.specs.declared.colonies.growing.Growth.{Growth}

@@ -4,19 +4,9 @@ use Rattle.std.specs.List.{list_any}
 use Rattle.std.specs.Option.{option_and_then}
 use Rattle.std.specs.FinMap as map
 use Rattle.std.specs.FinSet as set
-use Rattle.shred_world.specs.declared.resource_id.ResourceId.{ResourceId}
-use Rattle.shred_world.specs.Worlds.{Slots, value_at}
-use Rattle.shred_world.specs.Bundles.{Holding}
-use Rattle.shred_plan.specs.Plan.{Placing}
-use Rattle.shred_stages.specs.Staging.{Staging}
-use Rattle.shred.specs.Dispatching.{Dispatching}
-use Rattle.shred.specs.Batches.{Batched}
-use Rattle.shred.specs.declared.work.Work.{Work}
-use Rattle.shred.specs.declared.work.Work.TheVariants.{System}
-use Rattle.shred.specs.declared.nothing.NoBatch.{NoBatch}
-use Rattle.shred.specs.declared.nothing.NoLocal.{NoLocal}
-use Rattle.specs_entity.specs.Births.{Births, living}
-use Rattle.specs_join.specs.ChangeEach.{after}
+use Rattle.specs.specs.ForWorlds.{ResourceId, Slots, value_at, Holding}
+use Rattle.specs.specs.ForSystems.{Placing, Staging, Dispatching, Batched, Work, System, NoBatch, NoLocal}
+use Rattle.specs.specs.ForStorages.{Births, living, after}
 use Rattle.simulation.specs.declared.parts.Position.{Position}
 use Rattle.simulation.specs.declared.parts.Velocity.{Velocity}
 use Rattle.simulation.specs.declared.values.Value.{Value}

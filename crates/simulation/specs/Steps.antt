@@ -1,16 +1,9 @@
 -- What movement and reaping make of what is held.
 use Rattle.std.specs.Prelude.{◌≡◌, ℕ, ◌+◌, ◌%◌, ◌^◌, nat_lt, not, ◌&&◌, ◌||◌, Bool, true, false, List, [], ◌∷◌, Option, Some, None, is_some}
 use Rattle.std.specs.FinSet as set
-use Rattle.shred_world.specs.declared.resource_id.ResourceId.{ResourceId}
-use Rattle.shred_world.specs.ResourceIds.{id_of}
-use Rattle.shred_world.specs.Bundles.{Holding, readable, owned}
-use Rattle.shred_stages.specs.Changes.{with_values}
-use Rattle.shred_stages.specs.declared.stop.Stop.{Stop}
-use Rattle.specs_entity.specs.Births.{Births, living}
-use Rattle.specs_entity.specs.Life.{Life}
-use Rattle.specs_layouts.specs.Dense.{dense_part}
-use Rattle.specs_layouts.specs.Slots.{slot_at, slots_of}
-use Rattle.specs_join.specs.ChangeEach.{AreChanged}
+use Rattle.specs.specs.ForWorlds.{ResourceId, id_of, Holding, readable, owned}
+use Rattle.specs.specs.ForSystems.{with_values, Stop}
+use Rattle.specs.specs.ForStorages.{Births, living, Life, dense_part, slot_at, slots_of, AreChanged}
 use Rattle.simulation.specs.declared.parts.Position.{Position}
 use Rattle.simulation.specs.declared.parts.Velocity.{Velocity}
 use Rattle.simulation.specs.declared.values.Value.{Value}

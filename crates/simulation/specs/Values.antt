@@ -1,11 +1,11 @@
 -- What values hold and drop, by the storages in them, as tools/values writes it from values.list.
 use Rattle.std.proofs.Common.{◌≡◌, ℕ, Bool, false, not, ◌&&◌, eqb, List, [], ◌++◌, Option, None, Some, refl}
 use Rattle.std.specs.List.{list_any}
-use Rattle.specs_layouts.specs.Masked.{Masked}
-use Rattle.specs_layouts.specs.declared.storages.dense_vec.DenseVecStorage.{DenseVecStorage}
-use Rattle.specs_layouts.specs.declared.storages.vec.VecStorage.{VecStorage}
-use Rattle.specs_world.specs.Variants.{DropsWithin, within-none, within-append, within-parts}
-use Rattle.specs_world.specs.Variants.{stays-append, stays-parts}
+use Rattle.specs.specs.ForStorages.{Masked}
+use Rattle.specs.specs.ForStorages.{DenseVecStorage}
+use Rattle.specs.specs.ForStorages.{VecStorage}
+use Rattle.specs.specs.ForWorlds.{DropsWithin, within-none, within-append, within-parts}
+use Rattle.specs.specs.ForWorlds.{stays-append, stays-parts}
 use Rattle.simulation.specs.declared.parts.Position.{Position}
 use Rattle.simulation.specs.declared.parts.Velocity.{Velocity}
 use Rattle.simulation.specs.declared.values.Value.{Value}

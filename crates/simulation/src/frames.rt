@@ -4,8 +4,9 @@ ghost use Rattle.simulation.specs.Frames.{IsTwo, Stands, framed, frames, parts_i
 
 use crate::steps::Step;
 use crate::values::Value;
-use shred::{AddError, Batch, Dispatcher, DispatcherBuilder, NoBatch, NoLocal, Work, World};
-use specs_world::WorldExt;
+use specs::{
+    AddError, Batch, Dispatcher, DispatcherBuilder, NoBatch, NoLocal, Work, World, WorldExt,
+};
 use std::alloc::Global;
 use std::sync::Wait;
 use std::thread::Threads;

@@ -1,15 +1,14 @@
 //! Movement: each position gains the velocity of its entity.
 ghost use Rattle.std.specs.Prelude.{◌≡◌};
-ghost use Rattle.shred_world.specs.Leaving.{Leaves};
-ghost use Rattle.shred_stages.specs.Views.{error_of};
+ghost use Rattle.specs.specs.ForWorlds.{Leaves};
+ghost use Rattle.specs.specs.ForSystems.{error_of};
 ghost use Rattle.simulation.specs.Steps.{Accepted, Moves};
 
 use crate::parts::{Position, Velocity};
 use crate::values::Value;
-use shred::{Holder, Stop, SystemData};
-use specs_join::{Change, change_each};
-use specs_layouts::MaskedStorage;
-use specs_world::{ReadStorage, WriteStorage};
+use specs::{
+    Change, Holder, MaskedStorage, ReadStorage, Stop, SystemData, WriteStorage, change_each,
+};
 
 /// Adds a velocity to a position; a sum goes round at 2 ^ 64.
 pub struct Moving;

@@ -1,17 +1,16 @@
 //! Reaping: the deletion of each entity is accepted whose position is as far as the limit.
 ghost use Rattle.std.specs.Prelude.{◌≡◌, ◌<◌, if◌then◌else◌};
-ghost use Rattle.shred_world.specs.Leaving.{Leaves};
-ghost use Rattle.shred_stages.specs.Views.{error_of};
-ghost use Rattle.specs_entity.specs.Births.{deleted, living};
+ghost use Rattle.specs.specs.ForWorlds.{Leaves};
+ghost use Rattle.specs.specs.ForSystems.{error_of};
+ghost use Rattle.specs.specs.ForStorages.{deleted, living};
 ghost use Rattle.simulation.specs.Steps.{Accepted, Accepts, Reaps, is_far, is_reaped};
 
 use crate::parts::Position;
 use crate::values::Value;
-use hibitset::{BitSetLike, Index};
-use shred::{Holder, Stop, SystemData, WriteExpect};
-use specs_entity::EntitiesRes;
-use specs_layouts::{Component, MaskedStorage, UnprotectedStorage};
-use specs_world::ReadStorage;
+use specs::{
+    BitSetLike, Component, EntitiesRes, Holder, Index, MaskedStorage, ReadStorage, Stop,
+    SystemData, UnprotectedStorage, WriteExpect,
+};
 
 /// How far an entity comes before it dies.
 pub const LIMIT: u64 = 100;

@@ -4,9 +4,7 @@ ghost use Rattle.simulation.specs.Frames.{Stands, parts_in};
 
 use crate::parts::{Position, Velocity};
 use crate::values::Value;
-use shred::World;
-use specs_entity::{Entity, Error};
-use specs_world::WorldExt;
+use specs::{Entity, Error, World, WorldExt};
 use std::alloc::Global;
 
 /// A world of the simulation without entities.

@@ -4,7 +4,7 @@ ghost use Rattle.std.specs.Prelude.{◌≡◌, IfOk};
 use crate::movement::{Movable, move_all};
 use crate::reaping::{Reapable, reap_all};
 use crate::values::Value;
-use shred::{BatchAccessor, Holder, RunningTime, Stop, System, SystemData, World};
+use specs::{BatchAccessor, Holder, RunningTime, Stop, System, SystemData, World};
 use std::alloc::{AllocError, Global};
 
 /// What a system of the simulation does.

@@ -1,7 +1,7 @@
 //! What a world holds beside entities and a table of kinds: what values.list names, of which tools/values wrote this.
 ghost use Rattle.std.specs.Prelude.{◌≡◌, Some, None, refl};
 ghost use Rattle.std.proofs.Common.{rules};
-ghost use Rattle.specs_layouts.specs.DropLemmas.{dropped-parts, drops-none, drops-append};
+ghost use Rattle.specs.specs.ForStorages.{dropped-parts, drops-none, drops-append};
 ghost use Rattle.simulation.specs.Values.{value_has_part, value_has_room, value_drops, value-parts, value-none};
 ghost use Rattle.simulation.specs.Values.{value-append};
 ghost use Rattle.simulation.specs.declared.values.Value.TheVariants.{EntitiesValue};
@@ -10,10 +10,10 @@ ghost use Rattle.simulation.specs.declared.values.Value.TheVariants.{PositionVal
 ghost use Rattle.simulation.specs.declared.values.Value.TheVariants.{VelocityValue};
 
 use crate::parts::{Position, Velocity};
-use shred_world::{MetaTable, Resource};
-use specs_entity::{EntitiesRes, Entity};
-use specs_layouts::{AnyStorage, Component, DenseVecStorage, MaskedStorage, VecStorage};
-use specs_world::Registrable;
+use specs::{
+    AnyStorage, Component, DenseVecStorage, EntitiesRes, Entity, MaskedStorage, MetaTable,
+    Registrable, Resource, VecStorage,
+};
 use std::alloc::AllocError;
 
 impl Component for Position {

@@ -123,8 +123,8 @@ pub trait DeserializeComponents<M: SavedMarker>: SerializeComponents<M> {
             (known_of entities.new allocator.new markers.new) refused.place refused.error) }
         ensures gives { OnOk result (GivesEach loaded gives (bearer_in G.noted M.Storage.part_at M.id_of
             entities.new allocator.new markers.new) list.items self.old self.new) }
-        ensures stops { IfErr result (λ refused. GivesUntil loaded gives (bearer_in G.noted M.Storage.part_at M.id_of
-            entities.new allocator.new markers.new) stops list.items refused.place self.old self.new) }
+        ensures stops { IfErr result (λ why. GivesUntil loaded gives (bearer_in G.noted M.Storage.part_at M.id_of
+            entities.new allocator.new markers.new) stops list.items why.place self.old self.new) }
         ensures clean { OnOk result (IsClean M.Storage.part_at (known_of entities.old allocator.old markers.old)
             → IsClean M.Storage.part_at (known_of entities.new allocator.new markers.new)) }
         ensures stays { OnErr result (StaysSound G.noted M.Storage.part_at M.id_of markers_of list.items
@@ -243,14 +243,10 @@ where
     ensures gives_too { OnOk result (IsAlive entities.old entity → AreGivenParts
         (B.loaded (bearer_in G.noted M.Storage.part_at M.id_of entities.new allocator.new markers.new) saved.1)
         (B.gives entity.id) other.old other.new) }
-    ensures stops { OnErr result (IsAlive entities.old entity → StopsInPair
-        (A.loaded (bearer_in G.noted M.Storage.part_at M.id_of entities.new allocator.new markers.new))
-        (A.gives entity.id)
-        (λ saved. A.stops (bearer_in G.noted M.Storage.part_at M.id_of entities.new allocator.new markers.new) saved
-        entity.id)
-        (λ saved. B.stops (bearer_in G.noted M.Storage.part_at M.id_of entities.new allocator.new markers.new) saved
-        entity.id)
-        saved (one.old, other.old) (one.new, other.new)) }
+    ensures stops { OnErr result (IsAlive entities.old entity
+        → let bearer = bearer_in G.noted M.Storage.part_at M.id_of entities.new allocator.new markers.new in
+        StopsInPair (A.loaded bearer) (A.gives entity.id) (λ saved. A.stops bearer saved entity.id)
+        (λ saved. B.stops bearer saved entity.id) saved (one.old, other.old) (one.new, other.new)) }
     ensures others { (index : ℕ) → index ≢ entity.id → A.parts_at one.new index ≡ A.parts_at one.old index }
     ensures others_too { (index : ℕ) → index ≢ entity.id → B.parts_at other.new index ≡ B.parts_at other.old index }
     ensures dead { ¬ (IsAlive entities.new entity) → one.new ≡ one.old }

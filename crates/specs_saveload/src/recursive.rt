@@ -51,8 +51,8 @@ fn ask<M: SavedMarker, A: MarkerAllocator<M>>(
     markers: &mut MaskedStorage<M>,
     allocator: &mut A,
 ) -> Result<(), Error>
-    ensures ok { OnOk result ((order : Order) → IsOrder order (M.Storage.part_at markers.old.inner) list.old.items
-        → IsOrder (with_asked order entity) (M.Storage.part_at markers.new.inner) list.new.items) }
+    ensures ok { OnOk result ((was : Order) → IsOrder was (M.Storage.part_at markers.old.inner) list.old.items
+        → IsOrder (with_asked was entity) (M.Storage.part_at markers.new.inner) list.new.items) }
     ensures asks { OnOk result (AsksFor A.noted A.allocates M.id_of M.Storage.UnprotectedStorage entities.now entity
         (marking_of allocator.old markers.old) (marking_of allocator.new markers.new)) }
     ensures leaves { IfErr result (λ error. AsksSome A.noted A.allocates M.id_of M.Storage.UnprotectedStorage

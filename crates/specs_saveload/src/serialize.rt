@@ -129,7 +129,7 @@ pub trait SerializeComponents<M: SavedMarker> {
         ensures ok { IfOk result (λ list. SavesReached A.noted A.allocates M.id_of M.Storage.UnprotectedStorage
             entities.now plain refers_to (parts_at self.now) (marking_of allocator.old markers.old)
             (marking_of allocator.new markers.new) list.items) }
-        ensures refused { IfErr result (RefusesReached A.refuses (λ entity. refers_to (parts_at self.now entity.id))
+        ensures refused { IfErr result (RefusesReached A.refuses (λ one. refers_to (parts_at self.now one.id))
             (marked_first entities.now (M.Storage.part_at markers.old.inner)) entities.now allocator.new) }
         ensures leaves { IfErr result (λ error. LeavesMarks A.noted A.allocates M.id_of M.Storage.UnprotectedStorage
             entities.now A.refuses (λ entity. refers_to (parts_at self.now entity.id))

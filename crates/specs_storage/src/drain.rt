@@ -63,8 +63,8 @@ impl<'a, T: Component> Drain<'a, T> {
 /// The least index of a set.
 fn first_of(indices: &BitSet) -> Option<Index>
     ensures walk { MatchOption result (walk (set.contains indices.now.members) ≡ [])
-        (λ first. walk (set.contains indices.now.members)
-        ≡ first ∷ walk (set.contains (set.remove indices.now.members first))) }
+        (λ one. walk (set.contains indices.now.members)
+        ≡ one ∷ walk (set.contains (set.remove indices.now.members one))) }
     ensures member { IfSome result (λ first. set.contains indices.now.members first ≡ true) }
 {
     let mut walk = indices.iter();

@@ -49,10 +49,10 @@ where
         ensures refused { IfErr result (λ refused. RefusesPart (held W.entities_at (W.slots self.entry.world.now))
             (held ⟦<MaskedStorage<T> as Held<V>>⟧.stands_at (W.slots self.entry.world.now))
             self.entry.entity refused.0) }
-        ensures err { IfErr result (λ refused. KeepsStorage
+        ensures err { IfErr result (λ why. KeepsStorage
             ⟦<MaskedStorage<T> as Held<V>>⟧.stands_at
             T.Storage.part_at T.Storage.events T.Storage.emits (W.slots self.entry.world.now)
-            (W.slots refused.1.world.now)) }
+            (W.slots why.1.world.now)) }
         ensures succeeds { AcceptsPart T.Storage.part_at T.Storage.emits
             (held W.entities_at (W.slots self.entry.world.now))
             (held ⟦<MaskedStorage<T> as Held<V>>⟧.stands_at (W.slots self.entry.world.now))
@@ -133,10 +133,10 @@ where
         ensures refused { IfErr result (λ refused. RefusesPart (held W.entities_at (W.slots self.entry.world.now))
             (held ⟦<MaskedStorage<T> as Held<V>>⟧.stands_at (W.slots self.entry.world.now))
             self.entry.entity refused.0) }
-        ensures err { IfErr result (λ refused. KeepsStorage
+        ensures err { IfErr result (λ why. KeepsStorage
             ⟦<MaskedStorage<T> as Held<V>>⟧.stands_at
             T.Storage.part_at T.Storage.events T.Storage.emits (W.slots self.entry.world.now)
-            (W.slots refused.1.world.now)) }
+            (W.slots why.1.world.now)) }
         ensures succeeds { part ≡ None → IsOk result }
         ensures handed_back { IfErr result (λ refused. refused.2 ≡ part) }
         ensures same_entity { IfErr result (λ refused. refused.1.entity ≡ self.entry.entity) }

@@ -73,7 +73,7 @@ where
         (held ⟦<MaskedStorage<T> as Held<V>>⟧.stands_at world.old)
         (refused.0 ≡ refusal.NotRegistered) (λ _. refused.0 ≡ refusal.Memory)) }
     ensures succeeds { MatchOption (held ⟦<MaskedStorage<T> as Held<V>>⟧.stands_at world.old) ⊥
-        (λ storage. IsSome (T.Storage.part_at storage.inner id) × (T.Storage.emits storage.inner ≡ false))
+        (λ one. IsSome (T.Storage.part_at one.inner id) × (T.Storage.emits one.inner ≡ false))
         → IsOk result }
 {
     match world.get_mut::<MaskedStorage<T>>() {

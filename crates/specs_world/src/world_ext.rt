@@ -59,7 +59,7 @@ where
     ///
     /// Errors: `Memory`.
     fn new(alloc: Global) -> Result<Self, Error>
-        ensures ok { IfOk result (λ world. slots world ≡ map.insert
+        ensures ok { IfOk result (λ one. slots one ≡ map.insert
             (map.insert map.empty entities_at.id (Some (entities_at.wrapped (none_born 16777216 2147483647))))
             table_at.id (Some (table_at.wrapped []))) }
         ensures memory { IfErr result (λ error. error ≡ refusal.Memory) };

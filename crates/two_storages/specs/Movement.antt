@@ -1,10 +1,6 @@
 -- What a move makes of a position.
 use Rattle.std.specs.Prelude.{ℕ, ◌+◌, ◌%◌, ◌^◌, Option, Some}
-use Rattle.specs_layouts.specs.Dense.{dense_part}
-use Rattle.specs_layouts.specs.Masked.{Masked}
-use Rattle.specs_layouts.specs.Slots.{slot_at, slots_of}
-use Rattle.specs_layouts.specs.declared.storages.dense_vec.DenseVecStorage.{DenseVecStorage}
-use Rattle.specs_layouts.specs.declared.storages.vec.VecStorage.{VecStorage}
+use Rattle.specs.specs.ForStorages.{dense_part, Masked, slot_at, slots_of, DenseVecStorage, VecStorage}
 use Rattle.two_storages.specs.declared.Position.{Position}
 use Rattle.two_storages.specs.declared.Velocity.{Velocity}
 

@@ -2,14 +2,13 @@
 #![tactic(auto)]
 
 ghost use Rattle.std.specs.Prelude.{◌≡◌, OnErr, OnOk, Some};
-ghost use Rattle.specs_layouts.specs.MaskedChanges.{KeepsParts, PutsIn};
-ghost use Rattle.specs_join.specs.ChangeEach.{AreChanged};
+ghost use Rattle.specs.specs.ForStorages.{KeepsParts, PutsIn, AreChanged};
 ghost use Rattle.two_storages.specs.Movement.{moved, position_at, velocity_at};
 
-use specs_entity::{EntitiesRes, Entity, Error};
-use specs_join::{Change, Join, JoinCursor, change_each};
-use specs_layouts::{Component, DenseVecStorage, MaskedStorage, TryDefault, VecStorage};
-use specs_storage::Storage;
+use specs::{
+    Change, Component, DenseVecStorage, EntitiesRes, Entity, Error, Join, JoinCursor,
+    MaskedStorage, Storage, TryDefault, VecStorage, change_each,
+};
 use std::io;
 
 /// How far an entity comes before it halts.

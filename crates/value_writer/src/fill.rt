@@ -197,6 +197,7 @@ fn put_kind_word(out: &mut Vec<u8>, kind: &Kind, word: &str) -> Result<(), Alloc
         "item" => put_item(out, kind),
         "storage" => put_storage(out, kind),
         "seen" => put_seen(out, kind),
+        "saved" => put(out, kind.saved.unwrap_or("")),
         _ => Ok(()),
     }
 }

@@ -5,11 +5,12 @@ use crate::list::{List, Source};
 use std::alloc::{AllocError, Global};
 
 /// What may be imported, with its module in the crates below `specs`. Names of a module stand in their order.
-const OF_CRATES: [(&str, &str); 21] = [
+const OF_CRATES: [(&str, &str); 27] = [
     ("shred_world", "MetaTable"),
     ("shred_world", "Resource"),
     ("specs_entity", "EntitiesRes"),
     ("specs_entity", "Entity"),
+    ("specs_entity", "Error"),
     ("specs_layouts", "AnyStorage"),
     ("specs_layouts", "BTreeStorage"),
     ("specs_layouts", "Component"),
@@ -20,17 +21,22 @@ const OF_CRATES: [(&str, &str); 21] = [
     ("specs_layouts", "MaskedStorage"),
     ("specs_layouts", "NullStorage"),
     ("specs_layouts", "VecStorage"),
+    ("specs_markers", "MarkerAllocator"),
     ("specs_markers", "SimpleMarker"),
     ("specs_markers", "SimpleMarkerAllocator"),
     ("specs_markers", "UuidMarker"),
     ("specs_markers", "UuidMarkerAllocator"),
+    ("specs_saveload", "ConvertSaveload"),
+    ("specs_saveload", "Names"),
+    ("specs_saveload", "SavedMarker"),
+    ("specs_saveload", "plain_into"),
     ("specs_world", "LazyUpdate"),
     ("specs_world", "Registrable"),
     ("specs_world", "SharedLazy"),
 ];
 
 /// The same, with its module in `specs`.
-const OF_SPECS: [(&str, &str); 21] = [
+const OF_SPECS: [(&str, &str); 27] = [
     ("specs", "AnyStorage"),
     ("specs", "BTreeStorage"),
     ("specs", "Component"),
@@ -38,6 +44,7 @@ const OF_SPECS: [(&str, &str); 21] = [
     ("specs", "DenseVecStorage"),
     ("specs", "EntitiesRes"),
     ("specs", "Entity"),
+    ("specs", "Error"),
     ("specs", "FlaggedStorage"),
     ("specs", "HashMapStorage"),
     ("specs", "LazyUpdate"),
@@ -48,20 +55,26 @@ const OF_SPECS: [(&str, &str); 21] = [
     ("specs", "Resource"),
     ("specs", "SharedLazy"),
     ("specs", "VecStorage"),
+    ("specs::saveload", "ConvertSaveload"),
+    ("specs::saveload", "MarkerAllocator"),
+    ("specs::saveload", "Names"),
+    ("specs::saveload", "SavedMarker"),
     ("specs::saveload", "SimpleMarker"),
     ("specs::saveload", "SimpleMarkerAllocator"),
     ("specs::saveload", "UuidMarker"),
     ("specs::saveload", "UuidMarkerAllocator"),
+    ("specs::saveload", "plain_into"),
 ];
 
 /// The modules of these, in the order of their lines.
-const MODULES: [&str; 7] = [
+const MODULES: [&str; 8] = [
     "shred_world",
     "specs::saveload",
     "specs",
     "specs_entity",
     "specs_layouts",
     "specs_markers",
+    "specs_saveload",
     "specs_world",
 ];
 
@@ -76,9 +89,22 @@ const ALWAYS: [&str; 7] = [
     "Resource",
 ];
 
+/// What the lines of a kind name whose parts are saved.
+const SAVING: [&str; 6] = [
+    "ConvertSaveload",
+    "Error",
+    "MarkerAllocator",
+    "Names",
+    "SavedMarker",
+    "plain_into",
+];
+
 /// Whether the lines of a kind name something of the library.
 fn needs(kind: &Kind, name: &str) -> bool {
     if kind.form.head() == Some(name) {
+        return true;
+    }
+    if kind.saved.is_some() && SAVING.iter().any(|one| *one == name) {
         return true;
     }
     if !kind.form.is_component() {
@@ -224,5 +250,9 @@ pub(crate) fn put_imports(out: &mut Vec<u8>, alloc: Global, list: &List) -> Resu
         let names = names_of(alloc, list, module)?;
         put_import(out, "", module, &names)?;
     }
-    put(out, "use std::alloc::AllocError;\n\n")
+    if list.kinds.iter().any(|kind| kind.saved.is_some()) {
+        put(out, "use std::alloc::{AllocError, Global};\n\n")
+    } else {
+        put(out, "use std::alloc::AllocError;\n\n")
+    }
 }

@@ -120,11 +120,16 @@ impl<'a> Form<'a> {
     }
 }
 
+/// What a field may be as which parts are saved.
+pub(crate) const PLAIN: [&str; 9] = ["bool", "i16", "i32", "i64", "i8", "u16", "u32", "u64", "u8"];
+
 /// A kind of values: its name, and what it holds.
 #[derive(Clone, Copy)]
 pub(crate) struct Kind<'a> {
     pub(crate) name: &'a str,
     pub(crate) form: Form<'a>,
+    /// What the only field of its parts is, as which they are saved.
+    pub(crate) saved: Option<&'static str>,
 }
 
 impl<'a> Kind<'a> {

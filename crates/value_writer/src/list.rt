@@ -4,7 +4,7 @@ ghost use Rattle.std.specs.Prelude.{◌≡◌, ◌≢◌, ◌↔◌, IfOk, IsTru
 ghost use Rattle.std.specs.List.{All};
 ghost use Rattle.value_writer.specs.Variants.{HaveOwnNames};
 
-use crate::kind::{Form, Kind, LAYOUTS, Layout};
+use crate::kind::{Form, Kind, LAYOUTS, Layout, PLAIN};
 use crate::names::{is_module_name, is_path, is_type_name};
 use crate::refusal::{Refusal, Stop};
 use std::alloc::{AllocError, Global};
@@ -79,6 +79,30 @@ fn form_of<'a>(text: &'a str) -> Option<Form<'a>> {
     }
 }
 
+/// What is plain, by its name.
+fn plain_of(name: &str) -> Option<&'static str> {
+    for plain in PLAIN {
+        if plain == name {
+            return Some(plain);
+        }
+    }
+    None
+}
+
+/// The form that a text behind a colon names, and as what its parts are saved: those of components alone are.
+fn saved_form_of<'a>(text: &'a str) -> Option<(Form<'a>, Option<&'static str>)> {
+    let Some((text, saved)) = text.split_once(" saved as ") else {
+        return Some((form_of(text)?, None));
+    };
+    let form = form_of(text.trim())?;
+    let plain = plain_of(saved.trim())?;
+    if form.is_component() {
+        Some((form, Some(plain)))
+    } else {
+        None
+    }
+}
+
 /// Whether a kind has this name.
 fn is_named(kind: &Kind, name: &str) -> bool
     ensures { IsTrue result ↔ (kind.now.name.now ≡ name.now) }
@@ -109,10 +133,12 @@ impl<'a> List<'a> {
         kinds.push(Kind {
             name: "Entities",
             form: Form::Library("EntitiesRes"),
+            saved: None,
         })?;
         kinds.push(Kind {
             name: "Table",
             form: Form::Library("MetaTable"),
+            saved: None,
         })?;
         Ok(List {
             crate_name: "",
@@ -136,10 +162,10 @@ impl<'a> List<'a> {
         if has_name(&self.kinds, name) {
             return Err(Stopped::By(Refusal::TakenName));
         }
-        let Some(form) = form_of(text) else {
+        let Some((form, saved)) = saved_form_of(text) else {
             return Err(Stopped::By(Refusal::UnknownForm));
         };
-        match self.kinds.push(Kind { name, form }) {
+        match self.kinds.push(Kind { name, form, saved }) {
             Ok(()) => Ok(()),
             Err(_) => Err(Stopped::Memory),
         }

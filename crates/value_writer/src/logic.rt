@@ -158,13 +158,18 @@ const PARTS: [Piece; 2] = [
 ];
 
 /// Lemmas for the proof of `drop`.
-const LEMMAS: [Piece; 5] = [
+const LEMMAS: [Piece; 6] = [
     Piece::Once(
         "==> crates/@crate@/proofs/@specs@DropLemmas.antt
 -- What a value is after the storage in it dropped parts, as tools/values writes it from @list@.list.
 use Rattle.std.proofs.Common.{◌≡◌, ℕ, List, Result, OnOk, refl, sym, subst}
 use Rattle.std.proofs.lemmas.Result.{on_ok_weaker}
 use Rattle.@crate@.specs.@specs@.{value_drops}
+",
+    ),
+    Piece::OnceToldOf(
+        "use Rattle.std.proofs.Common.{OnErr}
+use Rattle.std.proofs.lemmas.Result.{on_err_weaker}
 ",
     ),
     Piece::Storages(
@@ -185,21 +190,40 @@ module _ {T E : Type 0}@drops given@ (indices : List ℕ) (value : Value) (r : R
     ),
 ];
 
-const DROPS: [Piece; 1] = [Piece::Storages(
-    "
+const DROPS: [Piece; 2] = [
+    Piece::Storages(
+        "
   pub drops-@snake@ : (was now : @plural@) → value ≡ @name@Value was → OnOk r (drops_@snake@ was indices now)
       → OnOk r (value_drops@each drops@ value indices (@name@Value now))
   drops-@snake@ was now is =
       on_ok_weaker r
       (λ dropped. subst (λ v. value_drops@each drops@ v indices (@name@Value now)) (sym is) (now, refl, dropped))
 ",
-)];
+    ),
+    Piece::Flagged(
+        "
+  pub keeps-@snake@ : (was now : @plural@) → value ≡ @name@Value was → OnErr r (drops_@snake@ was indices now)
+      → OnErr r (value_drops@each drops@ value indices (@name@Value now))
+  keeps-@snake@ was now is =
+      on_err_weaker r
+      (λ kept. subst (λ v. value_drops@each drops@ v indices (@name@Value now)) (sym is) (now, refl, kept))
+",
+    ),
+];
 
 /// What answers the goals of `drop`.
-const DROP: [Piece; 4] = [
+const DROP: [Piece; 7] = [
     Piece::Once(
         "==> crates/@crate@/proofs/@path@/ValueAnyStorage/drop/Answers.antt
 use Rattle.@drops@.{ids_of}
+",
+    ),
+    Piece::OnceToldOf(
+        "use Rattle.std.proofs.Common.{[]}
+",
+    ),
+    Piece::Flagged(
+        "use Rattle.@crate@.proofs.@specs@DropLemmas.{keeps-@snake@}
 ",
     ),
     Piece::Storages(
@@ -216,6 +240,14 @@ pub returns-in-@name@Value-clause-ok : goal.returns-in-@name@Value-clause-ok
 returns-in-@name@Value-clause-ok c =
     drops-@snake@@each hole@ (ids_of c.args.entities.now) c.args.self.now c.drop@call@.result
     c.in-@name@Value.storage c.drop@call@.new.self c.in-@name@Value.is c.drop@call@.ensures.ok
+",
+    ),
+    Piece::Flagged(
+        "
+pub returns-in-@name@Value-clause-err : goal.returns-in-@name@Value-clause-err
+returns-in-@name@Value-clause-err c =
+    keeps-@snake@@each hole@ [] c.args.self.now c.drop@call@.result
+    c.in-@name@Value.storage c.drop@call@.new.self c.in-@name@Value.is c.drop@call@.ensures.err
 ",
     ),
 ];

@@ -9,33 +9,49 @@ use std::alloc::AllocError;
 pub(crate) enum Piece {
     /// Once.
     Once(&'static str),
+    /// Once, where the changes of a kind are told.
+    OnceToldOf(&'static str),
     /// For each kind.
     All(&'static str),
     /// For each storage.
     Storages(&'static str),
     /// For each storage of the crate's own components.
     Components(&'static str),
+    /// For each storage of components that are saved.
+    Saved(&'static str),
+    /// For each storage whose changes are told.
+    Flagged(&'static str),
     /// For each kind, the first where it is a storage, and else the second.
     Either(&'static str, &'static str),
 }
 
 impl Piece {
     /// The template that is filled for a kind.
-    fn template(self, form: Form) -> Option<&'static str> {
+    fn template(self, kind: &Kind) -> Option<&'static str> {
         match self {
-            Piece::Once(_) => None,
+            Piece::Once(_) | Piece::OnceToldOf(_) => None,
             Piece::All(template) => Some(template),
-            Piece::Storages(template) => if form.is_storage() {
+            Piece::Storages(template) => if kind.form.is_storage() {
                 Some(template)
             } else {
                 None
             },
-            Piece::Components(template) => if form.is_component() {
+            Piece::Components(template) => if kind.form.is_component() {
                 Some(template)
             } else {
                 None
             },
-            Piece::Either(one, other) => if form.is_storage() {
+            Piece::Saved(template) => if kind.saved.is_some() {
+                Some(template)
+            } else {
+                None
+            },
+            Piece::Flagged(template) => if kind.form.is_flagged() {
+                Some(template)
+            } else {
+                None
+            },
+            Piece::Either(one, other) => if kind.form.is_storage() {
                 Some(one)
             } else {
                 Some(other)
@@ -47,23 +63,32 @@ impl Piece {
 /// Puts a piece for each kind that it is filled for.
 fn put_kinds(out: &mut Vec<u8>, list: &List, piece: Piece) -> Result<(), AllocError> {
     for kind in &list.kinds {
-        if let Some(template) = piece.template(kind.form) {
+        if let Some(template) = piece.template(kind) {
             put_filled(out, list, kind, template)?;
         }
     }
     Ok(())
 }
 
+/// Puts a template once.
+fn put_once(out: &mut Vec<u8>, list: &List, template: &str) -> Result<(), AllocError> {
+    let nothing = Kind {
+        name: "",
+        form: Form::Own,
+        saved: None,
+    };
+    put_filled(out, list, &nothing, template)
+}
+
 /// Puts a piece.
 fn put_piece(out: &mut Vec<u8>, list: &List, piece: Piece) -> Result<(), AllocError> {
     match piece {
-        Piece::Once(template) => {
-            let nothing = Kind {
-                name: "",
-                form: Form::Own,
-            };
-            put_filled(out, list, &nothing, template)
-        }
+        Piece::Once(template) => put_once(out, list, template),
+        Piece::OnceToldOf(template) => if list.kinds.iter().any(|kind| kind.form.is_flagged()) {
+            put_once(out, list, template)
+        } else {
+            Ok(())
+        },
         _ => put_kinds(out, list, piece),
     }
 }

@@ -29,10 +29,56 @@ ghost use Rattle.@crate@.specs.@specs@.{value-append};
 ];
 
 /// Components, and the begin of the enum.
-const COMPONENTS: [Piece; 2] = [
+const COMPONENTS: [Piece; 3] = [
     Piece::Components(
         "impl Component for @name@ {
     type Storage = @storage@;
+}
+
+",
+    ),
+    Piece::Saved(
+        "impl<M: SavedMarker> ConvertSaveload<M> for @name@ {
+    type Data = @saved@;
+
+    ghost use Rattle.std.specs.Prelude.{[]};
+    ghost use Rattle.std.specs.Option.{option_map};
+    ghost use Rattle.std.proofs.Common.{ap, sym};
+    ghost use Rattle.@crate@.specs.declared.@parts@.@name@.{@name@};
+
+    ghost refers_to = { λ _. [] };
+
+    ghost markers_of = { λ _. [] };
+
+    ghost plain = { λ _ part. Some part.0 };
+
+    ghost loaded = { λ _ saved. Some (record { 0 = saved }) };
+
+    fn references(&self, _list: &mut Vec<Entity>) -> Result<(), AllocError> {
+        Ok(())
+    }
+
+    fn convert_into<N: Names<M>>(&self, _alloc: Global, _names: &N) -> Result<@saved@, Error> {
+        plain_into(&self.0)
+    }
+
+    fn convert_from<A: MarkerAllocator<M>>(
+        saved: @saved@,
+        _alloc: Global,
+        _entities: &mut EntitiesRes,
+        _markers: &mut MaskedStorage<M>,
+        _allocator: &mut A,
+    ) -> Result<@name@, Error> {
+        Ok(@name@(saved))
+    }
+
+    ghost named = { λ _ _. (λ _ _ none. absurd none, λ _. refl) };
+
+    ghost stands = { λ _ _ _ _ _ among. absurd among };
+
+    ghost kept = { λ _ _ _ _ _ is. is };
+
+    ghost back = { λ _ _ _ _ _ same. ap (option_map (λ (part : @name@). part.0)) (sym same) };
 }
 
 ",

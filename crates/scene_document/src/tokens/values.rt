@@ -144,9 +144,9 @@ pub(crate) fn take_member(
     name: &str,
     found: &mut Map<String, Value>,
 ) -> Result<(), ReadError>
-    ensures value { OnOk result ((json : Data) × ReadsAs depth reader.old json reader.new
-        × (has_float json ≡ false)
-        × (members_view found.new.entries ≡ put name.now json (members_view found.old.entries))) }
+    ensures value { OnOk result ((one : Data) × ReadsAs depth reader.old one reader.new
+        × (has_float one ≡ false)
+        × (members_view found.new.entries ≡ put name.now one (members_view found.old.entries))) }
     ensures shorter { OnOk result (length reader.new < length reader.old) }
 {
     let key = String::from_str(alloc, name)?;

@@ -2,8 +2,8 @@
 use crate::pictures::rows::{REFUSED, ROWS, Row};
 use scene::{DocRefusal, Limits};
 use scene_basics::Basics;
-use scene_pictures::run_page;
 use scene_sight::check;
+use scene_trace::pictures::run_page;
 use scene_trace::{LoadError, Outline, Recorder, TraceError, outline_of, trace};
 use std::alloc::{AllocError, Global};
 use std::sync::Wait;

@@ -2,8 +2,8 @@
 use crate::pictures::pages::run_in;
 use scene::Limits;
 use scene_basics::Basics;
-use scene_pictures::{Plan, PlanSystem, Record, plan_svg, put_html, run_page};
 use scene_trace::outline_of;
+use scene_trace::pictures::{Plan, PlanSystem, Record, plan_svg, put_html, run_page};
 use std::alloc::{AllocError, Global};
 
 /// Two systems, the second behind the first, as a document has them.

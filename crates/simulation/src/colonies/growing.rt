@@ -1,14 +1,13 @@
 //! How a colony grows: its system holds a seat of the phase as a written resource under a number of its own.
 ghost use Rattle.std.specs.Prelude.{◌≡◌, ◌∷◌, [], OnOk, IfOk};
-ghost use Rattle.shred_world.specs.Leaving.{Leaves};
-ghost use Rattle.shred_stages.specs.Views.{error_of};
-ghost use Rattle.specs_entity.specs.PhaseSeats.{StaysIn};
+ghost use Rattle.specs.specs.ForWorlds.{Leaves};
+ghost use Rattle.specs.specs.ForSystems.{error_of};
+ghost use Rattle.specs.specs.ForSeats.{StaysIn};
 ghost use Rattle.simulation.specs.Colonies.{HasGrown, Grows, seat_id};
 ghost use Rattle.simulation.specs.Steps.{Accepted};
 
 use crate::colonies::values::Held;
-use shred::{BatchAccessor, Holder, ResourceId, RunningTime, Stop, System, World};
-use specs_entity::PhaseSeat;
+use specs::{BatchAccessor, Holder, PhaseSeat, ResourceId, RunningTime, Stop, System, World};
 use std::alloc::{AllocError, Global};
 
 /// Where the seat of a colony stands.

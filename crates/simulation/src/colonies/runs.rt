@@ -1,14 +1,15 @@
 //! A phase in which two colonies grow, from its opening to its end.
 ghost use Rattle.std.specs.Prelude.{◌≡◌, IfOk, OnOk};
-ghost use Rattle.specs_entity.specs.PhaseSeats.{StaysIn};
+ghost use Rattle.specs.specs.ForSeats.{StaysIn};
 ghost use Rattle.simulation.specs.Colonies.{IsPair, Sits, Opens, GrowsBoth, Gathers, GrowsApart};
 
 use crate::colonies::growing::{Growth, seat_of};
 use crate::colonies::values::Held;
 use crate::frames::Stopped;
-use shred::{AddError, Batch, Dispatcher, DispatcherBuilder, NoBatch, NoLocal, Work, World};
-use specs_entity::PhaseSeat;
-use specs_world::WorldExt;
+use specs::{
+    AddError, Batch, Dispatcher, DispatcherBuilder, NoBatch, NoLocal, PhaseSeat, Work, World,
+    WorldExt,
+};
 use std::alloc::Global;
 use std::sync::Wait;
 use std::thread::Threads;

@@ -4,9 +4,7 @@ ghost use Rattle.std.proofs.Common.{rules};
 ghost use Rattle.simulation.specs.Colonies.{held_has_part, held_drops, held-parts, held-append};
 ghost use Rattle.simulation.specs.declared.colonies.values.Held.TheVariants.{EntitiesHeld, TableHeld, SeatHeld};
 
-use shred_world::{MetaTable, Resource};
-use specs_entity::{EntitiesRes, Entity, PhaseSeat};
-use specs_layouts::AnyStorage;
+use specs::{AnyStorage, EntitiesRes, Entity, MetaTable, PhaseSeat, Resource};
 use std::alloc::AllocError;
 
 /// What a world of colonies holds.

@@ -57,9 +57,9 @@ impl<A: BitSetLike, B: BitSetLike, C: BitSetLike> BitAnd for (A, B, C) {
     ghost in_all = { λ sets index. A.members sets.0 index && (B.members sets.1 index && C.members sets.2 index) };
 
     fn and(self) -> BitSetAnd<A, BitSetAnd<B, C>>
-        ensures members { (index : ℕ) → (A.members result.0 index
-            && (B.members result.1.0 index && C.members result.1.1 index))
-            ≡ (A.members self.0 index && (B.members self.1 index && C.members self.2 index)) }
+        ensures members { (here : ℕ) → (A.members result.0 here
+            && (B.members result.1.0 here && C.members result.1.1 here))
+            ≡ (A.members self.0 here && (B.members self.1 here && C.members self.2 here)) }
         ensures first { result.0 ≡ self.0 }
         ensures second { result.1.0 ≡ self.1 }
         ensures third { result.1.1 ≡ self.2 }

@@ -1,7 +1,5 @@
 use Rattle.std.proofs.Common.{◌≡◌, length}
-use Rattle.hibitset_sets.specs.BitSet.{has_member}
-use Rattle.specs_layouts.specs.Slots.{slot_at, slots_of}
-use Rattle.specs_join.specs.Cursors.{CanGoOn, indices_left}
+use Rattle.specs.specs.ForStorages.{has_member, slot_at, slots_of, CanGoOn, indices_left}
 use Rattle.two_storages.proofs.brake.Given as goal
 
 abbrev pub invariant-loop-cursor : goal.invariant-loop-cursor

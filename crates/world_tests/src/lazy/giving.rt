@@ -16,8 +16,8 @@ use std::sync::Wait;
 ///
 /// Errors: `NotRegistered`, where the world has no queue there; `Memory`. Both leave the world as it was.
 fn queue_health(world: &mut World<Value>, entity: Entity, health: u32) -> Result<(), Error>
-    ensures ok { OnOk result (Becomes ⟦<LazyUpdate<Task> as Held<Value>>⟧.stands_at (λ was now.
-        now ≡ was ++ PutHealth (record { entity = entity; part = record { 0 = health } }) ∷ []) world.old world.new) }
+    ensures ok { OnOk result (Becomes ⟦<LazyUpdate<Task> as Held<Value>>⟧.stands_at (λ was is.
+        is ≡ was ++ PutHealth (record { entity = entity; part = record { 0 = health } }) ∷ []) world.old world.new) }
 {
     match world.get_mut::<LazyUpdate<Task>>() {
         Some(queue) => match queue.insert(entity, Health(health)) {

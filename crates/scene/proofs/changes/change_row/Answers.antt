@@ -2,7 +2,7 @@ use Rattle.std.proofs.Common.{◌≡◌, ◌<◌, ℕ, None, cond, map, All, ap,
 use Rattle.std.proofs.Math.Path.{fun_ext}
 use Rattle.std.proofs.lemmas.List.Elements.{All-weaker}
 use Rattle.scene_world.specs.Putting.{each_there}
-use Rattle.scene_snapshot.specs.Rows.{seat_at, datum_at}
+use Rattle.scene.specs.Rows.{seat_at, datum_at}
 use Rattle.scene.specs.Taken.{IsAmong, is_one_of, with_last}
 use Rattle.scene.proofs.ChangeLemmas.{among-all, all-seconds}
 use Rattle.scene.proofs.changes.change_row.Goals as goal

@@ -1,5 +1,5 @@
 use Rattle.std.proofs.Common.{◌≡◌, ◌<◌, ◌≢◌, ℕ, Some, length, get_or, refl, sym, subst, ◌∙◌, arith}
-use Rattle.scene_snapshot.specs.Rows.{seat_at, datum_at}
+use Rattle.scene.specs.Rows.{seat_at, datum_at}
 use Rattle.scene.specs.Changes.{IsSound, AreFree, row_after}
 use Rattle.scene.proofs.KeepLemmas.{no-items}
 use Rattle.scene.proofs.LoopLemmas.{making-begins, making-one, making-within, making-goes, making-ends}

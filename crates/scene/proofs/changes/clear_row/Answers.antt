@@ -1,8 +1,8 @@
 use Rattle.std.proofs.Common.{◌≡◌, ◌≢◌, ℕ, Bool, true, false, None, cond, eqb, map, get_or, refl, ap, ◌∙◌, arith}
 use Rattle.std.proofs.lemmas.Bool.{eqb-true, eq-eqb}
 use Rattle.std.proofs.lemmas.List.{take_all}
-use Rattle.scene_snapshot.specs.Rows.{datum_at}
-use Rattle.scene_snapshot.proofs.CallerLemmas.{has-room}
+use Rattle.scene.specs.Rows.{datum_at}
+use Rattle.scene.proofs.CallerLemmas.{has-room}
 use Rattle.scene.specs.Taken.{is_one_of}
 use Rattle.scene.proofs.LoopLemmas.{emptied-more}
 use Rattle.scene.proofs.changes.clear_row.Goals as goal

@@ -1,5 +1,5 @@
 use Rattle.std.proofs.Common.{◌≡◌, ◌≢◌, ℕ, None, cond, map, take}
-use Rattle.scene_snapshot.specs.Rows.{seat_at, datum_at, HasRoom, SameCourse}
+use Rattle.scene.specs.Rows.{seat_at, datum_at, HasRoom, SameCourse}
 use Rattle.scene.specs.Taken.{is_one_of}
 use Rattle.scene.proofs.changes.clear_row.Given as goal
 

@@ -15,7 +15,7 @@ use Rattle.scene_world.specs.Standing.{roll_of}
 use Rattle.scene_world.specs.Telling.{is_told}
 use Rattle.scene_commands.specs.Acts.{seen_of}
 use Rattle.scene_commands.proofs.DropLemmas.{no_name, named-there}
-use Rattle.scene_snapshot.specs.Rows.{seat_at, datum_at}
+use Rattle.scene.specs.Rows.{seat_at, datum_at}
 use Rattle.scene_commands.specs.declared.watching.ReaderTurn.TheVariants.{Frame}
 use Rattle.scene.specs.Keeping.{IsBelow, IsFullByIndex, is_touched, CountsMore, changes_at}
 use Rattle.scene.specs.Changes.{AreChanges, AreTouched, OnlyTouched, row_after}

@@ -1,7 +1,7 @@
 use Rattle.std.proofs.Common.{ℕ, None, is_some, cond, map, refl, ap, subst, ◌∙◌}
 use Rattle.std.specs.List.{count_by}
 use Rattle.std.proofs.lemmas.List.{take_all}
-use Rattle.scene_snapshot.specs.Rows.{seat_at}
+use Rattle.scene.specs.Rows.{seat_at}
 use Rattle.scene.specs.Keeping.{CountsMore}
 use Rattle.scene.specs.Taken.{is_one_of}
 use Rattle.scene.proofs.LoopLemmas.{emptied-more}

@@ -1,6 +1,6 @@
 use Rattle.std.proofs.Common.{◌≡◌, ℕ, None, is_some, cond, map, take}
 use Rattle.std.specs.List.{count_by}
-use Rattle.scene_snapshot.specs.Rows.{seat_at, datum_at, HasRoom, SameCourse}
+use Rattle.scene.specs.Rows.{seat_at, datum_at, HasRoom, SameCourse}
 use Rattle.scene.specs.Keeping.{CountsMore}
 use Rattle.scene.specs.Taken.{is_one_of}
 use Rattle.scene.proofs.changes.leave_all.Given as goal

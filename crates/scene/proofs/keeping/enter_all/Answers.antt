@@ -1,7 +1,7 @@
 use Rattle.std.proofs.Common.{◌≡◌, ℕ, List, length, Option, Some, take, get_or, cond, eqb, refl, ap, sym, subst, ◌∙◌, arith}
 use Rattle.std.proofs.lemmas.List.{take_all}
-use Rattle.scene_snapshot.specs.Rows.{seat_at}
-use Rattle.scene_snapshot.proofs.CallerLemmas.{has-room}
+use Rattle.scene.specs.Rows.{seat_at}
+use Rattle.scene.proofs.CallerLemmas.{has-room}
 use Rattle.scene.specs.Keeping.{CountsMore}
 use Rattle.scene.specs.Taken.{turned, with_last}
 use Rattle.scene.proofs.KeepLemmas.{front-more, last-more}

@@ -1,5 +1,5 @@
 use Rattle.std.proofs.Common.{◌≡◌, ℕ, take}
-use Rattle.scene_snapshot.specs.Rows.{seat_at, datum_at, HasRoom, SameCourse}
+use Rattle.scene.specs.Rows.{seat_at, datum_at, HasRoom, SameCourse}
 use Rattle.scene.specs.Keeping.{CountsMore}
 use Rattle.scene.specs.Taken.{turned, with_last}
 use Rattle.scene.proofs.keeping.enter_all.Given as goal

@@ -7,7 +7,7 @@ use Rattle.scene_world.specs.Places.{kinds_of}
 use Rattle.scene_world.specs.Rolls.{id_at}
 use Rattle.scene_world.specs.Standing.{roll_of}
 use Rattle.scene_commands.specs.Acts.{seen_of}
-use Rattle.scene_snapshot.specs.Rows.{seat_at}
+use Rattle.scene.specs.Rows.{seat_at}
 use Rattle.scene.specs.Taken.{AreRowsOf, turned, with_last}
 use Rattle.scene.proofs.KeepLemmas.{keeps-scene, seats-kept, same-rows, below-pairs}
 use Rattle.scene.proofs.keeping.keep_scene.Goals.{After-drop-pairs-2}

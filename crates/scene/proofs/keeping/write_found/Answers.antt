@@ -1,7 +1,7 @@
 use Rattle.std.proofs.Common.{◌≡◌, ◌<◌, ◌∷◌, ◌++◌, None, refl, ap, sym, subst, ◌∙◌, arith, All}
 use Rattle.scene_world.specs.Putting.{each_there}
-use Rattle.scene_snapshot.specs.Rows.{seat_at}
-use Rattle.scene_snapshot.proofs.CallerLemmas.{has-room}
+use Rattle.scene.specs.Rows.{seat_at}
+use Rattle.scene.proofs.CallerLemmas.{has-room}
 use Rattle.scene.proofs.KeepLemmas.{no-items, found-there, writing-begins, writing-ends, writing-passes, writing-goes}
 use Rattle.scene.proofs.keeping.write_found.Goals as goal
 

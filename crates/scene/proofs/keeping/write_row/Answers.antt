@@ -2,7 +2,7 @@ use Rattle.std.proofs.Common.{◌≡◌, ◌<◌, None, ap, ◌∙◌, option_ma
 use Rattle.scene_world.specs.Places.{kinds_of}
 use Rattle.scene_world.specs.Putting.{each_there}
 use Rattle.scene_commands.specs.Acts.{seen_of}
-use Rattle.scene_snapshot.specs.Rows.{seat_at, datum_at}
+use Rattle.scene.specs.Rows.{seat_at, datum_at}
 use Rattle.scene.specs.Taken.{part_at}
 use Rattle.scene.proofs.KeepLemmas.{row-read}
 use Rattle.scene.proofs.EntryLemmas.{found-within, All-of}

@@ -2,7 +2,7 @@ use Rattle.std.proofs.Common.{◌≡◌, ◌≤◌, ℕ, None}
 use Rattle.scene_model.specs.Declaring.{texts}
 use Rattle.scene_world.specs.Places.{kinds_of}
 use Rattle.scene_commands.specs.Acts.{seen_of}
-use Rattle.scene_snapshot.specs.Rows.{seat_at, datum_at, HasRoom, SameCourse}
+use Rattle.scene.specs.Rows.{seat_at, datum_at, HasRoom, SameCourse}
 use Rattle.scene.specs.Taken.{AreRowsOf}
 use Rattle.scene.proofs.keeping.write_rows.Given as goal
 

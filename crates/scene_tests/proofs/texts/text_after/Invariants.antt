@@ -1,5 +1,5 @@
 use Rattle.std.proofs.Common.{◌≡◌}
-use Rattle.scene_snapshot.specs.Rows.{kinds_kept}
+use Rattle.scene.specs.Rows.{kinds_kept}
 use Rattle.scene_tests.proofs.texts.text_after.Given as goal
 
 -- there are rows for five kinds

@@ -1,6 +1,6 @@
 use Rattle.std.proofs.Common.{◌≡◌, refl, ap, ◌∙◌}
-use Rattle.shred_world.specs.Bundles.{with_slot, owned, out}
-use Rattle.shred_world.proofs.BundleLemmas.{with_slot-with_slot}
+use Rattle.specs.specs.ForWorlds.{with_slot, owned, out}
+use Rattle.specs.proofs.CallerLemmas.{with_slot-with_slot}
 use Rattle.simulation.specs.Steps.{position_id}
 use Rattle.simulation.specs.declared.values.Value.TheVariants.{PositionValue}
 use Rattle.simulation.proofs.ValueLemmas.{velocities-are-there}

@@ -1,7 +1,5 @@
 use Rattle.std.proofs.Common.{◌∷◌, ap, sym, ◌∙◌, subst}
-use Rattle.hibitset_sets.specs.BitSet.{SetWithRoom, has_member}
-use Rattle.hibitset_sets.specs.Iter.{left_of}
-use Rattle.hibitset_sets.specs.Walk.{walk}
+use Rattle.specs.specs.ForStorages.{SetWithRoom, has_member, left_of, walk}
 use Rattle.simulation.specs.Steps.{position_at}
 use Rattle.simulation.proofs.ReapingLemmas.{Accepting, accepting-start, accepting-next, accepting-end}
 use Rattle.simulation.proofs.reaping.accept_far.Goals as goal

@@ -1,5 +1,4 @@
-use Rattle.hibitset_sets.specs.Iter.{left_of}
-use Rattle.hibitset_sets.specs.BitSet.{has_member}
+use Rattle.specs.specs.ForStorages.{left_of, has_member}
 use Rattle.simulation.specs.Steps.{position_at}
 use Rattle.simulation.proofs.ReapingLemmas.{Accepting}
 use Rattle.simulation.proofs.reaping.accept_far.Given as goal

@@ -4,7 +4,8 @@ use Rattle.serde_json.specs.Find.{as_null}
 use Rattle.scene_model.specs.Rulebook.{known, misshapen}
 use Rattle.scene_basics.specs.declared.data.BasicSystem.{BasicSystem}
 use Rattle.scene_basics.specs.Systems.{system_named, configured, facts_of}
-use Rattle.scene_basics.specs.RuleLaws.{kind_of-system_named, null-as_null}
+use Rattle.scene_world.specs.RuleLemmas.{null-as_null}
+use Rattle.scene_basics.specs.RuleLaws.{kind_of-system_named}
 use Rattle.scene_basics.proofs.rules.BasicsDocumentRules.make_system.Goals as goal
 
 pub returns-then-is_null : goal.returns-then-is_null

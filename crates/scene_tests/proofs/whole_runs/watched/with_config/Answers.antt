@@ -2,7 +2,7 @@ use Rattle.std.proofs.Common.{◌≡◌, true, cond, is_some, refl, ◌∙◌, a
 use Rattle.serde_json.specs.View.{view}
 use Rattle.serde_json.specs.Find.{as_null}
 use Rattle.scene_model.specs.Rulebook.{known, misshapen}
-use Rattle.scene_world_tests.specs.DriftingLaws.{null-as_null}
+use Rattle.scene_world.specs.RuleLemmas.{null-as_null}
 use Rattle.scene_tests.specs.Watched.{mover_access}
 use Rattle.scene_tests.proofs.whole_runs.watched.with_config.Goals as goal
 

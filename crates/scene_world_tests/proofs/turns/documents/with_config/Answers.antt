@@ -3,7 +3,7 @@ use Rattle.serde_json.specs.View.{view}
 use Rattle.serde_json.specs.Find.{as_null}
 use Rattle.scene_model.specs.Rulebook.{known, misshapen}
 use Rattle.scene_world_tests.specs.Drifting.{drift_facts}
-use Rattle.scene_world_tests.specs.DriftingLaws.{null-as_null}
+use Rattle.scene_world.specs.RuleLemmas.{null-as_null}
 use Rattle.scene_world_tests.proofs.turns.documents.with_config.Goals as goal
 
 pub returns-then-is_null : goal.returns-then-is_null

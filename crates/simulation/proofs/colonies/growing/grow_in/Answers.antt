@@ -1,6 +1,6 @@
 use Rattle.std.proofs.Common.{◌≡◌, Some, sym, ap, ◌∙◌}
 use Rattle.std.proofs.lemmas.Result.{on_ok_weaker}
-use Rattle.shred_world.specs.Bundles.{takable}
+use Rattle.specs.specs.ForWorlds.{takable}
 use Rattle.simulation.specs.declared.colonies.values.Held.TheVariants.{SeatHeld}
 use Rattle.simulation.specs.Colonies.{Grows, seat_id}
 use Rattle.simulation.proofs.ColonyLemmas.{accepted, put-again, put-there, put-others}

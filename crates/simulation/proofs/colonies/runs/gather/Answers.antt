@@ -1,9 +1,5 @@
 use Rattle.std.proofs.Common.{◌≡◌, sym, ap, ◌∙◌, subst}
-use Rattle.specs_entity.specs.declared.phase_seat.PhaseSeat.{PhaseSeat}
-use Rattle.specs_entity.specs.PhaseSeats.{phase_at, view_at}
-use Rattle.specs_entity.specs.PhaseViews.{joined_view}
-use Rattle.specs_entity.specs.SharedPhase.{SharedPhase}
-use Rattle.specs_entity.specs.SharedSeats.{AreSettled}
+use Rattle.specs.specs.ForSeats.{PhaseSeat, phase_at, view_at, joined_view, SharedPhase, AreSettled}
 use Rattle.simulation.specs.Colonies.{seat_id}
 use Rattle.simulation.proofs.ColonyLemmas.{seat-found, seat-stays, out-after, entities-back}
 use Rattle.simulation.proofs.colonies.runs.gather.Goals as goal

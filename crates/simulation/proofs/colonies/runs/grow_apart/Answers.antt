@@ -1,6 +1,6 @@
 use Rattle.std.proofs.Common.{Some, ◌∷◌, [], ◌++◌, sym, ap, ◌∙◌}
 use Rattle.std.proofs.lemmas.Result.{on_ok_weaker}
-use Rattle.specs_entity.specs.SharedPhase.{SharedPhase}
+use Rattle.specs.specs.ForSeats.{SharedPhase}
 use Rattle.simulation.specs.declared.colonies.values.Held.TheVariants.{EntitiesHeld}
 use Rattle.simulation.proofs.colonies.runs.grow_apart.Goals as goal
 

@@ -1,9 +1,5 @@
 use Rattle.std.proofs.Common.{◌≡◌, [], Some, map, sym, ap, ◌∙◌}
-use Rattle.specs_entity.specs.declared.phase_rule.EntityView.{EntityView}
-use Rattle.specs_entity.specs.PhaseCore.{called}
-use Rattle.specs_entity.specs.PhaseSeats.{phase_at, births_at}
-use Rattle.specs_entity.specs.PhaseViews.{reserved}
-use Rattle.specs_entity.specs.SharedPhase.{SharedPhase}
+use Rattle.specs.specs.ForSeats.{EntityView, called, phase_at, births_at, reserved, SharedPhase}
 use Rattle.simulation.specs.declared.colonies.values.Held.TheVariants.{EntitiesHeld}
 use Rattle.simulation.proofs.ColonyLemmas.{entities-there, sits-after}
 use Rattle.simulation.proofs.colonies.runs.open.Goals as goal

@@ -1,4 +1,4 @@
-use Rattle.specs_layouts.specs.Drops.{ids_of}
+use Rattle.specs.specs.ForStorages.{ids_of}
 use Rattle.simulation.proofs.ValuesDropLemmas.{drops-position}
 use Rattle.simulation.proofs.ValuesDropLemmas.{drops-velocity}
 use Rattle.simulation.proofs.values.ValueAnyStorage.drop.Goals as goal

@@ -1,0 +1,2 @@
+pub mod ValuesDropLemmas
+pub mod SystemsLemmas

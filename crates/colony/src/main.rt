@@ -1,0 +1,70 @@
+//! A colony: entities go to their goals and die there, and one more is asked for in each frame. It is saved and loaded.
+#![tactic(auto)]
+
+ghost use Rattle.std.specs.Prelude.{◌≡◌, IfOk};
+ghost use Rattle.specs_saveload.specs.Loading.{AreApart};
+
+mod parts;
+mod systems;
+mod values;
+
+use anyhow::Result;
+use parts::*;
+use specs::saveload::*;
+use specs::*;
+use specs_entity::laws::the_living_are_below_the_limit;
+use std::alloc::Global;
+use systems::dispatcher;
+use values::Value;
+
+/// What is saved of an entity: its marker and its position.
+type Entry = EntityData<SimpleMarker<Settler>, Option<u64>>;
+
+/// Loads a list, and answers what is saved then: the list, where no two entries have one marker.
+fn saved_again(alloc: Global, list: Vec<Entry>) -> Result<Vec<Entry>>
+    ensures { AreApart list.items → IfOk result (λ again. again.items ≡ list.items) }
+{
+    let mut entities = EntitiesRes::new(alloc);
+    let mut positions = MaskedStorage::<Position>::new(alloc, TryDefault::unwrap_default(alloc));
+    let mut markers = MaskedStorage::new(alloc, DenseVecStorage::unwrap_default(alloc));
+    let mut allocator = SimpleMarkerAllocator::<Settler>::new(alloc);
+    positions.deserialize(alloc, list, &mut entities, &mut markers, &mut allocator)?;
+    the_living_are_below_the_limit(&entities);
+    Ok(positions.serialize(alloc, &entities, &markers)?)
+}
+
+/// Prints the markers of a list, each with a position.
+fn print_list(rt: &HostRuntime, list: &[Entry]) -> Result<()> {
+    for entry in list {
+        let place = entry.components.unwrap_or(0);
+        println!(rt; "marker {} at {place}", entry.marker.id())?;
+    }
+    Ok(())
+}
+
+fn main(rt: HostRuntime) -> Result<()> {
+    let alloc = rt.alloc();
+    let mut world: World<Value> = LazyWorld::<Value, Settler>::with_queues(alloc)?;
+    let mut systems = dispatcher(alloc, 4)?;
+    systems.setup(&mut world)?;
+    world.register::<SimpleMarker<Settler>>()?;
+    world.insert(SimpleMarkerAllocator::<Settler>::new(alloc))?;
+    Settler(Velocity(5), Goal(100)).run(&mut world)?;
+    Settler(Velocity(2), Goal(8)).run(&mut world)?;
+    let positions = world.write_resource::<MaskedStorage<Position>>()?;
+    let reader = positions.register_reader()?;
+    for _ in 0..3 {
+        systems.dispatch(&rt, &mut world)?;
+        LazyWorld::<Value, Settler>::maintain(&mut world, &rt, 8)?;
+        let positions = world.write_resource::<MaskedStorage<Position>>()?;
+        let mut events = Vec::new(alloc);
+        positions.channel_mut().read(&reader, &mut events)?;
+        println!(rt; "{} told", events.len())?;
+    }
+    let positions = world.read_resource::<MaskedStorage<Position>>()?;
+    let markers = world.read_resource::<MaskedStorage<SimpleMarker<Settler>>>()?;
+    let list = positions.serialize(alloc, world.entities()?, markers)?;
+    print_list(&rt, &list)?;
+    println!(rt; "loaded")?;
+    print_list(&rt, &saved_again(alloc, list)?)
+}

@@ -1,0 +1,5 @@
+pub mod SightLemmas
+pub mod BuryLemmas
+pub mod StrikeLemmas
+pub mod TurnLemmas
+pub mod KindLemmas

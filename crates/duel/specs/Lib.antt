@@ -1,0 +1,9 @@
+-- What the contracts of the rules of a duel cite, in the order in which a reader needs it.
+pub mod Rules
+pub mod RuleLaws
+pub mod Values
+pub mod Columns
+pub mod WorldLaws
+pub mod Sights
+pub mod Striking
+pub mod Burying

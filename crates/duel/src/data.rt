@@ -1,0 +1,40 @@
+//! The parts of a duel, and its systems.
+
+/// The kind of parts that are how much an entity takes from its target in a turn.
+pub const ATTACK: &str = "attack";
+
+/// The kind of parts that are how much can be taken from an entity before it is buried.
+pub const HP: &str = "hp";
+
+/// The kind of parts that are a reference to the entity from which the holder takes.
+pub const TARGET: &str = "target";
+
+/// The global that counts the turns.
+pub const TURN: &str = "turn";
+
+/// A part: a natural number of 64 bits, or a reference.
+#[derive(Clone, Copy, Debug, PartialEq, Eq)]
+pub enum Datum {
+    /// The number of an `attack` or an `hp`.
+    Number(u64),
+    /// The id that a `target` refers to.
+    Target(u64),
+}
+
+/// A system of a duel. Its configuration is always null.
+#[derive(Clone, Copy, Debug, PartialEq, Eq)]
+pub enum DuelSystem {
+    /// `strike`: each with a target and an attack takes it from the target's hp, and a turn more is counted.
+    Strike,
+    /// `bury`: each whose hp is 0 dies, and who else had it as target has none any more.
+    Bury,
+}
+
+/// What `bury` asks for.
+#[derive(Clone, Copy)]
+pub enum Ask {
+    /// The death of each whose hp is 0.
+    Deaths,
+    /// That each other whose target's hp is 0 has no target any more.
+    Losses,
+}

@@ -1,0 +1,162 @@
+//! What the rules of a duel say of documents.
+ghost use Rattle.std.specs.Prelude.{◌≡◌, refl};
+ghost use Rattle.std.proofs.Common.{rules};
+ghost use Rattle.serde_json.specs.Data.{null};
+ghost use Rattle.duel.specs.Rules.{duel, part_of, counted, kind_of, access_of, system_named};
+
+use crate::data::{ATTACK, Datum, DuelSystem, HP, TARGET, TURN};
+use scene_model::{DocumentRules, ReadError, SystemAccess};
+use serde_json::Value;
+use shred_plan::RunningTime;
+use std::alloc::{AllocError, Global};
+
+/// The rules of a duel: the parts `attack`, `hp` and `target`, the global `turn`, and the systems `strike` and `bury`.
+#[derive(Clone, Copy, Debug)]
+pub struct Duel;
+
+/// The system of a kind, if it is one of a duel.
+fn system_of(kind: &str) -> Option<DuelSystem>
+    ensures { result ≡ system_named kind.now }
+{
+    if kind == "strike" {
+        return Some(DuelSystem::Strike);
+    }
+    if kind == "bury" {
+        return Some(DuelSystem::Bury);
+    }
+    None
+}
+
+impl DocumentRules for Duel {
+    ghost use Rattle.duel.specs.RuleLaws.{law-kinds_ascend, law-globals_ascend, law-reads_admitted, law-reads_back};
+    ghost use Rattle.duel.specs.RuleLaws.{law-global_reads_back, law-no_float, law-declares_known};
+
+    type Data = Datum;
+
+    type Global = u64;
+
+    type System = DuelSystem;
+
+    ghost book = { λ _. duel };
+
+    ghost part_of = { part_of };
+
+    ghost global_of = { counted };
+
+    ghost kind_of = { kind_of };
+
+    ghost config_of = { λ _. null };
+
+    ghost declared = { access_of };
+
+    ghost said_time = { λ _. 3 };
+
+    ghost made_by = { λ _ _. Unit {0} };
+
+    fn part_names(&self) -> &[&'static str] {
+        &[ATTACK, HP, TARGET]
+    }
+
+    fn global_names(&self) -> &[&'static str] {
+        &[TURN]
+    }
+
+    fn read_data(&self, _alloc: Global, kind: &str, value: &Value) -> Result<Datum, ReadError> {
+        let Some(number) = value.as_u64() else {
+            return Err(ReadError::Shape);
+        };
+        if kind == TARGET {
+            Ok(Datum::Target(number))
+        } else {
+            Ok(Datum::Number(number))
+        }
+    }
+
+    fn write_data(&self, _alloc: Global, datum: &Datum) -> Result<Value, AllocError> {
+        match *datum {
+            Datum::Number(number) => Ok(Value::from(number)),
+            Datum::Target(id) => Ok(Value::from(id)),
+        }
+    }
+
+    fn admits(&self, kind: &str, datum: &Datum) -> bool {
+        match *datum {
+            Datum::Number(_) => kind != TARGET,
+            Datum::Target(_) => kind == TARGET,
+        }
+    }
+
+    fn refs(&self, alloc: Global, datum: &Datum) -> Result<Vec<u64>, AllocError> {
+        match *datum {
+            Datum::Number(_) => Ok(Vec::new(alloc)),
+            Datum::Target(id) => Ok(vec![in alloc; id]?),
+        }
+    }
+
+    fn read_global(&self, _alloc: Global, _name: &str, value: &Value) -> Result<u64, ReadError> {
+        value.as_u64().ok_or(ReadError::Shape)
+    }
+
+    fn write_global(&self, _alloc: Global, global: &u64) -> Result<Value, AllocError> {
+        Ok(Value::from(*global))
+    }
+
+    fn make_system(
+        &self,
+        _alloc: Global,
+        kind: &str,
+        config: &Value,
+    ) -> Result<Option<DuelSystem>, ReadError> {
+        let Some(system) = system_of(kind) else {
+            return Ok(None);
+        };
+        if config.is_null() {
+            Ok(Some(system))
+        } else {
+            Err(ReadError::Shape)
+        }
+    }
+
+    fn accessor(system: &DuelSystem, alloc: Global) -> Result<SystemAccess, AllocError> {
+        match *system {
+            DuelSystem::Strike => Ok(SystemAccess {
+                reads: vec![in alloc; ATTACK, TARGET]?,
+                writes: vec![in alloc; HP]?,
+                read_globals: Vec::new(alloc),
+                written_globals: vec![in alloc; TURN]?,
+                writes_reserved: false,
+            }),
+            DuelSystem::Bury => Ok(SystemAccess {
+                reads: vec![in alloc; HP, TARGET]?,
+                writes: Vec::new(alloc),
+                read_globals: Vec::new(alloc),
+                written_globals: Vec::new(alloc),
+                writes_reserved: false,
+            }),
+        }
+    }
+
+    fn running_time(_system: &DuelSystem) -> RunningTime {
+        RunningTime::Average
+    }
+
+    ghost kinds_ascend = { λ _. law-kinds_ascend };
+
+    ghost globals_ascend = { λ _. law-globals_ascend };
+
+    ghost clones = { Prim.search rules };
+
+    ghost global_clones = { Prim.search rules };
+
+    ghost reads_admitted = { λ _. law-reads_admitted };
+
+    ghost reads_back = { λ _. law-reads_back };
+
+    ghost global_reads_back = { λ _. law-global_reads_back };
+
+    ghost no_float = { law-no_float };
+
+    ghost no_global_float = { λ _. refl };
+
+    ghost declares_known = { λ _. law-declares_known };
+}

@@ -1,5 +1,0 @@
-use Rattle.hibitset.specs.SharedSets.{IsSeatOf}
-use Rattle.phase_runs.proofs.set_times.add_all.Given as goal
-
-abbrev pub invariant-loop-id : goal.invariant-loop-id
-invariant-loop-id l = IsSeatOf l.fn.set l.seat

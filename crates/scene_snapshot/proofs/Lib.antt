@@ -1,6 +1,0 @@
-pub mod CallerLemmas
-pub mod PrintLemmas
-pub mod KeptTextLemmas
-pub mod KeptLemmas
-pub mod BearerLemmas
-pub mod IdLemmas

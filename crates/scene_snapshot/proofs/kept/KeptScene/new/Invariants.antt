@@ -1,9 +1,0 @@
-use Rattle.std.proofs.Common.{◌≡◌, [], All, length}
-use Rattle.scene_snapshot.proofs.kept.KeptScene.new.Given as goal
-
--- so many columns without slots
-abbrev pub invariant-loop : goal.invariant-loop
-invariant-loop g l = record {
-  count : length l.columns.items ≡ l.counter;
-  bare : All (λ column. column.items ≡ []) l.columns.items;
-}

@@ -1,8 +1,0 @@
-use Rattle.std.proofs.Common.{◌≡◌, take}
-use Rattle.std.specs.FinMap as finite
-use Rattle.scene_snapshot.specs.KeptScenes.{bearers}
-use Rattle.scene_snapshot.proofs.text.bearers_of.Given as goal
-
--- the bearers so far
-abbrev pub invariant-loop-index : goal.invariant-loop-index
-invariant-loop-index l = l.found.entries ≡ finite.entries (bearers (take l.index l.seats))

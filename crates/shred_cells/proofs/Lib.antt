@@ -1,4 +1,0 @@
-mod CellLemmas
-mod HeldLemmas
-mod SeatLemmas
-mod HashedLemmas

@@ -1,2 +1,0 @@
-pub mod HalfLemmas
-pub mod OrderLemmas

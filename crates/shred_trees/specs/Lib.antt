@@ -1,4 +1,0 @@
-pub mod Trees
-pub mod TreeLaws
-pub mod Rooms
-pub mod Causes
