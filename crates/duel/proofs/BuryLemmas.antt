@@ -1,148 +1,136 @@
--- What `bury` comes to is what the rules say of it.
-use Rattle.std.proofs.Common.{◌≡◌, ◌++◌, ◌==◌, append_assoc, ℕ, Bool, true, false, cond, List, [], ◌∷◌, length, Option, Some, None, Result, Ok, Err, is_some, refl, ap, sym, ◌∙◌}
-use Rattle.std.specs.Prelude.{IsSome, MatchResult, option_and_then}
-use Rattle.std.specs.List.{filter_map, cons_option}
+-- A run of `bury` is a turn of it.
+use Rattle.std.proofs.Common.{◌≡◌, ◌++◌, ◌==◌, ℕ, Bool, true, false, cond, List, [], Option, Some, None, Result, Ok, Err, refl, ap, sym, ◌∙◌, subst, All}
+use Rattle.std.specs.Prelude.{MatchResult, option_and_then}
+use Rattle.std.specs.List.{filter_map}
 use Rattle.std.specs.Option.{option_map_or}
 use Rattle.std.proofs.lemmas.Bool.{false≢true}
-use Rattle.std.proofs.lemmas.List.{length-map}
+use Rattle.std.proofs.lemmas.List.Elements.{All-append}
 use Rattle.shred_world.specs.Bundles.{Holding}
 use Rattle.shred_stages.specs.declared.stop.Stop.{Stop}
 use Rattle.shred_stages.specs.declared.stop.Stop.TheVariants as stop
+use Rattle.shred_stages.specs.Views.{error_of}
 use Rattle.specs_entity.specs.Life.{LifeAt}
-use Rattle.scene_model.specs.Rulebook.{Command, kill, take, queue_room}
-use Rattle.scene_model.specs.Scenes.{RefsLive}
-use Rattle.scene_model.specs.declared.command.Command.{Command as CodeCommand}
-use Rattle.scene_model.specs.declared.command.NotQueued.{NotQueued}
-use Rattle.scene_model.specs.declared.command.NotQueued.TheVariants as refusals
-use Rattle.scene_model.specs.Queues.{plain_command, plain_commands, IsFull}
-use Rattle.scene_world.specs.Stops.{stop_for}
+use Rattle.scene_model.specs.Rulebook.{Fragment, Command, kill, take}
+use Rattle.scene_model.specs.Lawful.{IsLawful}
+use Rattle.scene_world.specs.Stored.{Stored}
+use Rattle.scene_world.specs.Asking.{StopsAsking}
+use Rattle.scene_world.specs.Columns.{ids_having}
+use Rattle.scene_world.specs.Numbers.{number_in, first_named, reference_of}
 use Rattle.scene_world.specs.Rolls.{index_of, ids_in}
+use Rattle.scene_world.specs.Standing.{column_of, seen_in}
+use Rattle.scene_world.specs.Turns.{sense_of, rules_by, IsLentFit, Ends, Runs}
+use Rattle.scene_world.proofs.CallerLemmas.{given-having, given-same, all-given}
 use Rattle.duel.specs.declared.data.Ask.TheVariants.{Deaths, Losses}
-use Rattle.duel.specs.declared.data.Datum.{Datum}
 use Rattle.duel.specs.declared.data.DuelSystem.TheVariants.{Bury}
 use Rattle.duel.specs.declared.values.Value.{Value}
-use Rattle.duel.specs.Rules.{hp_kind, target_kind, part_of, target_of, is_down, death_of, loss_of, burials}
-use Rattle.duel.specs.Sights.{duel_roll, hp_at, target_at, TargetsKnown}
-use Rattle.duel.specs.Burying.{down_at, asked_at, asked_seen, all_asked, IsNotAsked, StopsAsking, Buried, StopsBurying}
-use Rattle.duel.specs.Columns.{duel_columns}
-use Rattle.scene_world.specs.Columns.{column_held, ids_having}
-use Rattle.scene_world.proofs.CallerLemmas.{given-kept}
-use Rattle.duel.proofs.SightLemmas.{seen_by, hp-there, target-there, hp-number, target-seen, no-target}
+use Rattle.duel.specs.Rules.{hp_kind, target_kind, is_down, death_of, loss_of, burials, duel}
+use Rattle.duel.specs.Values.{kinds}
+use Rattle.duel.specs.Sights.{duel_roll, hp_at, target_at}
+use Rattle.duel.specs.Burying.{down_at, asked_at, asked_seen, all_asked}
+use Rattle.duel.proofs.SightLemmas.{meant, seen_by, hp-seen, no-target, target-seen}
 
--- something is asked for none but who has an hp, or a target
-pub asked-hp : (w : Holding Value) (id : ℕ) → IsSome (asked_seen Deaths w id) → is_some (option_and_then (hp_at w) (index_of (duel_roll w) id)) ≡ true
-asked-hp w id some = by (index_of (duel_roll w) id) some
-  where
-    inside : (o : Option ℕ) → IsSome (cond (option_map_or (λ hp. hp == 0) o false) (Some (kill id)) None) → is_some o ≡ true
-    inside None some = absurd (false≢true some)
-    inside (Some hp) some = refl
+-- ---- who is asked for
 
-    by : (o : Option ℕ) → IsSome (option_and_then (asked_at Deaths w id) o) → is_some (option_and_then (hp_at w) o) ≡ true
-    by None some = absurd (false≢true some)
-    by (Some index) some = inside (hp_at w index) some
+module _ (w : Holding Value) where
+  -- deaths are asked for those alone who have an hp, and losses for those who have a target
+  pub asking-deaths : filter_map (asked_seen Deaths w) (ids_having (duel_roll w) (column_of kinds (seen_in w) hp_kind)) ≡ filter_map (asked_seen Deaths w) (ids_in (duel_roll w))
+  asking-deaths = given-having (duel_roll w) (column_of kinds (seen_in w) hp_kind) (asked_at Deaths w)
+      (λ id index none. ap (λ (o : Option Stored). cond (option_map_or (λ hp. hp == 0) (option_and_then (λ stored. number_in (stored.written [])) o) false) (Some (kill id)) None) none)
 
-pub asked-target : (w : Holding Value) (id : ℕ) → IsSome (asked_seen Losses w id) → is_some (option_and_then (target_at w) (index_of (duel_roll w) id)) ≡ true
-asked-target w id some = by (index_of (duel_roll w) id) some
-  where
-    inside : (down : Bool) (o : Option LifeAt) → IsSome (cond down None (cond (option_map_or (λ target. down_at w target.id) o false) (Some (take id target_kind)) None)) → is_some o ≡ true
-    inside true o some = absurd (false≢true some)
-    inside false None some = absurd (false≢true some)
-    inside false (Some target) some = refl
-
-    by : (o : Option ℕ) → IsSome (option_and_then (asked_at Losses w id) o) → is_some (option_and_then (target_at w) o) ≡ true
-    by None some = absurd (false≢true some)
-    by (Some index) some = inside (down_at w index) (target_at w index) some
-
--- so all that is asked for is asked for one of those
-pub asking-deaths : (w : Holding Value) (ids : List ℕ) → ids ≡ ids_having (duel_roll w) (column_held (duel_columns.stored hp_kind) 5 w) → filter_map (asked_seen Deaths w) ids ≡ all_asked Deaths w
-asking-deaths w ids are =
-    ap (filter_map (asked_seen Deaths w)) are
-    ∙ given-kept (asked_seen Deaths w) (λ id. is_some (option_and_then (column_held (duel_columns.stored hp_kind) 5 w) (index_of (duel_roll w) id))) (ids_in (duel_roll w)) (λ id some. hp-there w id ∙ asked-hp w id some)
-
-pub asking-losses : (w : Holding Value) (ids : List ℕ) → ids ≡ ids_having (duel_roll w) (column_held (duel_columns.stored target_kind) 6 w) → filter_map (asked_seen Losses w) ids ≡ all_asked Losses w
-asking-losses w ids are =
-    ap (filter_map (asked_seen Losses w)) are
-    ∙ given-kept (asked_seen Losses w) (λ id. is_some (option_and_then (column_held (duel_columns.stored target_kind) 6 w) (index_of (duel_roll w) id))) (ids_in (duel_roll w)) (λ id some. target-there w id ∙ asked-target w id some)
-
--- a command that a queue did not take was not asked for
-pub not-asked : (command : CodeCommand Datum) (old new : List (CodeCommand Datum)) (refused : NotQueued Datum) → new ≡ old → (IsFull refused → length old ≡ queue_room)
-    → IsNotAsked (Some (plain_command part_of command)) (plain_commands part_of old) (plain_commands part_of new) (stop_for refused)
-not-asked command old new (refusals.Full back) same full = (plain_command part_of command, refl, length-map old (plain_command part_of) ∙ full tt, ap (plain_commands part_of) same)
-not-asked command old new (refusals.Memory back) same full = tt
-
--- one that was not asked for stops what asks for it and more
-pub stops-asking : (command : Option Command) (rest all before after : List Command) (why : Stop) → ((one : Command) → command ≡ Some one → all ≡ before ++ one ∷ rest) → IsNotAsked command before after why → StopsAsking all after why
-stops-asking command rest all before after (stop.Refused text) gives told = absurd told
-stops-asking command rest all before after stop.Memory gives told = tt
-stops-asking command rest all before after stop.Full gives told =
-    ((told.0, rest, gives told.0 told.1 ∙ ap (λ some. some ++ told.0 ∷ rest) (sym told.3)), ap length told.3 ∙ told.2)
-
--- and so it stops, where still more is asked for behind it
-pub stops-longer : (all more commands : List Command) (why : Stop) → StopsAsking all commands why → StopsAsking (all ++ more) commands why
-stops-longer all more commands (stop.Refused text) stopped = absurd stopped
-stops-longer all more commands stop.Memory stopped = tt
-stops-longer all more commands stop.Full stopped =
-    ((stopped.0.0, stopped.0.1 ++ more, ap (λ some. some ++ more) stopped.0.2 ∙ append_assoc commands (stopped.0.0 ∷ stopped.0.1) more), stopped.1)
-
-abbrev loss_if : ℕ → Bool → Bool → Option Command
-loss_if id down of_target = cond down None (cond of_target (Some (take id target_kind)) None)
-
-module _ (w : Holding Value) (known : TargetsKnown w) (live : RefsLive (seen_by Bury w).ids (seen_by Bury w).part) where
-  -- who is down
-  down-seen : (id at : ℕ) → index_of (duel_roll w) id ≡ Some at → is_down (seen_by Bury w) id ≡ down_at w at
-  down-seen id at is = ap (λ o. option_map_or (λ hp. hp == 0) o false) (hp-number w Bury id ∙ ap (option_and_then (hp_at w)) is)
-
-  nobody-down : (id : ℕ) → index_of (duel_roll w) id ≡ None → is_down (seen_by Bury w) id ≡ false
-  nobody-down id is = ap (λ o. option_map_or (λ hp. hp == 0) o false) (hp-number w Bury id ∙ ap (option_and_then (hp_at w)) is)
-
-  -- the death of an id, and its loss, are what is asked for it
-  death-seen : (id : ℕ) → asked_seen Deaths w id ≡ death_of (seen_by Bury w) id
-  death-seen id = by (index_of (duel_roll w) id) refl
+  pub asking-losses : filter_map (asked_seen Losses w) (ids_having (duel_roll w) (column_of kinds (seen_in w) target_kind)) ≡ filter_map (asked_seen Losses w) (ids_in (duel_roll w))
+  asking-losses = given-having (duel_roll w) (column_of kinds (seen_in w) target_kind) (asked_at Losses w)
+      (λ id index none. ap (λ (o : Option Stored). cond (down_at w index) None (cond (option_map_or (λ (target : LifeAt). down_at w target.id) (option_and_then (λ stored. first_named stored.named) o) false) (Some (take id target_kind)) None)) none
+      ∙ either (down_at w index))
     where
-      by : (o : Option ℕ) → index_of (duel_roll w) id ≡ o → option_and_then (asked_at Deaths w id) o ≡ death_of (seen_by Bury w) id
-      by None is = sym (ap (λ b. cond b (Some (kill id)) None) (nobody-down id is))
-      by (Some at) is = sym (ap (λ b. cond b (Some (kill id)) None) (down-seen id at is))
+      neither : Bool → Option Command
+      neither b = cond b None None
 
-  loss-seen : (id : ℕ) → asked_seen Losses w id ≡ loss_of (seen_by Bury w) id
-  loss-seen id = by (index_of (duel_roll w) id) refl
+      either : (b : Bool) → neither b ≡ None
+      either true = refl
+      either false = refl
+
+-- ---- what is asked for is what the rules say
+
+module _ (w : Holding Value) (lent : IsLentFit kinds meant Bury w) where
+  abbrev seen : Fragment
+  seen = seen_by Bury w
+
+  down-seen : (id : ℕ) → is_down seen id ≡ option_map_or (down_at w) (index_of (duel_roll w) id) false
+  down-seen id = ap (λ o. option_map_or (λ hp. hp == 0) o false) (hp-seen w Bury id) ∙ by (index_of (duel_roll w) id)
     where
-      at_target : (at : ℕ) → index_of (duel_roll w) id ≡ Some at → (o : Option LifeAt) → target_at w at ≡ o → option_map_or (λ target. down_at w target.id) o false ≡ option_map_or (is_down (seen_by Bury w)) (target_of (seen_by Bury w) id) false
-      at_target at is None none = sym (ap (λ o. option_map_or (is_down (seen_by Bury w)) o false) (no-target w Bury known live id (ap (option_and_then (target_at w)) is ∙ none)))
-      at_target at is (Some entity) held =
-          let target = target-seen w Bury known live id at entity is held in
-          sym (ap (λ o. option_map_or (is_down (seen_by Bury w)) o false) target.is ∙ down-seen target.to.id entity.id target.to.there)
+      by : (o : Option ℕ) → option_map_or (λ hp. hp == 0) (option_and_then (hp_at w) o) false ≡ option_map_or (down_at w) o false
+      by None = refl
+      by (Some index) = refl
 
-      by : (o : Option ℕ) → index_of (duel_roll w) id ≡ o → option_and_then (asked_at Losses w id) o ≡ loss_of (seen_by Bury w) id
-      by None is = sym (ap (λ o. loss_if id (is_down (seen_by Bury w) id) (option_map_or (is_down (seen_by Bury w)) o false)) (no-target w Bury known live id (ap (option_and_then (target_at w)) is)) ∙ ap (λ b. loss_if id b false) (nobody-down id is))
-      by (Some at) is =
-          ap (λ b. loss_if id b (option_map_or (λ target. down_at w target.id) (target_at w at) false)) (sym (down-seen id at is))
-          ∙ ap (loss_if id (is_down (seen_by Bury w) id)) (at_target at is (target_at w at) refl)
+  death-seen : (id : ℕ) → asked_seen Deaths w id ≡ death_of seen id
+  death-seen id = by (index_of (duel_roll w) id) ∙ sym (ap (λ b. cond b (Some (kill id)) None) (down-seen id))
+    where
+      by : (o : Option ℕ) → option_and_then (asked_at Deaths w id) o ≡ cond (option_map_or (down_at w) o false) (Some (kill id)) None
+      by None = refl
+      by (Some index) = refl
 
-  given-same : (f g : ℕ → Option Command) → ((id : ℕ) → f id ≡ g id) → (ids : List ℕ) → filter_map f ids ≡ filter_map g ids
-  given-same f g same [] = refl
-  given-same f g same (id ∷ ids) = ap (λ o. cons_option o (filter_map f ids)) (same id) ∙ ap (cons_option (g id)) (given-same f g same ids)
+  abbrev loss_if : ℕ → Bool → Bool → Option Command
+  loss_if id down of_target = cond down None (cond of_target (Some (take id target_kind)) None)
 
-  -- so all that is asked for is what the rules say
-  pub all-burials : all_asked Deaths w ++ all_asked Losses w ≡ burials (seen_by Bury w)
+  loss-seen : (id : ℕ) → asked_seen Losses w id ≡ loss_of seen id
+  loss-seen id = by (index_of (duel_roll w) id) refl ∙ sym (ap (λ b. loss_if id b (option_map_or (is_down seen) (reference_of seen target_kind id) false)) (down-seen id))
+    where
+      of_target : (index : ℕ) → index_of (duel_roll w) id ≡ Some index → (o : Option LifeAt) → target_at w index ≡ o
+          → option_map_or (λ (target : LifeAt). down_at w target.id) o false ≡ option_map_or (is_down seen) (reference_of seen target_kind id) false
+      of_target index at None none = sym (ap (λ o. option_map_or (is_down seen) o false) (no-target w Bury id (ap (option_and_then (target_at w)) at ∙ none)))
+      of_target index at (Some entity) held =
+          let target = target-seen w Bury lent id index entity at held in
+          sym (ap (λ o. option_map_or (is_down seen) o false) target.1 ∙ down-seen target.0.id ∙ ap (λ o. option_map_or (down_at w) o false) target.0.there)
+
+      by : (o : Option ℕ) → index_of (duel_roll w) id ≡ o
+          → option_and_then (asked_at Losses w id) o ≡ loss_if id (option_map_or (down_at w) o false) (option_map_or (is_down seen) (reference_of seen target_kind id) false)
+      by None at = sym (ap (λ o. loss_if id false (option_map_or (is_down seen) o false)) (no-target w Bury id (ap (option_and_then (target_at w)) at)))
+      by (Some index) at = ap (loss_if id (down_at w index)) (of_target index at (target_at w index) refl)
+
+  all-burials : all_asked w ≡ burials seen
   all-burials =
-      ap (λ front. front ++ all_asked Losses w) (given-same (asked_seen Deaths w) (death_of (seen_by Bury w)) death-seen (ids_in (duel_roll w)))
-      ∙ ap (λ back. filter_map (death_of (seen_by Bury w)) (ids_in (duel_roll w)) ++ back) (given-same (asked_seen Losses w) (loss_of (seen_by Bury w)) loss-seen (ids_in (duel_roll w)))
+      ap (λ front. front ++ filter_map (asked_seen Losses w) (ids_in (duel_roll w))) (given-same (asked_seen Deaths w) (death_of seen) death-seen (ids_in (duel_roll w)))
+      ∙ ap (λ back. filter_map (death_of seen) (ids_in (duel_roll w)) ++ back) (given-same (asked_seen Losses w) (loss_of seen) loss-seen (ids_in (duel_roll w)))
 
--- ---- what both asks come to
+  -- and lawful
+  abbrev Lawful : Command → Type 0
+  Lawful = IsLawful (rules_by (sense_of duel))
 
-module _ (w : Holding Value) (known : TargetsKnown w) (two : List Command) where
-  -- deaths that stop it stop it
-  pub first-stops : (why : Stop) → StopsAsking (all_asked Deaths w) two why → StopsBurying w two why
-  first-stops (stop.Refused text) stopped = absurd stopped
-  first-stops stop.Memory stopped = tt
-  first-stops stop.Full stopped = (known, stops-longer (all_asked Deaths w) (all_asked Losses w) two stop.Full stopped)
+  burials-lawful : All Lawful (burials seen)
+  burials-lawful = All-append Lawful (filter_map (death_of seen) seen.ids) (filter_map (loss_of seen) seen.ids)
+      (all-given (death_of seen) Lawful (λ id one e. death id one (is_down seen id) e) seen.ids)
+      (all-given (loss_of seen) Lawful (λ id one e. loss id one (is_down seen id) (option_map_or (is_down seen) (reference_of seen target_kind id) false) e) seen.ids)
+    where
+      death : (id : ℕ) (one : Command) (b : Bool) → cond b (Some (kill id)) None ≡ Some one → Lawful one
+      death id one true e = let same : kill id ≡ one = cc in subst (IsLawful (rules_by (sense_of duel))) same tt
+      death id one false e = cc
 
-  second-stops : (why : Stop) → StopsAsking (all_asked Deaths w ++ all_asked Losses w) two why → StopsBurying w two why
-  second-stops (stop.Refused text) stopped = absurd stopped
-  second-stops stop.Memory stopped = tt
-  second-stops stop.Full stopped = (known, stopped)
+      loss : (id : ℕ) (one : Command) (a b : Bool) → cond a None (cond b (Some (take id target_kind)) None) ≡ Some one → Lawful one
+      loss id one true b e = cc
+      loss id one false true e = let same : take id target_kind ≡ one = cc in subst (IsLawful (rules_by (sense_of duel))) same refl
+      loss id one false false e = cc
 
-  -- and losses behind them end it
-  pub second-ends : {T : Type 0} (result : Result T Stop) → MatchResult result (λ done. two ≡ all_asked Deaths w ++ all_asked Losses w) (StopsAsking (all_asked Deaths w ++ all_asked Losses w) two) → MatchResult result (λ done. Buried w two) (StopsBurying w two)
-  second-ends (Ok done) asked = (known, asked)
-  second-ends (Err why) stopped = second-stops why stopped
+  -- so a run ends as the rules say
+  pub bury-ends : {T : Type 0} (commands : List Command) (result : Result T Stop) → MatchResult result (λ _. commands ≡ all_asked w) (StopsAsking (all_asked w) commands)
+      → Ends kinds meant Bury w (error_of result) w commands
+  bury-ends commands (Ok done) asked = record {
+    did = (refl, asked ∙ all-burials);
+    lawful = record {
+      ids = refl;
+      owned = lent.fit.owned;
+      living = lent.fit.living;
+      admitted = lent.fit.admitted;
+      valued = λ name some. some;
+      readable = lent.fit.readable;
+      known = subst (All Lawful) (sym (asked ∙ all-burials)) burials-lawful;
+    };
+    within = λ kind known is. absurd (false≢true is);
+    shown = λ kind known is. absurd (false≢true is);
+  }
+  bury-ends commands (Err (stop.Refused text)) stopped = absurd stopped
+  bury-ends commands (Err stop.Memory) stopped = tt
+  bury-ends commands (Err stop.Full) stopped = ((stopped.0.0, stopped.0.1, sym all-burials ∙ stopped.0.2), stopped.1)
+
+pub bury-runs : {T : Type 0} (w : Holding Value) (commands : List Command) (result : Result T Stop) → MatchResult result (λ _. commands ≡ all_asked w) (StopsAsking (all_asked w) commands)
+    → Runs kinds meant Bury w (error_of result) Bury w commands
+bury-runs w commands result so = record { stays = tt; same = refl; same_sense = refl; no_more = λ f o did. did; ends = λ lent. bury-ends w lent commands result so }

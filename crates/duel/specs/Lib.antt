@@ -2,8 +2,6 @@
 pub mod Rules
 pub mod RuleLaws
 pub mod Values
-pub mod Columns
-pub mod WorldLaws
 pub mod Sights
 pub mod Striking
 pub mod Burying

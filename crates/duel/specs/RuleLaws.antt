@@ -1,21 +1,21 @@
 -- The laws of the rules of a duel, on what they say of documents.
-use Rattle.std.proofs.Common.{◌≡◌, ℕ, Bool, true, false, cond, eqb, [], ◌∷◌, Option, Some, None, is_some, refl, sym, subst}
-use Rattle.std.specs.Prelude.{option_map}
+use Rattle.std.proofs.Common.{◌≡◌, Bool, true, false, cond, [], ◌∷◌, Option, Some, None, is_some, refl, sym, subst}
 use Rattle.std.specs.Str.{bytes_eq}
 use Rattle.std.proofs.lemmas.Option.{none-some, same_Some}
-use Rattle.std.proofs.lemmas.Bool.{false≢true, eq-eqb}
 use Rattle.std.proofs.lemmas.Slice.Eq.{bytes_eq-Decides}
+use Rattle.serde_json.specs.Data.{null}
 use Rattle.serde_json.specs.Find.{as_null}
 use Rattle.serde_json.specs.Written.{has_float}
 use Rattle.scene_model.specs.Parts.{Json, Name, Part}
 use Rattle.scene_model.specs.Rulebook.{Facts, known, misshapen}
 use Rattle.scene_model.specs.Laws.{Ascend, DeclaresKnown}
-use Rattle.scene_world.specs.RuleLemmas.{ascending-names, known-names}
+use Rattle.scene_world.specs.RuleLemmas.{ascending-names, known-names, number-admitted, number-read-back, count-read-back}
+use Rattle.scene_world.specs.Turns.{sense_of, IsOfBook, meaning_of}
 use Rattle.duel.specs.declared.data.Datum.{Datum}
 use Rattle.duel.specs.declared.data.Datum.TheVariants.{Number, Target}
 use Rattle.duel.specs.declared.data.DuelSystem.{DuelSystem}
 use Rattle.duel.specs.declared.data.DuelSystem.TheVariants.{Strike, Bury}
-use Rattle.duel.specs.Rules.{target_kind, turn_name, strike_kind, bury_kind, part_kinds, counted, number_in, counting, referring, part_of, part_for, refers_once, refers_never, kind_of, system_named, access_of, configured, duel}
+use Rattle.duel.specs.Rules.{refers, turn_name, strike_kind, bury_kind, part_kinds, part_of, kind_of, system_named, access_of, configured, Makes, duel}
 
 -- names ascend
 pub law-kinds_ascend : Ascend part_kinds
@@ -24,38 +24,17 @@ law-kinds_ascend = ascending-names part_kinds refl
 pub law-globals_ascend : Ascend (turn_name ∷ [])
 law-globals_ascend = ascending-names (turn_name ∷ []) refl
 
--- what is read under a kind is of that kind
+-- what is read under a kind is of that kind, and what is written is read back under a kind that admits it
 pub law-reads_admitted : (kind : Name) (json : Json) (part : Part) → duel.read_part kind json ≡ Some part → duel.admits kind part ≡ true
-law-reads_admitted kind json part read = by (number_in json) read
-  where
-    admitted : (refers : Bool) (n : ℕ) → (λ (one : Part). cond refers (refers_once (number_in one.json) one.refs) (refers_never (number_in one.json) one.refs)) (cond refers (referring n) (counting n)) ≡ true
-    admitted true n = eq-eqb n n refl
-    admitted false n = refl
+law-reads_admitted kind = number-admitted (refers kind)
 
-    by : (o : Option ℕ) → option_map (part_for kind) o ≡ Some part → duel.admits kind part ≡ true
-    by None e = absurd (none-some part e)
-    by (Some n) e = subst (λ (one : Part). duel.admits kind one ≡ true) (same_Some (part_for kind n) part e) (admitted (bytes_eq kind target_kind) n)
-
--- what is written is read back under a kind that admits it
 pub law-reads_back : (kind : Name) (datum : Datum) → duel.admits kind (part_of datum) ≡ true → duel.read_part kind (part_of datum).json ≡ Some (part_of datum)
-law-reads_back kind (Target id) = by (bytes_eq kind target_kind)
-  where
-    by : (refers : Bool) → cond refers (eqb id id) false ≡ true → Some (cond refers (referring id) (counting id)) ≡ Some (referring id)
-    by true admitted = refl
-    by false admitted = absurd (false≢true admitted)
-law-reads_back kind (Number n) = by (bytes_eq kind target_kind)
-  where
-    by : (refers : Bool) → cond refers false true ≡ true → Some (cond refers (referring n) (counting n)) ≡ Some (counting n)
-    by true admitted = absurd (false≢true admitted)
-    by false admitted = refl
+law-reads_back kind (Number n) = number-read-back (refers kind) false n
+law-reads_back kind (Target id) = number-read-back (refers kind) true id
 
 -- what is read for the global is read back as it was
 pub law-global_reads_back : (name : Name) (json value : Json) → duel.read_global name json ≡ Some value → duel.read_global name value ≡ Some value
-law-global_reads_back name json value read = by (number_in json) read
-  where
-    by : (o : Option ℕ) → option_map counted o ≡ Some value → duel.read_global name value ≡ Some value
-    by None e = absurd (none-some value e)
-    by (Some n) e = subst (λ (one : Json). duel.read_global name one ≡ Some one) (same_Some (counted n) value e) refl
+law-global_reads_back name = count-read-back
 
 -- no float is written
 pub law-no_float : (datum : Datum) → has_float (part_of datum).json ≡ false
@@ -90,3 +69,7 @@ law-declares_known kind config facts e = by (system_named kind) e
     by : (found : Option DuelSystem) → configured found config ≡ known facts → DeclaresKnown duel facts.access
     by None f = absurd cc
     by (Some system) f = at system (is_some (as_null config)) f
+
+-- a system does what the rules say of its kind
+pub law-of_book : (system : DuelSystem) → IsOfBook (meaning_of 0 kind_of (λ _. null) access_of (λ _. sense_of duel) (λ system. Makes (Some system))) duel system
+law-of_book system = record { is = tt; sense_so = refl; does_so = λ f o did. subst (λ (found : Option DuelSystem). Makes found f o) (sym (named-kind system)) did }

@@ -1,12 +1,12 @@
 -- What the rules of a duel say of documents: three kinds of parts, one global and two systems.
-use Rattle.std.specs.Prelude.{◌≡◌, ◌+◌, ◌-◌, ◌==◌, ℕ, Bool, true, false, List, [], ◌∷◌, ◌++◌, codes, Option, Some, None, is_some, option_map, option_and_then, if◌then◌else◌}
+use Rattle.std.specs.Prelude.{◌≡◌, ◌+◌, ◌-◌, ◌==◌, ℕ, Bool, false, List, [], ◌∷◌, ◌++◌, codes, Option, Some, None, is_some, option_map, option_and_then, if◌then◌else◌}
 use Rattle.std.specs.List.{filter_map}
 use Rattle.std.specs.Option.{option_map_or}
 use Rattle.std.specs.Str.{bytes_eq}
-use Rattle.serde_json.specs.Data.{unsigned, number}
-use Rattle.serde_json.specs.Find.{as_null, as_number, as_u64}
-use Rattle.scene_model.specs.Parts.{Json, Name, Ref, living, gone, Part}
+use Rattle.serde_json.specs.Find.{as_null}
+use Rattle.scene_model.specs.Parts.{Json, Name, Part}
 use Rattle.scene_model.specs.Rulebook.{Access, Described, misshapen, unknown, known, Fragment, Outcome, leaves, refuses, fills, Command, kill, take, Book}
+use Rattle.scene_world.specs.Numbers.{counted, number_in, counting, referring, part_for, admits_number, number_of, reference_of}
 use Rattle.duel.specs.declared.data.Datum.{Datum}
 use Rattle.duel.specs.declared.data.Datum.TheVariants.{Number, Target}
 use Rattle.duel.specs.declared.data.DuelSystem.{DuelSystem}
@@ -37,65 +37,19 @@ part_kinds = attack_kind ∷ hp_kind ∷ target_kind ∷ []
 
 -- ---- parts
 
--- what is written for a number, and the number that a JSON is
-abbrev pub counted : ℕ → Json
-counted n = number (unsigned n)
-
-abbrev pub number_in : Json → Option ℕ
-number_in json = option_and_then as_u64 (as_number json)
-
--- a number as a part, and a reference
-abbrev pub counting : ℕ → Part
-counting n = record { json = counted n; refs = [] }
-
-abbrev pub referring : ℕ → Part
-referring id = record { json = counted id; refs = living id ∷ [] }
-
--- the part that a datum is
+-- the part that a datum is, and whether a kind is one of references
 abbrev pub part_of : Datum → Part
 part_of (Number n) = counting n
 part_of (Target id) = referring id
 
--- the part that a number is under a kind
-abbrev pub part_for : Name → ℕ → Part
-part_for kind n = if bytes_eq kind target_kind then referring n else counting n
-
--- whether references are one, to the id that was written, and whether there are none to a number
-abbrev pub refers_once : Option ℕ → List Ref → Bool
-refers_once None refs = false
-refers_once (Some n) [] = false
-refers_once (Some n) (gone ∷ refs) = false
-refers_once (Some n) (living id ∷ []) = id == n
-refers_once (Some n) (living id ∷ other ∷ refs) = false
-
-abbrev pub refers_never : Option ℕ → List Ref → Bool
-refers_never None refs = false
-refers_never (Some n) [] = true
-refers_never (Some n) (ref ∷ refs) = false
-
--- whether a part may stand under a kind: one reference under `target`, a number under the others
-abbrev pub admits : Name → Part → Bool
-admits kind part = if bytes_eq kind target_kind then refers_once (number_in part.json) part.refs else refers_never (number_in part.json) part.refs
+abbrev pub refers : Name → Bool
+refers kind = bytes_eq kind target_kind
 
 -- ---- what the systems do
 
--- the number of an id under a kind
-abbrev pub number_of : Fragment → Name → ℕ → Option ℕ
-number_of seen kind id = option_and_then (λ part. number_in part.json) (seen.part id kind)
-
--- the id that references are to, the first of them
-abbrev pub id_named : List Ref → Option ℕ
-id_named [] = None
-id_named (gone ∷ refs) = None
-id_named (living id ∷ refs) = Some id
-
--- the id that an id has as target
-abbrev pub target_of : Fragment → ℕ → Option ℕ
-target_of seen id = option_and_then (λ part. id_named part.refs) (seen.part id target_kind)
-
 -- the blow of an id: whom it meets, and how much it takes
 abbrev pub blow_of : Fragment → ℕ → Option (ℕ × ℕ)
-blow_of seen id = option_and_then (λ attack. option_map (λ target. (target, attack)) (target_of seen id)) (number_of seen attack_kind id)
+blow_of seen id = option_and_then (λ attack. option_map (λ target. (target, attack)) (reference_of seen target_kind id)) (number_of seen attack_kind id)
 
 -- how much blows take from one
 abbrev pub taken_by : ℕ → List (ℕ × ℕ) → ℕ
@@ -125,7 +79,7 @@ abbrev pub death_of : Fragment → ℕ → Option Command
 death_of seen id = if is_down seen id then Some (kill id) else None
 
 abbrev pub loss_of : Fragment → ℕ → Option Command
-loss_of seen id = if is_down seen id then None else (if option_map_or (is_down seen) (target_of seen id) false then Some (take id target_kind) else None)
+loss_of seen id = if is_down seen id then None else (if option_map_or (is_down seen) (reference_of seen target_kind id) false then Some (take id target_kind) else None)
 
 -- all deaths and then all losses, each in the order of the ids
 abbrev pub burials : Fragment → List Command
@@ -169,9 +123,9 @@ duel = record {
   part_names = part_kinds;
   owning = λ kind. false;
   global_names = turn_name ∷ [];
-  read_part = λ kind json. option_map (part_for kind) (number_in json);
+  read_part = λ kind json. option_map (part_for (refers kind)) (number_in json);
   read_global = λ name json. option_map counted (number_in json);
-  admits = admits;
+  admits = λ kind part. admits_number (refers kind) part;
   system = λ kind config. configured (system_named kind) config;
   meets = λ kind config seen outcome. Makes (system_named kind) seen outcome;
 }

@@ -1,19 +1,16 @@
 //! `bury` in a world.
-ghost use Rattle.std.specs.Prelude.{◌≡◌, ◌++◌, [], OnOk, IfOk, IfErr, MatchResult, option_map};
-ghost use Rattle.std.specs.List.{filter_map};
-ghost use Rattle.std.specs.Option.{option_to_list};
+ghost use Rattle.std.specs.Prelude.{◌≡◌, [], MatchResult, option_map};
 ghost use Rattle.scene_model.specs.Queues.{waiting, plain_command, plain_commands};
+ghost use Rattle.scene_world.specs.Asking.{StopsAsking};
 ghost use Rattle.duel.specs.Rules.{part_of};
-ghost use Rattle.duel.specs.Burying.{down_at, asked_seen, all_asked, IsNotAsked, StopsAsking, Buried, StopsBurying};
+ghost use Rattle.duel.specs.Burying.{down_at, asked_seen, all_asked};
 
-use crate::data::{Ask, Datum, TARGET};
-use crate::parts::{Hp, Target};
-use crate::sights::{hp_at, see_targets, target_at};
+use crate::data::{Ask, Datum, Hp, Target};
 use crate::values::Value;
 use scene_model::{Command, Queue};
-use scene_world::columns::ids_with;
+use scene_world::columns::{entity_at, number_at};
 use scene_world::known::index_under;
-use scene_world::stop_for;
+use scene_world::{Asks, ask_with};
 use shred_stages::Stop;
 use shred_world::Holder;
 use specs_layouts::MaskedStorage;
@@ -23,20 +20,20 @@ use std::alloc::{AllocError, Global};
 fn down_at<W: Holder<Value>>(view: &W, index: u32) -> bool
     ensures { result ≡ down_at (W.slots view.now) index }
 {
-    hp_at(view, index) == Some(0)
+    number_at::<Hp, Value, W>(view, index) == Some(0)
 }
 
 /// What is asked for an id, if something is.
-fn command_of<W: Holder<Value>>(view: &W, ask: Ask, id: u64) -> Option<Command<Datum>>
+fn asked<W: Holder<Value>>(view: &W, ask: Ask, id: u64) -> Option<Command<Datum>>
     ensures { option_map (plain_command part_of) result ≡ asked_seen ask (W.slots view.now) id }
 {
     let index = index_under::<Value, Datum, W>(view, id)?;
     match ask {
         Ask::Deaths if down_at(view, index) => Some(Command::Kill(id)),
         Ask::Losses if !down_at(view, index) => {
-            let target = target_at(view, index)?;
+            let target = entity_at::<Target, Value, W>(view, index)?;
             if down_at(view, target.id()) {
-                Some(Command::Take(id, TARGET))
+                Some(Command::Take(id, "target"))
             } else {
                 None
             }
@@ -45,60 +42,19 @@ fn command_of<W: Holder<Value>>(view: &W, ask: Ask, id: u64) -> Option<Command<D
     }
 }
 
-/// Puts a command into a queue, if there is one.
-///
-/// Errors: `Full`, `Memory`; the queue is then as it was.
-fn ask_for(queue: &mut Queue<Datum>, command: Option<Command<Datum>>) -> Result<(), Stop>
-    ensures ok { OnOk result (plain_commands part_of (waiting queue.new)
-        ≡ plain_commands part_of (waiting queue.old) ++ option_to_list (option_map (plain_command part_of) command)) }
-    ensures err { IfErr result (IsNotAsked (option_map (plain_command part_of) command)
-        (plain_commands part_of (waiting queue.old)) (plain_commands part_of (waiting queue.new))) }
-{
-    match command {
-        None => Ok(()),
-        Some(command) => match queue.push(command) {
-            Ok(()) => Ok(()),
-            Err(refused) => Err(stop_for(refused)),
-        },
-    }
-}
+impl Asks<Value, Datum> for Ask {
+    ghost part_of = { part_of };
 
-/// The ids for which something may be asked, in order: all that is asked for is asked for one of these.
-///
-/// Errors: want of memory.
-fn ids_asking<W: Holder<Value>>(alloc: Global, view: &W, ask: Ask) -> Result<Vec<u64>, AllocError>
-    ensures { IfOk result (λ ids. filter_map (asked_seen ask (W.slots view.now)) ids.items
-        ≡ all_asked ask (W.slots view.now)) }
-{
-    match ask {
-        Ask::Deaths => ids_with::<MaskedStorage<Hp>, Value, W>(alloc, view),
-        Ask::Losses => ids_with::<MaskedStorage<Target>, Value, W>(alloc, view),
-    }
-}
+    ghost asked = { asked_seen };
 
-/// Asks for what is asked of each, in the order of the ids.
-///
-/// Errors: `Full`, where the queue is full of the first of it; `Memory`.
-fn ask_all<W: Holder<Value>>(
-    alloc: Global,
-    view: &W,
-    ask: Ask,
-    queue: &mut Queue<Datum>,
-) -> Result<(), Stop>
-    ensures { MatchResult result
-        (λ _. plain_commands part_of (waiting queue.new)
-        ≡ plain_commands part_of (waiting queue.old) ++ all_asked ask (W.slots view.now))
-        (StopsAsking (plain_commands part_of (waiting queue.old) ++ all_asked ask (W.slots view.now))
-        (plain_commands part_of (waiting queue.new))) }
-{
-    let Ok(list) = ids_asking(alloc, view, ask) else {
-        return Err(Stop::Memory);
-    };
-    let ids = list.as_slice();
-    for place in 0..ids.len() {
-        ask_for(queue, command_of(view, ask, ids[place]))?;
+    fn command_for<W: Holder<Value>>(
+        &self,
+        _alloc: Global,
+        view: &W,
+        id: u64,
+    ) -> Result<Option<Command<Datum>>, AllocError> {
+        Ok(asked(view, *self, id))
     }
-    Ok(())
 }
 
 /// Asks for the death of each whose hp is 0, and that each other whose target's hp is 0 has no target any more.
@@ -111,13 +67,9 @@ pub(crate) fn bury<H: AllocGlobal, W: Holder<Value>>(
 ) -> Result<(), Stop>
     requires empty { waiting queue.old ≡ [] }
     ensures { MatchResult result
-        (λ _. Buried (W.slots view.now) (plain_commands part_of (waiting queue.new)))
-        (StopsBurying (W.slots view.now) (plain_commands part_of (waiting queue.new))) }
+        (λ _. plain_commands part_of (waiting queue.new) ≡ all_asked (W.slots view.now))
+        (StopsAsking (all_asked (W.slots view.now)) (plain_commands part_of (waiting queue.new))) }
 {
-    match see_targets(rt.alloc(), view) {
-        Ok(()) => {}
-        Err(_) => return Err(Stop::Memory),
-    }
-    ask_all(rt.alloc(), view, Ask::Deaths, queue)?;
-    ask_all(rt.alloc(), view, Ask::Losses, queue)
+    ask_with::<MaskedStorage<Hp>, Ask, Value, W>(rt.alloc(), view, &Ask::Deaths, queue)?;
+    ask_with::<MaskedStorage<Target>, Ask, Value, W>(rt.alloc(), view, &Ask::Losses, queue)
 }

@@ -1,18 +1,19 @@
-//! The parts of a duel, and its systems.
+//! The parts of a duel, in documents and in a world, and its systems.
+use specs_entity::Entity;
 
-/// The kind of parts that are how much an entity takes from its target in a turn.
-pub const ATTACK: &str = "attack";
+/// How much an entity takes from its target in a turn.
+#[derive(Clone, Copy, Debug, PartialEq, Eq)]
+pub struct Attack(pub u64);
 
-/// The kind of parts that are how much can be taken from an entity before it is buried.
-pub const HP: &str = "hp";
+/// How much can be taken from an entity before it is buried.
+#[derive(Clone, Copy, Debug, PartialEq, Eq)]
+pub struct Hp(pub u64);
 
-/// The kind of parts that are a reference to the entity from which the holder takes.
-pub const TARGET: &str = "target";
+/// The entity from which an entity takes.
+#[derive(Clone, Copy, Debug, PartialEq, Eq)]
+pub struct Target(pub Entity);
 
-/// The global that counts the turns.
-pub const TURN: &str = "turn";
-
-/// A part: a natural number of 64 bits, or a reference.
+/// A part in a document: a natural number of 64 bits, or a reference.
 #[derive(Clone, Copy, Debug, PartialEq, Eq)]
 pub enum Datum {
     /// The number of an `attack` or an `hp`.

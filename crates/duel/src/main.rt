@@ -1,14 +1,13 @@
 //! A duel: rules of one's own, whose entities strike at each other until they are buried.
 //!
-//! `data` has the parts and systems, `rules` what the rules say of documents; `parts` and `values` what a world holds,
-//! `world` where it stands there, `sights` what systems see of it, and `striking` and `burying` what the two do.
+//! `data` has the parts and systems, `rules` what the rules say of documents; `values` and `columns` what a world holds
+//! and where, as tools/values writes them from values.list; `world`, `striking` and `burying` what the systems do there.
 #![tactic(auto)]
 
 mod burying;
+mod columns;
 mod data;
-mod parts;
 mod rules;
-mod sights;
 mod striking;
 mod values;
 mod world;

@@ -2,9 +2,10 @@
 ghost use Rattle.std.specs.Prelude.{◌≡◌, refl};
 ghost use Rattle.std.proofs.Common.{rules};
 ghost use Rattle.serde_json.specs.Data.{null};
-ghost use Rattle.duel.specs.Rules.{duel, part_of, counted, kind_of, access_of, system_named};
+ghost use Rattle.scene_world.specs.Numbers.{counted};
+ghost use Rattle.duel.specs.Rules.{duel, part_of, kind_of, access_of, system_named};
 
-use crate::data::{ATTACK, Datum, DuelSystem, HP, TARGET, TURN};
+use crate::data::{Datum, DuelSystem};
 use scene_model::{DocumentRules, ReadError, SystemAccess};
 use serde_json::Value;
 use shred_plan::RunningTime;
@@ -18,13 +19,11 @@ pub struct Duel;
 fn system_of(kind: &str) -> Option<DuelSystem>
     ensures { result ≡ system_named kind.now }
 {
-    if kind == "strike" {
-        return Some(DuelSystem::Strike);
+    match kind {
+        "strike" => Some(DuelSystem::Strike),
+        "bury" => Some(DuelSystem::Bury),
+        _ => None,
     }
-    if kind == "bury" {
-        return Some(DuelSystem::Bury);
-    }
-    None
 }
 
 impl DocumentRules for Duel {
@@ -54,18 +53,18 @@ impl DocumentRules for Duel {
     ghost made_by = { λ _ _. Unit {0} };
 
     fn part_names(&self) -> &[&'static str] {
-        &[ATTACK, HP, TARGET]
+        &["attack", "hp", "target"]
     }
 
     fn global_names(&self) -> &[&'static str] {
-        &[TURN]
+        &["turn"]
     }
 
     fn read_data(&self, _alloc: Global, kind: &str, value: &Value) -> Result<Datum, ReadError> {
         let Some(number) = value.as_u64() else {
             return Err(ReadError::Shape);
         };
-        if kind == TARGET {
+        if kind == "target" {
             Ok(Datum::Target(number))
         } else {
             Ok(Datum::Number(number))
@@ -81,8 +80,8 @@ impl DocumentRules for Duel {
 
     fn admits(&self, kind: &str, datum: &Datum) -> bool {
         match *datum {
-            Datum::Number(_) => kind != TARGET,
-            Datum::Target(_) => kind == TARGET,
+            Datum::Number(_) => kind != "target",
+            Datum::Target(_) => kind == "target",
         }
     }
 
@@ -120,14 +119,14 @@ impl DocumentRules for Duel {
     fn accessor(system: &DuelSystem, alloc: Global) -> Result<SystemAccess, AllocError> {
         match *system {
             DuelSystem::Strike => Ok(SystemAccess {
-                reads: vec![in alloc; ATTACK, TARGET]?,
-                writes: vec![in alloc; HP]?,
+                reads: vec![in alloc; "attack", "target"]?,
+                writes: vec![in alloc; "hp"]?,
                 read_globals: Vec::new(alloc),
-                written_globals: vec![in alloc; TURN]?,
+                written_globals: vec![in alloc; "turn"]?,
                 writes_reserved: false,
             }),
             DuelSystem::Bury => Ok(SystemAccess {
-                reads: vec![in alloc; HP, TARGET]?,
+                reads: vec![in alloc; "hp", "target"]?,
                 writes: Vec::new(alloc),
                 read_globals: Vec::new(alloc),
                 written_globals: Vec::new(alloc),

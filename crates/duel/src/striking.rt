@@ -1,15 +1,14 @@
 //! `strike` in a world.
-ghost use Rattle.std.specs.Prelude.{◌≡◌, ◌<◌, [], ◌∷◌, IfOk, OnOk, IfSome, MatchResult};
+ghost use Rattle.std.specs.Prelude.{◌≡◌, [], ◌∷◌, IfOk, OnOk, MatchResult};
 ghost use Rattle.shred_stages.specs.Views.{Leaves};
-ghost use Rattle.duel.specs.Sights.{hp_in};
-ghost use Rattle.duel.specs.Striking.{blow_seen, blows_seen, turn_at, Hits, CountsTurn, StrikesSo, StrikesDone, IsLastTurn, StopsStriking};
+ghost use Rattle.duel.specs.Sights.{turn_at};
+ghost use Rattle.duel.specs.Striking.{blow_seen, blows_seen, Hits, CountsTurn, StrikesDone, StopsStriking};
 
-use crate::data::Datum;
-use crate::parts::{Attack, Hp};
-use crate::sights::{attack_at, see_targets, target_at};
+use crate::data::{Attack, Datum, Hp, Target};
 use crate::values::Value;
-use scene_world::columns::{ids_with, put};
+use scene_world::columns::{entity_at, ids_with, number_at, number_in, put};
 use scene_world::known::index_under;
+use scene_world::{ValueChange, change_held, refusal, set_held};
 use shred_stages::Stop;
 use shred_world::{Holder, ResourceId};
 use specs_layouts::MaskedStorage;
@@ -20,8 +19,8 @@ fn blow_of<W: Holder<Value>>(view: &W, id: u64) -> Option<(u32, u64)>
     ensures { result ≡ blow_seen (W.slots view.now) id }
 {
     let index = index_under::<Value, Datum, W>(view, id)?;
-    let attack = attack_at(view, index)?;
-    let target = target_at(view, index)?;
+    let attack = number_at::<Attack, Value, W>(view, index)?;
+    let target = entity_at::<Target, Value, W>(view, index)?;
     Some((target.id(), attack))
 }
 
@@ -40,26 +39,29 @@ fn blows_of<W: Holder<Value>>(alloc: Global, view: &W) -> Result<Vec<(u32, u64)>
     Ok(blows)
 }
 
-/// The hp at an index of a value, if there is one.
-fn hp_in(value: &Value, index: u32) -> Option<u64>
-    ensures value { result ≡ hp_in value.now index }
-    ensures range { IfSome result (λ _. index < 16777216) }
-{
-    match value {
-        Value::HpsValue(hps) if hps.mask().contains(index) => Some(hps.get(index).0),
-        _ => None,
-    }
-}
-
 /// Lets a blow fall. Errors: want of memory.
 fn hit(value: &mut Value, index: u32, attack: u64) -> Result<(), AllocError>
     ensures { OnOk result (Hits ((index, attack) ∷ []) value.old value.new) }
 {
-    let Some(hp) = hp_in(value, index) else {
+    let Some(hp) = number_in::<Hp, Value>(value, index) else {
         return Ok(());
     };
     let left = Datum::Number(hp.saturating_sub(attack));
     put::<MaskedStorage<Hp>, Value>(value, index, &left, &[])
+}
+
+/// Blows that fall on the hps of a value.
+#[derive(Clone, Copy)]
+struct Blows<'a> {
+    list: &'a [(u32, u64)],
+}
+
+impl<'a> ValueChange<Value> for Blows<'a> {
+    ghost becomes = { λ blows. Hits blows.list.now };
+
+    fn change(&self, value: &mut Value) -> Result<(), AllocError> {
+        hit_all(value, self.list)
+    }
 }
 
 /// Lets blows fall. Errors: want of memory.
@@ -82,16 +84,6 @@ fn turn_of<W: Holder<Value>>(view: &W) -> Option<u64>
     }
 }
 
-/// The refusal of a turn more.
-fn refuse_turn<H: AllocGlobal>(rt: &H) -> Stop
-    ensures { IsLastTurn result }
-{
-    match String::from_str(rt.alloc(), "this was the last turn") {
-        Ok(text) => Stop::Refused(text),
-        Err(_) => Stop::Memory,
-    }
-}
-
 /// Counts a turn more, where turns are counted.
 ///
 /// Errors: `Refused`, where it would leave 64 bits; `Memory`.
@@ -104,30 +96,16 @@ fn count_turn<H: AllocGlobal, W: Holder<Value>>(rt: &H, view: &mut W) -> Result<
         return Ok(());
     };
     if turn == u64::MAX {
-        return Err(refuse_turn(rt));
+        return Err(refusal(rt.alloc(), "this was the last turn"));
     }
-    let id = ResourceId::from_type_id(7);
-    let Some(_turn) = view.take(id) else {
-        return Err(Stop::Memory);
-    };
-    view.put(id, Value::TurnValue(turn + 1));
-    Ok(())
-}
-
-/// Lets blows fall on the hps that are held.
-///
-/// Errors: want of memory.
-fn strike_all<W: Holder<Value>>(view: &mut W, blows: &[(u32, u64)]) -> Result<(), AllocError>
-    ensures struck { OnOk result (StrikesSo blows.now (W.slots view.old) (W.slots view.new)) }
-    ensures leaves { Leaves (W.slots view.old) (W.slots view.new) }
-{
-    let id = ResourceId::from_type_id(5);
-    let Some(mut value) = view.take(id) else {
-        return Err(AllocError);
-    };
-    let outcome = hit_all(&mut value, blows);
-    view.put(id, value);
-    outcome
+    match set_held(
+        view,
+        ResourceId::from_type_id(7),
+        Value::TurnValue(turn + 1),
+    ) {
+        Ok(()) => Ok(()),
+        Err(_) => Err(Stop::Memory),
+    }
 }
 
 /// Takes the attack of each that has one and a target from the target's hp, and counts a turn more.
@@ -138,15 +116,14 @@ pub(crate) fn strike<H: AllocGlobal, W: Holder<Value>>(rt: &H, view: &mut W) -> 
         (StopsStriking (W.slots view.old)) }
     ensures leaves { Leaves (W.slots view.old) (W.slots view.new) }
 {
-    match see_targets(rt.alloc(), view) {
-        Ok(()) => {}
-        Err(_) => return Err(Stop::Memory),
-    }
     let Ok(blows) = blows_of(rt.alloc(), view) else {
         return Err(Stop::Memory);
     };
     count_turn(rt, view)?;
-    match strike_all(view, blows.as_slice()) {
+    let change = Blows {
+        list: blows.as_slice(),
+    };
+    match change_held(view, ResourceId::from_type_id(5), &change) {
         Ok(()) => Ok(()),
         Err(_) => Err(Stop::Memory),
     }

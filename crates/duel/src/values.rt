@@ -1,36 +1,174 @@
-//! What a world of a duel holds: entities, their markers, the allocator of ids, queues, attacks, hps, targets, and the turn.
+//! What a world of the scene holds: what values.list names, of which tools/values wrote this.
 ghost use Rattle.std.specs.Prelude.{◌≡◌, refl};
 ghost use Rattle.std.proofs.Common.{rules};
-ghost use Rattle.duel.specs.Values.{births_in, markers_in, noting_in, queue_in, attacks_in, hps_in, targets_in};
-ghost use Rattle.duel.specs.declared.values.Value.TheVariants.{EntitiesValue, MarkersValue, AllocatorValue, QueueValue};
-ghost use Rattle.duel.specs.declared.values.Value.TheVariants.{AttacksValue, HpsValue, TargetsValue};
+ghost use Rattle.scene_world.specs.Numbers.{number_stored};
+ghost use Rattle.scene_world.specs.Numbers.{reference_stored};
+ghost use Rattle.duel.specs.Rules.{part_of};
+ghost use Rattle.duel.specs.Values.{entities_in};
+ghost use Rattle.duel.specs.Values.{markers_in};
+ghost use Rattle.duel.specs.Values.{allocator_in};
+ghost use Rattle.duel.specs.Values.{attack_in};
+ghost use Rattle.duel.specs.Values.{hp_in};
+ghost use Rattle.duel.specs.Values.{target_in};
+ghost use Rattle.duel.specs.Values.{queue_in};
+ghost use Rattle.duel.specs.declared.values.Value.TheVariants.{EntitiesValue};
+ghost use Rattle.duel.specs.declared.values.Value.TheVariants.{MarkersValue};
+ghost use Rattle.duel.specs.declared.values.Value.TheVariants.{AllocatorValue};
+ghost use Rattle.duel.specs.declared.values.Value.TheVariants.{AttackValue};
+ghost use Rattle.duel.specs.declared.values.Value.TheVariants.{HpValue};
+ghost use Rattle.duel.specs.declared.values.Value.TheVariants.{TargetValue};
+ghost use Rattle.duel.specs.declared.values.Value.TheVariants.{QueueValue};
 
-use crate::data::Datum;
-use crate::parts::{Attack, Hp, Target};
+use crate::data::{Attack, Datum, Hp, Target};
 use scene_model::Queue;
-use scene_world::{QueueValue, SceneMarker, SceneMarkerAllocator};
+use scene_world::{
+    NumberPart, PlainPart, QueueValue, ReferencePart, SceneMarker, SceneMarkerAllocator,
+    SceneStorage, Store, scene_storage,
+};
 use shred_world::Resource;
-use specs_entity::EntitiesRes;
-use specs_layouts::MaskedStorage;
+use specs_entity::{EntitiesRes, Entity};
+use specs_layouts::{Component, MaskedStorage};
+use std::alloc::Global;
 
-/// What a world of a duel holds.
+impl Component for Attack {
+    type Storage = SceneStorage<Attack>;
+}
+
+impl Component for Hp {
+    type Storage = SceneStorage<Hp>;
+}
+
+impl Component for Target {
+    type Storage = SceneStorage<Target>;
+}
+
+impl PlainPart for Attack {
+    type Data = Datum;
+
+    ghost part_of = { part_of };
+
+    ghost stored = { λ part. number_stored part.0 };
+
+    fn storage(alloc: Global, store: Store) -> SceneStorage<Attack> {
+        scene_storage(alloc, store)
+    }
+
+    fn from_data(datum: &Datum, named: Option<Entity>) -> Option<Attack> {
+        match (*datum, named) {
+            (Datum::Number(number), None) => Some(Attack(number)),
+            _ => None,
+        }
+    }
+
+    fn to_data(&self, id: Option<u64>) -> Option<Datum> {
+        match id {
+            None => Some(Datum::Number(self.0)),
+            Some(_) => None,
+        }
+    }
+
+    fn named(&self) -> Option<Entity> {
+        None
+    }
+
+    fn refers() -> bool {
+        false
+    }
+}
+
+impl NumberPart for Attack {
+    fn number(&self) -> u64 {
+        self.0
+    }
+}
+
+impl PlainPart for Hp {
+    type Data = Datum;
+
+    ghost part_of = { part_of };
+
+    ghost stored = { λ part. number_stored part.0 };
+
+    fn storage(alloc: Global, store: Store) -> SceneStorage<Hp> {
+        scene_storage(alloc, store)
+    }
+
+    fn from_data(datum: &Datum, named: Option<Entity>) -> Option<Hp> {
+        match (*datum, named) {
+            (Datum::Number(number), None) => Some(Hp(number)),
+            _ => None,
+        }
+    }
+
+    fn to_data(&self, id: Option<u64>) -> Option<Datum> {
+        match id {
+            None => Some(Datum::Number(self.0)),
+            Some(_) => None,
+        }
+    }
+
+    fn named(&self) -> Option<Entity> {
+        None
+    }
+
+    fn refers() -> bool {
+        false
+    }
+}
+
+impl NumberPart for Hp {
+    fn number(&self) -> u64 {
+        self.0
+    }
+}
+
+impl PlainPart for Target {
+    type Data = Datum;
+
+    ghost part_of = { part_of };
+
+    ghost stored = { λ part. reference_stored part.0 };
+
+    fn storage(alloc: Global, store: Store) -> SceneStorage<Target> {
+        scene_storage(alloc, store)
+    }
+
+    fn from_data(datum: &Datum, named: Option<Entity>) -> Option<Target> {
+        match (*datum, named) {
+            (Datum::Target(_), Some(entity)) => Some(Target(entity)),
+            _ => None,
+        }
+    }
+
+    fn to_data(&self, id: Option<u64>) -> Option<Datum> {
+        id.map(Datum::Target)
+    }
+
+    fn named(&self) -> Option<Entity> {
+        Some(self.0)
+    }
+
+    fn refers() -> bool {
+        true
+    }
+}
+
+impl ReferencePart for Target {
+    fn entity(&self) -> Entity {
+        self.0
+    }
+}
+
+/// The values of a world, of one kind each.
 #[derive(Drop)]
 pub enum Value {
-    /// The entities.
     EntitiesValue(EntitiesRes),
-    /// The id of each entity.
     MarkersValue(MaskedStorage<SceneMarker>),
-    /// What gives ids.
     AllocatorValue(SceneMarkerAllocator),
-    /// The commands of a system.
     QueueValue(Queue<Datum>),
-    /// The attacks.
-    AttacksValue(MaskedStorage<Attack>),
-    /// The hps.
-    HpsValue(MaskedStorage<Hp>),
-    /// The targets.
-    TargetsValue(MaskedStorage<Target>),
-    /// The turn.
+    AttackValue(MaskedStorage<Attack>),
+    HpValue(MaskedStorage<Hp>),
+    TargetValue(MaskedStorage<Target>),
     TurnValue(u64),
 }
 
@@ -41,12 +179,39 @@ fn hand_back<T>(value: Value) -> Result<T, Value>
     Err(value)
 }
 
+impl QueueValue<Datum> for Value {
+    ghost kind_number = { 3 };
+
+    ghost wrapped = { QueueValue };
+
+    ghost part = { queue_in };
+
+    ghost seen = { λ _. refl };
+
+    fn kind() -> u32 {
+        3
+    }
+
+    fn wrap_queue(queue: Queue<Datum>) -> Value
+        ensures { result ≡ QueueValue queue }
+    {
+        Value::QueueValue(queue)
+    }
+
+    fn unwrap_queue(value: Value) -> Result<Queue<Datum>, Value> {
+        match value {
+            Value::QueueValue(queue) => Ok(queue),
+            other => hand_back(other),
+        }
+    }
+}
+
 impl Resource<Value> for EntitiesRes {
     ghost kind_number = { 0 };
 
     ghost wrapped = { EntitiesValue };
 
-    ghost part = { births_in };
+    ghost part = { entities_in };
 
     ghost seen = { λ _. refl };
 
@@ -128,7 +293,7 @@ impl Resource<Value> for SceneMarkerAllocator {
 
     ghost wrapped = { AllocatorValue };
 
-    ghost part = { noting_in };
+    ghost part = { allocator_in };
 
     ghost seen = { λ _. refl };
 
@@ -164,39 +329,12 @@ impl Resource<Value> for SceneMarkerAllocator {
     }
 }
 
-impl QueueValue<Datum> for Value {
-    ghost kind_number = { 3 };
-
-    ghost wrapped = { QueueValue };
-
-    ghost part = { queue_in };
-
-    ghost seen = { λ _. refl };
-
-    fn kind() -> u32 {
-        3
-    }
-
-    fn wrap_queue(queue: Queue<Datum>) -> Value
-        ensures { result ≡ QueueValue queue }
-    {
-        Value::QueueValue(queue)
-    }
-
-    fn unwrap_queue(value: Value) -> Result<Queue<Datum>, Value> {
-        match value {
-            Value::QueueValue(queue) => Ok(queue),
-            other => hand_back(other),
-        }
-    }
-}
-
 impl Resource<Value> for MaskedStorage<Attack> {
     ghost kind_number = { 4 };
 
-    ghost wrapped = { AttacksValue };
+    ghost wrapped = { AttackValue };
 
-    ghost part = { attacks_in };
+    ghost part = { attack_in };
 
     ghost seen = { λ _. refl };
 
@@ -207,26 +345,26 @@ impl Resource<Value> for MaskedStorage<Attack> {
     }
 
     fn wrap(self) -> Value {
-        Value::AttacksValue(self)
+        Value::AttackValue(self)
     }
 
     fn unwrap(value: Value) -> Result<Self, Value> {
         match value {
-            Value::AttacksValue(resource) => Ok(resource),
+            Value::AttackValue(resource) => Ok(resource),
             other => hand_back(other),
         }
     }
 
     fn view(value: &Value) -> Option<&Self> {
         match value {
-            Value::AttacksValue(resource) => Some(resource),
+            Value::AttackValue(resource) => Some(resource),
             _ => None,
         }
     }
 
     fn view_mut(value: &mut Value) -> Option<&mut Self> {
         match value {
-            Value::AttacksValue(resource) => Some(resource),
+            Value::AttackValue(resource) => Some(resource),
             _ => None,
         }
     }
@@ -235,9 +373,9 @@ impl Resource<Value> for MaskedStorage<Attack> {
 impl Resource<Value> for MaskedStorage<Hp> {
     ghost kind_number = { 5 };
 
-    ghost wrapped = { HpsValue };
+    ghost wrapped = { HpValue };
 
-    ghost part = { hps_in };
+    ghost part = { hp_in };
 
     ghost seen = { λ _. refl };
 
@@ -248,26 +386,26 @@ impl Resource<Value> for MaskedStorage<Hp> {
     }
 
     fn wrap(self) -> Value {
-        Value::HpsValue(self)
+        Value::HpValue(self)
     }
 
     fn unwrap(value: Value) -> Result<Self, Value> {
         match value {
-            Value::HpsValue(resource) => Ok(resource),
+            Value::HpValue(resource) => Ok(resource),
             other => hand_back(other),
         }
     }
 
     fn view(value: &Value) -> Option<&Self> {
         match value {
-            Value::HpsValue(resource) => Some(resource),
+            Value::HpValue(resource) => Some(resource),
             _ => None,
         }
     }
 
     fn view_mut(value: &mut Value) -> Option<&mut Self> {
         match value {
-            Value::HpsValue(resource) => Some(resource),
+            Value::HpValue(resource) => Some(resource),
             _ => None,
         }
     }
@@ -276,9 +414,9 @@ impl Resource<Value> for MaskedStorage<Hp> {
 impl Resource<Value> for MaskedStorage<Target> {
     ghost kind_number = { 6 };
 
-    ghost wrapped = { TargetsValue };
+    ghost wrapped = { TargetValue };
 
-    ghost part = { targets_in };
+    ghost part = { target_in };
 
     ghost seen = { λ _. refl };
 
@@ -289,26 +427,26 @@ impl Resource<Value> for MaskedStorage<Target> {
     }
 
     fn wrap(self) -> Value {
-        Value::TargetsValue(self)
+        Value::TargetValue(self)
     }
 
     fn unwrap(value: Value) -> Result<Self, Value> {
         match value {
-            Value::TargetsValue(resource) => Ok(resource),
+            Value::TargetValue(resource) => Ok(resource),
             other => hand_back(other),
         }
     }
 
     fn view(value: &Value) -> Option<&Self> {
         match value {
-            Value::TargetsValue(resource) => Some(resource),
+            Value::TargetValue(resource) => Some(resource),
             _ => None,
         }
     }
 
     fn view_mut(value: &mut Value) -> Option<&mut Self> {
         match value {
-            Value::TargetsValue(resource) => Some(resource),
+            Value::TargetValue(resource) => Some(resource),
             _ => None,
         }
     }

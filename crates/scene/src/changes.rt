@@ -1,5 +1,6 @@
 //! What is kept of a world is changed where the readers of its events tell of changes, and nowhere else.
-ghost use Rattle.std.specs.Prelude.{◌≡◌, ◌≢◌, ◌<◌, ◌||◌, ℕ, true, length, map, count_by, Some, None, is_some, All, AllPairs};
+ghost use Rattle.std.specs.Prelude.{◌≡◌, ◌≢◌, ◌<◌, ◌||◌, ℕ, true, length};
+ghost use Rattle.std.specs.Prelude.{map, count_by, Some, None, is_some, All, AllPairs};
 ghost use Rattle.std.specs.Prelude.{IfOk, OnOk, OnErr, IsSome, if◌then◌else◌, slice_get};
 ghost use Rattle.hibitset_sets.specs.BitSet.{has_member};
 ghost use Rattle.hibitset_sets.specs.Walk.{walk};
@@ -119,7 +120,8 @@ fn change_of_kind<R: Rules>(
     requires known { is_among kind.now R.columns.part_names ≡ true }
     requires within { (index : ℕ) → has_member touched.old index ≡ true → index < 16777216 }
     ensures change { IfOk result (let kinds = kinds_by R.Rules R.Value.SceneValue in
-        IsChange kinds R.part_of (seen_of world.now) kind.now (part_told kinds (seen_of world.now) kind.now reader.now)) }
+        IsChange kinds R.part_of (seen_of world.now) kind.now
+        (part_told kinds (seen_of world.now) kind.now reader.now)) }
     ensures within { OnOk result ((index : ℕ) → has_member touched.new index ≡ true → index < 16777216) }
     ensures kept { OnOk result ((index : ℕ) → has_member touched.old index ≡ true
         → has_member touched.new index ≡ true) }

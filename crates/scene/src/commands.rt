@@ -305,7 +305,8 @@ where
         (StaysApart (kinds_by R.Rules R.Value.SceneValue) input.now.places.now world.old world.new) }
     ensures goes_on { OnOk result (GoesOn (kinds_by R.Rules R.Value.SceneValue) world.old world.new) }
     ensures refused { IfErr result (CommandsRefusedIn (kinds_by R.Rules R.Value.SceneValue) (R.book rules.now)
-        input.now.limit (roll_of (kinds_by R.Rules R.Value.SceneValue) (seen_of world.old)) (given_and_waiting (kinds_by R.Rules R.Value.SceneValue) R.part_of input.now
+        input.now.limit (roll_of (kinds_by R.Rules R.Value.SceneValue) (seen_of world.old))
+        (given_and_waiting (kinds_by R.Rules R.Value.SceneValue) R.part_of input.now
         (seen_of world.old)) (scene_in R.Rules R.Value.SceneValue world.old)) }
     ensures skips { OnErr result (skips.new.items ≡ skips.old.items) }
 {

@@ -10,7 +10,8 @@ ghost use Rattle.scene.specs.Rows.{seat_at, datum_at, kinds_kept, HasRoom, SameC
 ghost use Rattle.scene.specs.KeptScenes.{kept_scene};
 ghost use Rattle.scene_world.specs.Putting.{each_there};
 ghost use Rattle.scene.specs.Keeping.{IsBelow, IsFullByIndex, CountsMore};
-ghost use Rattle.scene.specs.Taken.{ArePairs, IsAmong, IsRowOf, AreRowsOf, AreOfPairs, IsBare, part_at, turned, with_last};
+ghost use Rattle.scene.specs.Taken.{ArePairs, IsAmong, IsRowOf, AreRowsOf, AreOfPairs};
+ghost use Rattle.scene.specs.Taken.{IsBare, part_at, turned, with_last};
 
 use crate::snapshot::{ByPlace, KeptScene};
 use crate::taking::{data_at, globals_in, next_in, pairs_in};

@@ -1,5 +1,6 @@
 //! A document is put into a world, with its systems on a dispatcher.
-ghost use Rattle.std.specs.Prelude.{◌≡◌, ◌≤◌, ℕ, unsigned_abs, List, All, length, map, Some, Ok, IfOk, OnOk, MatchResult};
+ghost use Rattle.std.specs.Prelude.{◌≡◌, ◌≤◌, ℕ, unsigned_abs, List, All, length};
+ghost use Rattle.std.specs.Prelude.{map, Some, Ok, IfOk, OnOk, MatchResult};
 ghost use Rattle.serde_json.specs.View.{view};
 ghost use Rattle.scene_model.specs.Parts.{Json};
 ghost use Rattle.scene_model.specs.Lawful.{IsLawful};

@@ -69,7 +69,8 @@ where
     ensures refused { IfErr result (λ cause. (scene : PlainScene)
         → HaveComeBy R.Rules R.Value.SceneValue rules.now dispatcher.now world.old scene outcome
         → RefusedIn (kinds_by R.Rules R.Value.SceneValue) (R.book rules.now) input.now.limit
-        (roll_of (kinds_by R.Rules R.Value.SceneValue) (seen_of world.old)) (frame_by R.Rules dispatcher.now input.now.given.now) scene cause) }
+        (roll_of (kinds_by R.Rules R.Value.SceneValue) (seen_of world.old))
+        (frame_by R.Rules dispatcher.now input.now.given.now) scene cause) }
     ensures skips { OnErr result (skips.new.items ≡ skips.old.items) }
     ensures threads { IfErr outcome (λ cause. ¬ (WantsThread cause)) → IfErr result (λ cause. ¬ (WantsThread cause)) }
     ensures systems { IfErr outcome (λ cause. result ≡ Err cause) }
@@ -123,7 +124,8 @@ where
     ensures none { OnOk result (NoneWaits (kinds_by R.Rules R.Value.SceneValue) (seen_of world.new)) }
     ensures goes_on { OnOk result (GoesOn (kinds_by R.Rules R.Value.SceneValue) world.old world.new) }
     ensures refused { IfErr result (RefusedIn (kinds_by R.Rules R.Value.SceneValue) (R.book rules.now) input.now.limit
-        (roll_of (kinds_by R.Rules R.Value.SceneValue) (seen_of world.old)) (frame_by R.Rules dispatcher.old input.now.given.now) (scene_in R.Rules R.Value.SceneValue world.old)) }
+        (roll_of (kinds_by R.Rules R.Value.SceneValue) (seen_of world.old))
+        (frame_by R.Rules dispatcher.old input.now.given.now) (scene_in R.Rules R.Value.SceneValue world.old)) }
     ensures skips { OnErr result (skips.new.items ≡ skips.old.items) }
     ensures order { turn_order (placed_by R.Rules).plain dispatcher.new ≡ turn_order
         (placed_by R.Rules).plain dispatcher.old }

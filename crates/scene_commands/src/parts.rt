@@ -2,7 +2,8 @@
 ghost use Rattle.std.specs.Prelude.{◌≡◌, ◌<◌, length, None, Some, IsTrue, IfOk, OnOk};
 ghost use Rattle.scene_model.specs.Parts.{is_among};
 ghost use Rattle.scene_model.specs.Rulebook.{put, take};
-ghost use Rattle.scene_commands.specs.Acts.{seen_of, entity_under, MayAct, Acts, StaysElsewhere, GoesOn, PutsPart, SetsColumn};
+ghost use Rattle.scene_commands.specs.Acts.{seen_of, entity_under, MayAct, Acts};
+ghost use Rattle.scene_commands.specs.Acts.{StaysElsewhere, GoesOn, PutsPart, SetsColumn};
 ghost use Rattle.scene_world.specs.Standing.{roll_of};
 ghost use Rattle.scene_world.specs.Members.{kinds_by};
 

@@ -1,6 +1,5 @@
 -- Lemmas on names and parts that stand at places of the rules' names.
 use Rattle.std.proofs.Common.{◌≡◌, List, [], ◌∷◌, map, refl, ap}
-use Rattle.std.proofs.lemmas.Bool.{or_parts}
 use Rattle.scene_document.specs.declared.draft.EntityDraft.{EntityDraft}
 use Rattle.scene_model.specs.Parts.{Name, Part}
 use Rattle.scene_document.specs.DraftViews.{plain_entity}

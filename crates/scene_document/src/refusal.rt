@@ -3,7 +3,7 @@ ghost use Rattle.std.specs.Prelude.{◌≡◌, ℕ, ◌≤◌, not, ◌||◌, �
 ghost use Rattle.std.specs.List.{list_any};
 ghost use Rattle.std.specs.Str.{bytes_eq};
 ghost use Rattle.scene_model.specs.Declaring.{texts, access_of};
-ghost use Rattle.scene_model.specs.Scenes.{lives};
+ghost use Rattle.scene_model.specs.Scenes.{lives, IdsAscend};
 ghost use Rattle.scene_document.specs.Drafts.{Draft};
 ghost use Rattle.scene_document.specs.Documents.{refusal_of, has_double};
 ghost use Rattle.scene_document.specs.DraftViews.{IsDraft};
@@ -19,7 +19,6 @@ use crate::names::{has_taken_name, has_unknown_dependency};
 use crate::{CommandDraft, DocumentDraft, EntityDraft, EntryDraft};
 use scene_model::{DocRefusal, DocumentRules, SystemAccess};
 use std::alloc::{AllocError, Global};
-use std::collections::BTreeSet;
 
 /// Whether the name of one of them is not the rules'.
 fn has_unknown<T: Drop>(all: &[Option<T>]) -> bool
@@ -77,14 +76,16 @@ fn has_id_past_next<D: Drop, G: Drop, S: Drop>(draft: &DocumentDraft<'_, D, G, S
     draft.entities.iter().any(|entity| entity.id >= next)
 }
 
-fn is_listed(ids: &BTreeSet<u64>, id: u64) -> bool
-    ensures { result ≡ lives id ids.now.keys }
+fn is_listed(ids: &[u64], id: u64) -> bool
+    requires { IdsAscend ids.now }
+    ensures { result ≡ lives id ids.now }
 {
-    ids.contains(&id)
+    ids.binary_search(&id).is_ok()
 }
 
-fn lacks_id(ids: &BTreeSet<u64>, wanted: &[u64]) -> bool
-    ensures { result ≡ list_any (λ id. not (lives id ids.now.keys)) wanted.now }
+fn lacks_id(ids: &[u64], wanted: &[u64]) -> bool
+    requires { IdsAscend ids.now }
+    ensures { result ≡ list_any (λ id. not (lives id ids.now)) wanted.now }
 {
     wanted.iter().any(|id| !is_listed(ids, *id))
 }
@@ -93,10 +94,11 @@ fn lacks_id(ids: &BTreeSet<u64>, wanted: &[u64]) -> bool
 fn datum_dangles<R: DocumentRules>(
     alloc: Global,
     rules: &R,
-    ids: &BTreeSet<u64>,
+    ids: &[u64],
     part: &Option<(usize, R::Data)>,
 ) -> Result<bool, AllocError>
-    ensures { IfOk result (λ found. found ≡ datum_dangles R.part_of ids.now.keys part.now) }
+    requires { IdsAscend ids.now }
+    ensures { IfOk result (λ found. found ≡ datum_dangles R.part_of ids.now part.now) }
 {
     let Some((_, datum)) = part else {
         return Ok(false);
@@ -108,10 +110,11 @@ fn datum_dangles<R: DocumentRules>(
 fn entity_dangles<R: DocumentRules>(
     alloc: Global,
     rules: &R,
-    ids: &BTreeSet<u64>,
+    ids: &[u64],
     entity: &EntityDraft<R::Data>,
 ) -> Result<bool, AllocError>
-    ensures { IfOk result (λ found. found ≡ entity_dangles R.part_of ids.now.keys entity.now) }
+    requires { IdsAscend ids.now }
+    ensures { IfOk result (λ found. found ≡ entity_dangles R.part_of ids.now entity.now) }
 {
     for part in &entity.parts {
         if datum_dangles(alloc, rules, ids, part)? {
@@ -125,11 +128,12 @@ fn entity_dangles<R: DocumentRules>(
 fn dangles<R: DocumentRules>(
     alloc: Global,
     rules: &R,
-    ids: &BTreeSet<u64>,
+    ids: &[u64],
     draft: &DocumentDraft<'_, R::Data, R::Global, R::System>,
 ) -> Result<bool, AllocError>
+    requires { IdsAscend ids.now }
     ensures { IfOk result (λ found.
-        found ≡ list_any (entity_dangles R.part_of ids.now.keys) draft.now.entities.items) }
+        found ≡ list_any (entity_dangles R.part_of ids.now) draft.now.entities.items) }
 {
     for entity in &draft.entities {
         if entity_dangles(alloc, rules, ids, entity)? {

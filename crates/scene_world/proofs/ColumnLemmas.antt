@@ -18,7 +18,7 @@ use Rattle.shred_world.specs.declared.resource_id.ResourceId.{ResourceId}
 use Rattle.shred_world.specs.ResourceIds.{id_of, same_id}
 use Rattle.shred_world.specs.Worlds.{Slots, value_at}
 use Rattle.shred_world.proofs.CallerLemmas.{ids_total, same_id-itself}
-use Rattle.specs_layouts.specs.Channels.{Log}
+use Rattle.specs_layouts.specs.Channels.{Log, no_log}
 use Rattle.specs_layouts.specs.Masked.{Masked, Agrees}
 use Rattle.specs_layouts.specs.MaskedChanges.{told_taken}
 use Rattle.specs_layouts.specs.Parts.{Puts, SameParts}
@@ -76,6 +76,32 @@ module _ {L A : Type 0} (part_at : L → ℕ → Option A) (events : L → Log C
       by : (o : Option A) → named_in (option_map stored o) ≡ []
       by None = refl
       by (Some part) = never part
+
+-- ---- what is read under a name
+
+module _ {V : Type 0} (Holds : (V → ℕ → Option Stored) → (V → Log ComponentEvent) → (V → Bool) → Type 0) (name : Name) where
+  -- what holds of what is read under a name
+  abbrev stored_of : List (PlainKind V) → V → ℕ → Option Stored
+  stored_of kinds = of_name (λ kind. kind.name) (λ kind. kind.stored) (λ v index. None) kinds name
+
+  abbrev events_of : List (PlainKind V) → V → Log ComponentEvent
+  events_of kinds = of_name (λ kind. kind.name) (λ kind. kind.events) (λ v. no_log) kinds name
+
+  abbrev emits_of : List (PlainKind V) → V → Bool
+  emits_of kinds = of_name (λ kind. kind.name) (λ kind. kind.emits) (λ v. false) kinds name
+
+  abbrev Reads : List (PlainKind V) → Type 0
+  Reads kinds = Holds (stored_of kinds) (events_of kinds) (emits_of kinds)
+
+  -- it is read of the first kind, where that has the name, and else of the others
+  abbrev ReadsEither : PlainKind V → List (PlainKind V) → Bool → Type 0
+  ReadsEither first others is = Holds (cond is first.stored (stored_of others)) (cond is first.events (events_of others)) (cond is first.emits (emits_of others))
+
+  pub first-kind : (first next : PlainKind V) (more : List (PlainKind V)) → bytes_eq name first.name ≡ true → Holds first.stored first.events first.emits → Reads (first ∷ next ∷ more)
+  first-kind first next more is holds = subst (ReadsEither first (next ∷ more)) (sym is) holds
+
+  pub next-kind : (first next : PlainKind V) (more : List (PlainKind V)) → bytes_eq name first.name ≡ false → Reads (next ∷ more) → Reads (first ∷ next ∷ more)
+  next-kind first next more is holds = subst (ReadsEither first (next ∷ more)) (sym is) holds
 
 -- ---- columns that are registered
 

@@ -17,3 +17,6 @@ pub mod ShownLemmas
 pub mod AgeLemmas
 pub mod KnownLemmas
 pub mod ColumnLemmas
+pub mod SeenLemmas
+pub mod AskLemmas
+pub mod HeldLemmas

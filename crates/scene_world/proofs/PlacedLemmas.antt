@@ -17,6 +17,7 @@ use Rattle.scene_model.specs.Parts.{Json, Name, Part, is_among}
 use Rattle.scene_model.specs.Rulebook.{Access, Fragment, Outcome, leaves, refuses, fills, Command}
 use Rattle.scene_model.specs.Scenes.{PlainSystem, IsLawfullyLeft}
 use Rattle.scene_model.specs.Queues.{plain_commands, waiting}
+use Rattle.scene_world.specs.Rolls.{IsRoll}
 use Rattle.scene_world.specs.Standing.{seen_in, Kinds, roll_of, column_in, column_of, events_in, emits_in, fragment_of, commands_of, IsWithin}
 use Rattle.scene_world.specs.Lent.{Place, entities, markers, allocator, parts, value, queue, same_place, is_known, id_of_place, StandApart}
 use Rattle.scene_world.proofs.StandingLemmas.{SeesAlike, fragment-alike, same-roll}
@@ -62,13 +63,15 @@ module _ {V D S P : Type 0} (places : Places V D) (part_of : D → Part) (column
     same-fragment : (access : Access) → fragment_of (kinds_of places part_of columns) access with_it ≡ fragment_of (kinds_of places part_of columns) access w
     same-fragment access = fragment-alike (kinds_of places part_of columns) access (seen_in with_it) (seen_in w) (alike access)
 
+    same-known : roll_of (kinds_of places part_of columns) (seen_in with_it) ≡ roll_of (kinds_of places part_of columns) (seen_in w)
+    same-known = same-roll (kinds_of places part_of columns) (seen_in with_it) (seen_in w) (ap readable (elsewhere position slot w entities refl (λ other e. cc)))
+        (ap readable (elsewhere position slot w markers refl (λ other e. cc))) (ap readable (elsewhere position slot w allocator refl (λ other e. cc)))
+
     same-within : (kind : Name) → is_among kind columns.part_names ≡ true
         → IsWithin (kinds_of places part_of columns) (roll_of (kinds_of places part_of columns) (seen_in w)) (column_of (kinds_of places part_of columns) (seen_in w) kind)
         → IsWithin (kinds_of places part_of columns) (roll_of (kinds_of places part_of columns) (seen_in with_it)) (column_of (kinds_of places part_of columns) (seen_in with_it) kind)
     same-within kind known within =
-        subst (λ r. IsWithin (kinds_of places part_of columns) r (column_of (kinds_of places part_of columns) (seen_in with_it) kind))
-        (sym (same-roll (kinds_of places part_of columns) (seen_in with_it) (seen_in w) (ap readable (elsewhere position slot w entities refl (λ other e. cc)))
-        (ap readable (elsewhere position slot w markers refl (λ other e. cc))) (ap readable (elsewhere position slot w allocator refl (λ other e. cc)))))
+        subst (λ r. IsWithin (kinds_of places part_of columns) r (column_of (kinds_of places part_of columns) (seen_in with_it) kind)) (sym same-known)
         (subst (λ h. IsWithin (kinds_of places part_of columns) (roll_of (kinds_of places part_of columns) (seen_in w)) (column_in (kinds_of places part_of columns) kind h))
         (sym (ap readable (elsewhere position slot w (parts kind) known (λ other e. cc)))) within)
 
@@ -132,6 +135,7 @@ module _ {V D S P : Type 0} (places : Places V D) (part_of : D → Part) (column
       no_more = runs.no_more;
       ends = λ lent. ends-there refused (runs.ends (record {
         fit = subst (λ f. IsFit (sense (system_of p)) f) (sym (same-fragment (position_of p) out w (declared (system_of p)))) lent.fit;
+        roll = subst IsRoll (sym (same-known (position_of p) out w)) lent.roll;
         within = λ kind known declared_it. same-within (position_of p) out w kind known (lent.within kind known declared_it);
       }));
     }

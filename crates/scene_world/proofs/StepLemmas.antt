@@ -21,7 +21,7 @@ use Rattle.specs_layouts.specs.Shows.{Shows}
 use Rattle.specs_layouts.proofs.CallerLemmas.{shows-refl}
 use Rattle.scene_world.specs.Turns.{ShowsChanges, sense_of, rules_by, IsFit, IsLentFit, Meaning, IsOfBook, sees, LeavesLawfully, TakesTurn}
 use Rattle.scene_world.proofs.RollLemmas.{part-lives}
-use Rattle.scene_world.proofs.StandingLemmas.{cut-shows, within-alike, lent-alike, back-written, back-whole, lent-fragment, left-scene, after-roll, back-roll, same-sight}
+use Rattle.scene_world.proofs.StandingLemmas.{same-roll, cut-shows, within-alike, lent-alike, back-written, back-whole, lent-fragment, left-scene, after-roll, back-roll, same-sight}
 
 -- in a scene that is seen each part stands at a living id
 pub owned-plain : {V : Type 0} (kinds : Kinds V) (w : Sight V) → PartsOwned (plain_of kinds w).ids (plain_of kinds w).part
@@ -80,6 +80,8 @@ module _ {V S : Type 0} (kinds : Kinds V) (meaning : Meaning S) (book : Book) wh
     fit-lent : IsLentFit kinds meaning system (cut reads writes w)
     fit-lent = record {
       fit = fit-seen;
+      roll = let alike = lent-alike kinds (meaning.plain system).access (meaning.plain system).position reads writes lent w whole in
+          subst (λ r. IsRoll r) (sym (same-roll kinds (seen_in (cut reads writes w)) (seen_in w) alike.entities alike.markers alike.allocator)) world.roll;
       within = λ kind known declared. within-alike kinds (meaning.plain system).access (seen_in (cut reads writes w)) (seen_in w)
           (lent-alike kinds (meaning.plain system).access (meaning.plain system).position reads writes lent w whole) kind known declared (world.within kind known);
     }

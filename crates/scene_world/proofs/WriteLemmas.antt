@@ -1,21 +1,26 @@
 -- Lemmas for the author of a system that writes the parts of one kind, or a global.
-use Rattle.std.proofs.Common.{◌≡◌, ℕ, Bool, true, false, cond, List, Option, Some, None, refl, ap, sym, ◌∙◌, subst}
+use Rattle.std.proofs.Common.{◌≡◌, ℕ, Bool, true, false, cond, List, [], Option, Some, None, is_some, refl, ap, sym, ◌∙◌, subst}
 use Rattle.std.specs.Prelude.{option_and_then, option_map, All, IsSome}
 use Rattle.std.specs.Str.{bytes_eq}
+use Rattle.std.proofs.lemmas.List.Elements.{All-nil}
 use Rattle.std.proofs.lemmas.Slice.Eq.{bytes_eq-Decides}
 use Rattle.shred_world.specs.Bundles.{Holding, readable}
-use Rattle.scene_model.specs.Parts.{Name, Part, is_among}
-use Rattle.scene_model.specs.Rulebook.{Access, declares, declares_global, Command}
-use Rattle.scene_model.specs.Scenes.{RefLives, lives, IsLawfullyLeft}
+use Rattle.specs_layouts.specs.Shows.{Shows}
+use Rattle.scene_model.specs.Parts.{Json, Name, Part, is_among}
+use Rattle.scene_model.specs.Rulebook.{Access, Book, Fragment, declares, declares_global, Command}
+use Rattle.scene_model.specs.Scenes.{RefLives, IdsAscend, KeepsValues, lives, IsLawfullyLeft}
 use Rattle.scene_model.specs.Lawful.{IsLawful}
 use Rattle.scene_world.specs.Stored.{Stored, part_under}
 use Rattle.scene_world.specs.Rolls.{ids_in, index_of, ref_to, part_in}
-use Rattle.scene_world.specs.Standing.{seen_in, Kinds, roll_of, column_in, column_of, value_of, plain_of, fragment_of}
+use Rattle.scene_world.specs.Standing.{seen_in, Kinds, roll_of, column_in, column_of, events_in, emits_in, value_of, plain_of, fragment_of, IsWithin}
 use Rattle.scene_world.specs.Lent.{Place, entities, markers, allocator, parts, value, StandApart, id_of_place, is_known, same_place}
 use Rattle.scene_world.proofs.StandingLemmas.{same-roll}
-use Rattle.scene_world.specs.Turns.{Sense, rules_by, IsFit}
+use Rattle.scene_world.specs.Turns.{Sense, rules_by, IsFit, ShowsChanges}
 use Rattle.scene_world.specs.Writes.{WritesOne, WritesGlobal, MayStand}
+use Rattle.scene_world.specs.Held.{Changes, NumbersBecome}
+use Rattle.scene_world.specs.Numbers.{number_in, counting, number_at, AreNumbers}
 use Rattle.scene_world.proofs.StepLemmas.{owned-plain, owned-fragment}
+use Rattle.scene_world.proofs.SeenLemmas.{number-stands, counting-seen}
 
 module _ {V : Type 0} (kinds : Kinds V) (apart : StandApart kinds) (kind : Name) (known : is_among kind kinds.part_names ≡ true) (v : V) (seen left : Holding V) (writes : WritesOne kinds kind v seen left) where
   -- elsewhere the same is seen
@@ -171,3 +176,112 @@ module _ {V : Type 0} (kinds : Kinds V) (apart : StandApart kinds) (name : Name)
     set-global declared =
         ap (λ b. cond b (cond (is_among name kinds.global_names) (value_of kinds (seen_in left) name) None) None) declared
         ∙ ap (λ b. cond b (value_of kinds (seen_in left) name) None) known ∙ set-here
+
+    -- what is left is fit, where the rules read the value that was put there
+    pub set-fit : (sense : Sense) → declares_global access name ≡ true → ((one : Json) → kinds.value name v ≡ Some one → sense.read_global name one ≡ Some one)
+        → IsFit sense (fragment_of kinds access seen) → IsFit sense (fragment_of kinds access left)
+    set-fit sense declared reads fit = record {
+      ascend = subst IdsAscend (sym set-ids) fit.ascend;
+      owned = λ id kind held is. subst (λ ids. lives id ids ≡ true) (sym set-ids) (fit.owned id kind held (sym (set-parts id kind) ∙ is));
+      admitted = λ id kind held is. fit.admitted id kind held (sym (set-parts id kind) ∙ is);
+      living = λ id kind held alive is. subst (λ ids. All (RefLives ids) held.refs) (sym set-ids)
+          (fit.living id kind held (subst (λ ids. lives id ids ≡ true) set-ids alive) (sym (set-parts id kind) ∙ is));
+      readable = λ other one is. by other one (bytes_eq other name) refl is;
+    }
+      where
+        by : (other : Name) (one : Json) (b : Bool) → bytes_eq other name ≡ b → (fragment_of kinds access left).global other ≡ Some one → sense.read_global other one ≡ Some one
+        by other one false differ is = fit.readable other one (sym (set-globals other differ) ∙ is)
+        by other one true same is =
+            let at : other ≡ name = (bytes_eq-Decides other name).0 same in
+            ap (λ n. sense.read_global n one) at ∙ reads one (sym (set-global declared) ∙ subst (λ n. (fragment_of kinds access left).global n ≡ Some one) at is)
+
+    -- and each global that had a value has one, where one was put there
+    pub set-valued : declares_global access name ≡ true → IsSome (kinds.value name v) → KeepsValues (fragment_of kinds access seen) (fragment_of kinds access left)
+    set-valued declared some other was = by (bytes_eq other name) refl
+      where
+        by : (b : Bool) → bytes_eq other name ≡ b → IsSome ((fragment_of kinds access left).global other)
+        by false differ = subst (λ o. IsSome o) (sym (set-globals other differ)) was
+        by true same = subst (λ n. IsSome ((fragment_of kinds access left).global n)) (sym ((bytes_eq-Decides other name).0 same)) (subst (λ o. IsSome o) (sym (set-global declared)) some)
+
+-- what is left lawfully after a change that keeps ids and values is so from before it
+pub lawful-after : (book : Book) (seen middle left : Fragment) (commands : List Command) → middle.ids ≡ seen.ids → KeepsValues seen middle → IsLawfullyLeft book middle left commands
+    → IsLawfullyLeft book seen left commands
+lawful-after book seen middle left commands same keeps is = record {
+  ids = is.ids ∙ same;
+  owned = is.owned;
+  living = is.living;
+  admitted = is.admitted;
+  valued = λ name some. is.valued name (keeps name some);
+  readable = is.readable;
+  known = is.known;
+}
+
+-- ---- numbers of one kind that are others after
+
+module _ {V : Type 0} (kinds : Kinds V) (apart : StandApart kinds) (kind : Name) (known : is_among kind kinds.part_names ≡ true) (made : ℕ → ℕ → ℕ) (seen left : Holding V)
+    (changes : Changes (kinds.part_id kind) (NumbersBecome (kinds.stored kind) (kinds.events kind) (kinds.emits kind) made) seen left) where
+  -- the parts of the kind are written, and nothing else
+  pub numbers-write : WritesOne kinds kind changes.after seen left
+  numbers-write = record { here = changes.sets.here; others = changes.sets.others }
+
+  became : (index : ℕ) → number_at (column_of kinds (seen_in left) kind) index ≡ option_map (made index) (number_at (column_of kinds (seen_in seen) kind) index)
+  became index =
+      ap (λ held. number_at (column_in kinds kind held) index) changes.sets.here ∙ changes.changed.numbers index
+      ∙ sym (ap (λ held. option_map (made index) (number_at (column_in kinds kind held) index)) changes.there)
+
+  -- the events show what became of them
+  pub numbers-shown : ShowsChanges kinds kind seen left
+  numbers-shown =
+      subst (λ one. Shows (column_in kinds kind) (events_in kinds kind) (emits_in kinds kind) one (readable (left (kinds.part_id kind)))) (sym changes.there)
+      (subst (λ two. Shows (column_in kinds kind) (events_in kinds kind) (emits_in kinds kind) (Some changes.before) two) (sym changes.sets.here) (record {
+        more = changes.changed.shown.more;
+        told = changes.changed.shown.told;
+        emission = changes.changed.shown.emission;
+        all = changes.changed.shown.all;
+      }))
+
+  module _ (numbers : AreNumbers (column_of kinds (seen_in left) kind)) where
+    -- a number stands only where one stood
+    pub numbers-within : IsWithin kinds (roll_of kinds (seen_in seen)) (column_of kinds (seen_in seen) kind) → IsWithin kinds (roll_of kinds (seen_in left)) (column_of kinds (seen_in left) kind)
+    numbers-within within = subst (λ roll. IsWithin kinds roll (column_of kinds (seen_in left) kind)) (sym (written-roll kinds apart kind known changes.after seen left numbers-write))
+        (λ index some. within index (back index (was index (number_at (column_of kinds (seen_in seen) kind) index) (sym (ap is_some (became index)) ∙ number-stands (column_of kinds (seen_in left) kind) numbers index ∙ some))))
+      where
+        was : (index : ℕ) (o : Option ℕ) → is_some (option_map (made index) o) ≡ true → is_some o ≡ true
+        was index None e = e
+        was index (Some n) e = refl
+
+        back : (index : ℕ) → is_some (number_at (column_of kinds (seen_in seen) kind) index) ≡ true → IsSome (column_of kinds (seen_in seen) kind index)
+        back index = by (column_of kinds (seen_in seen) kind index)
+          where
+            by : (o : Option Stored) → is_some (option_and_then (λ (stored : Stored). number_in (stored.written [])) o) ≡ true → IsSome o
+            by None e = e
+            by (Some stored) e = refl
+
+    module _ (access : Access) (declared : declares access kind ≡ true) where
+      -- the part of an id is the number that was made of the one at its index
+      pub numbers-left : (id : ℕ) → (fragment_of kinds access left).part id kind
+          ≡ option_and_then (λ index. option_map (λ n. counting (made index n)) (number_at (column_of kinds (seen_in seen) kind) index)) (index_of (roll_of kinds (seen_in seen)) id)
+      numbers-left id =
+          counting-seen kinds access left kind known declared numbers id
+          ∙ ap (λ roll. option_and_then (λ index. option_map counting (number_at (column_of kinds (seen_in left) kind) index)) (index_of roll id))
+          (written-roll kinds apart kind known changes.after seen left numbers-write)
+          ∙ by (index_of (roll_of kinds (seen_in seen)) id)
+        where
+          inside : (index : ℕ) (o : Option ℕ) → option_map counting (option_map (made index) o) ≡ option_map (λ n. counting (made index n)) o
+          inside index None = refl
+          inside index (Some n) = refl
+
+          by : (o : Option ℕ) → option_and_then (λ index. option_map counting (number_at (column_of kinds (seen_in left) kind) index)) o
+              ≡ option_and_then (λ index. option_map (λ n. counting (made index n)) (number_at (column_of kinds (seen_in seen) kind) index)) o
+          by None = refl
+          by (Some index) = ap (option_map counting) (became index) ∙ inside index (number_at (column_of kinds (seen_in seen) kind) index)
+
+      -- what is left is lawful, where each number may stand under the kind
+      pub numbers-lawful : (sense : Sense) → ((n : ℕ) → sense.admits kind (counting n) ≡ true) → IsFit sense (fragment_of kinds access seen)
+          → (commands : List Command) → All (IsLawful (rules_by sense)) commands → IsLawfullyLeft (rules_by sense) (fragment_of kinds access seen) (fragment_of kinds access left) commands
+      numbers-lawful sense admits fit = left-lawful kinds apart kind known changes.after seen left numbers-write access sense declared fit stands
+        where
+          stands : (index : ℕ) (stored : Stored) → kinds.stored kind changes.after index ≡ Some stored → MayStand sense (roll_of kinds (seen_in seen)) kind stored
+          stands index stored is =
+              let one = numbers index stored (ap (λ held. column_in kinds kind held index) changes.sets.here ∙ is) in
+              subst (λ s. MayStand sense (roll_of kinds (seen_in seen)) kind s) one.1 (record { admitted = admits one.0; living = All-nil (RefLives (ids_in (roll_of kinds (seen_in seen)))) })

@@ -26,6 +26,10 @@ Storage T = Masked (Flagged (AnyStore T))
 abbrev pub storing : {T : Type 0} → (T → Stored) → Storage T → ℕ → Option Stored
 storing stored storage index = option_map stored (store_part storage.inner.inner index)
 
+-- what a storage over a layout stores at an index, where this is stored for a part
+abbrev pub storing_by : {L T : Type 0} → (L → ℕ → Option T) → (T → Stored) → Masked L → ℕ → Option Stored
+storing_by part_at stored storage index = option_map stored (part_at storage.inner index)
+
 module _ {V S : Type 0} (part : V → Option S) where
   -- what a value stores at an index, by the column that it may hold
   abbrev pub column_in : (S → ℕ → Option Stored) → V → ℕ → Option Stored

@@ -23,5 +23,8 @@ pub mod Stops
 pub mod Members
 pub mod Known
 pub mod Columns
+pub mod Numbers
+pub mod Held
+pub mod Asking
 pub mod ColumnLaws
 pub mod RuleLemmas

@@ -1,18 +1,21 @@
--- Lemmas for the author of rules, whatever the rules are, on their names and on what their systems declare.
-use Rattle.std.proofs.Common.{◌≡◌, ℕ, Bool, true, false, ◌&&◌, List, [], ◌∷◌, is_some, refl, All, below_none}
+-- Lemmas for the author of rules, whatever the rules are, on their names, on what their systems declare, and on parts that are numbers or references.
+use Rattle.std.proofs.Common.{◌≡◌, ℕ, Bool, true, false, ◌&&◌, List, [], ◌∷◌, Option, Some, None, is_some, refl, subst, All, below_none}
+use Rattle.std.specs.Prelude.{option_map}
 use Rattle.std.specs.List.{list_all}
 use Rattle.std.specs.Ordering.{nat_cmp, is_lt}
 use Rattle.std.specs.Cmp.Lexicographic.{slice_cmp}
 use Rattle.std.specs.declared.cmp.Ordering.{Ordering}
 use Rattle.std.specs.declared.cmp.Ordering.TheVariants.{Less, Equal, Greater}
-use Rattle.std.proofs.lemmas.Bool.{false≢true, and_parts}
+use Rattle.std.proofs.lemmas.Bool.{false≢true, and_parts, eq-eqb}
+use Rattle.std.proofs.lemmas.Option.{none-some, same_Some}
 use Rattle.std.proofs.lemmas.List.Elements.{All-nil, All-cons}
 use Rattle.std.proofs.lemmas.List.Kept.{AllPairs-cons}
 use Rattle.serde_json.specs.Data.{null, boolean, number, string, array, object}
 use Rattle.serde_json.specs.Find.{as_null}
-use Rattle.scene_model.specs.Parts.{Json, Name, is_among}
+use Rattle.scene_model.specs.Parts.{Json, Name, Part, is_among}
 use Rattle.scene_model.specs.Rulebook.{Access, Book}
 use Rattle.scene_model.specs.Laws.{Ascend, DeclaresKnown}
+use Rattle.scene_world.specs.Numbers.{counted, number_in, part_for, admits_number}
 
 -- a configuration that is null is null
 pub null-as_null : (config : Json) → is_some (as_null config) ≡ true → null ≡ config
@@ -75,3 +78,33 @@ known-names book access e =
       read_globals = all-among book.global_names access.read_globals three.0;
       written_globals = all-among book.global_names access.written_globals three.1;
     }
+
+-- ---- parts that are numbers or references
+
+-- what is read for a number is admitted under the kind
+pub number-admitted : (refers : Bool) (json : Json) (part : Part) → option_map (part_for refers) (number_in json) ≡ Some part → admits_number refers part ≡ true
+number-admitted refers json part read = by (number_in json) read
+  where
+    admitted : (refers : Bool) (n : ℕ) → admits_number refers (part_for refers n) ≡ true
+    admitted true n = eq-eqb n n refl
+    admitted false n = refl
+
+    by : (o : Option ℕ) → option_map (part_for refers) o ≡ Some part → admits_number refers part ≡ true
+    by None e = absurd (none-some part e)
+    by (Some n) e = subst (λ (one : Part). admits_number refers one ≡ true) (same_Some (part_for refers n) part e) (admitted refers n)
+
+-- what is written for it is read back under a kind that admits it
+pub number-read-back : (refers referred : Bool) (n : ℕ) → admits_number refers (part_for referred n) ≡ true
+    → option_map (part_for refers) (number_in (part_for referred n).json) ≡ Some (part_for referred n)
+number-read-back true true n admitted = refl
+number-read-back true false n admitted = absurd (false≢true admitted)
+number-read-back false true n admitted = absurd (false≢true admitted)
+number-read-back false false n admitted = refl
+
+-- and so is a global that is a number
+pub count-read-back : (json value : Json) → option_map counted (number_in json) ≡ Some value → option_map counted (number_in value) ≡ Some value
+count-read-back json value read = by (number_in json) read
+  where
+    by : (o : Option ℕ) → option_map counted o ≡ Some value → option_map counted (number_in value) ≡ Some value
+    by None e = absurd (none-some value e)
+    by (Some n) e = subst (λ (one : Json). option_map counted (number_in one) ≡ Some one) (same_Some (counted n) value e) refl

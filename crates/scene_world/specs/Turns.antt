@@ -8,6 +8,7 @@ use Rattle.specs_layouts.specs.Shows.{Shows}
 use Rattle.scene_model.specs.Parts.{Json, Name, Part, is_among}
 use Rattle.scene_model.specs.Rulebook.{Access, declares, Fragment, Outcome, leaves, refuses, fills, unknown, Book, Command, queue_room}
 use Rattle.scene_model.specs.Scenes.{PlainSystem, IdsAscend, PartsOwned, RefsLive, PartsAdmitted, GlobalsReadable, IsLawfullyLeft}
+use Rattle.scene_world.specs.Rolls.{IsRoll}
 use Rattle.scene_world.specs.Standing.{Kinds, seen_in, roll_of, column_in, column_of, events_in, emits_in, fragment_of, commands_of, IsWithin}
 
 -- what a system knows of its rules: their names, what they read for a global, and what may stand under a kind
@@ -84,9 +85,11 @@ module _ {V S : Type 0} (kinds : Kinds V) (meaning : Meaning S) where
   abbrev pub sees : S → Holding V → Fragment
   sees system w = fragment_of kinds (meaning.plain system).access w
 
-  -- what is lent is fit for a system: so is the fragment that it sees, and no part of a kind that it declares stands where nobody lives
+  -- what is lent is fit for a system: so is the fragment that it sees, each who lives is known by an id, and no part of a kind that it
+  -- declares stands where nobody lives
   pub record IsLentFit (system : S) (seen : Holding V) : Type 0 where
     pub fit : IsFit (meaning.sense system) (sees system seen)
+    pub roll : IsRoll (roll_of kinds (seen_in seen))
     pub within : (kind : Name) → is_among kind kinds.part_names ≡ true → declares (meaning.plain system).access kind ≡ true → IsWithin kinds (roll_of kinds (seen_in seen)) (column_of kinds (seen_in seen) kind)
 
   -- An accepted turn with these commands: what the system leaves is lawful, no part stands where nobody lives, and its events show each

@@ -1,7 +1,8 @@
 //! Plain columns: kinds of parts each of which lies in one storage, which is a resource of its own in a world's values.
 //!
 //! For these the calls of `WorldRules` are those of this module, at the storage of the kind that they are asked for.
-ghost use Rattle.std.specs.Prelude.{◌≡◌, ◌==◌, ◌<◌, ◌++◌, ℕ, [], true, false, is_some, option_map, IfOk, OnOk, OnErr, IfSome};
+ghost use Rattle.std.specs.Prelude.{◌≡◌, ◌==◌, ◌<◌, ◌++◌, ℕ, [], true, false, is_some, option_map};
+ghost use Rattle.std.specs.Prelude.{IfOk, OnOk, OnErr, IfSome};
 ghost use Rattle.std.specs.List.{list_any};
 ghost use Rattle.hibitset_sets.specs.BitSet.{has_member};
 ghost use Rattle.specs_layouts.specs.Shows.{Shows};
@@ -9,11 +10,13 @@ ghost use Rattle.scene_world.specs.Telling.{GainsReader, CatchesUp, TakesTold, T
 ghost use Rattle.scene_world.specs.Putting.{named_in, part_read, PutsIn, TakesOut, SameColumn, AreReadAt};
 ghost use Rattle.scene_world.specs.Columns.{column_in, events_in, emits_in, StandsEmpty};
 
+mod numbers;
 mod seen;
 mod stored;
 
 use crate::Store;
 use hibitset_sets::BitSet;
+pub use numbers::{NumberPart, ReferencePart, entity_at, number_at, number_in};
 pub use seen::ids_with;
 use shred_world::{Resource, World};
 use specs_entity::Entity;

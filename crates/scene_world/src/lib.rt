@@ -3,8 +3,10 @@
 #![tactic(auto)]
 
 pub mod any_store;
+mod asking;
 pub mod changes;
 pub mod columns;
+mod held;
 pub mod known;
 pub mod laws;
 pub mod marker;
@@ -16,13 +18,15 @@ mod stops;
 mod value;
 
 pub use any_store::AnyStore;
+pub use asking::{Asks, ask_each, ask_with};
 pub use changes::change_parts;
-pub use columns::{Column, PlainPart};
+pub use columns::{Column, NumberPart, PlainPart, ReferencePart};
+pub use held::{ValueChange, change_held, set_held};
 pub use marker::{SceneMarker, SceneMarkerAllocator, no_markers};
 pub use parts::{SceneStorage, scene_storage};
 pub use placed::Placed;
 pub use readers::{catch_up_reader, gain_reader, told_indices};
 pub use rules::{Rules, WorldRules};
 pub use scene_model::Store;
-pub use stops::stop_for;
+pub use stops::{refusal, stop_for};
 pub use value::{QueueValue, SceneValue};

@@ -209,10 +209,10 @@ pub trait Rules: WorldRules {
 
     /// Runs a system on what it is lent of a world, with an empty queue for its commands.
     ///
-    /// Where what it is lent is fit (ids ascend, parts stand at them and nowhere else and are of their kinds,
-    /// references name them, globals have values that the rules read), an accepted run leaves what the system may make
-    /// of it with the commands in its queue, lawfully, and so is a refusal's text one that it may refuse with. It
-    /// stays what it is, and may from then on do at most what it might before.
+    /// Where what it is lent is fit (ids ascend, each who lives is known by one, parts stand at them and nowhere else
+    /// and are of their kinds, references name them, globals have values that the rules read), an accepted run leaves
+    /// what the system may make of it with the commands in its queue, lawfully, and so is a refusal's text one that it
+    /// may refuse with. It stays what it is, and may from then on do at most what it might before.
     ///
     /// Errors: `Refused`; `Memory`; `Full`, only where the queue holds 1,048,576 commands.
     fn run<H: AllocGlobal, W: Holder<Self::Value>>(

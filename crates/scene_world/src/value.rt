@@ -1,5 +1,6 @@
 //! What a world of a scene holds beside the parts and globals of its rules.
-ghost use Rattle.std.specs.Prelude.{◌≡◌, ◌<◌, ℕ, false, Some, None, IfOk, IfErr, OnOk, OnErr, IfSome, IfNone, option_copied};
+ghost use Rattle.std.specs.Prelude.{◌≡◌, ◌<◌, ℕ, false, Some, None, option_copied};
+ghost use Rattle.std.specs.Prelude.{IfOk, IfErr, OnOk, OnErr, IfSome, IfNone};
 ghost use Rattle.std.specs.Option.{option_and_then, option_copied_mut, option_map_or};
 ghost use Rattle.std.specs.Borrow.{LendsIf, sem};
 ghost use Rattle.shred_world.specs.ResourceIds.{id_of};

@@ -13,6 +13,7 @@ use crate::seat::{Seat, work_list_here, work_row_list};
 use crate::{Load, Room};
 use crossbeam_utils::sync::Parker;
 use std::alloc::{AllocFailed, Global};
+use std::sync::atomic::{AtomicBool, Ordering};
 use std::sync::{Arc, Wait};
 use std::thread;
 
@@ -20,6 +21,7 @@ use std::thread;
 #[derive(Drop)]
 pub struct Crew<C, T: Load<C>> {
     pub(crate) seats: Vec<Seat<C, Numbered<T>>>,
+    pub(crate) open: Arc<AtomicBool>,
     pub(crate) parked: Parker<Global>,
     ghost idle: { AreIdle seats.items },
 }
@@ -52,7 +54,9 @@ impl<C: Drop, T: Load<C> + Drop> Crew<C, T> {
     {
         match Arc::new(rt.alloc(), shared) {
             Ok(shared) => {
+                self.open.store(true, Ordering::Release);
                 work_row_list(rt, &shared, &mut self.seats, rows, &self.parked);
+                self.open.store(false, Ordering::Release);
                 take_back(rt, shared)
             }
             Err(AllocFailed { value }) => {

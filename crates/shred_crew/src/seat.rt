@@ -36,7 +36,7 @@ impl<C, T: Load<C>> Model for Seat<C, T> {
 }
 
 impl<C: Drop, T: Load<C> + Drop> Seat<C, T> {
-    /// Asks the worker to work on a row, over what all share.
+    /// Asks the worker to work on a row, over what all share, without calling it.
     fn ask<R: Wait>(&mut self, rt: &R, shared: Arc<C>, row: Vec<T>)
         requires { self.old ≡ None }
         ensures { self.new ≡ Some (record { shared = arc_value shared; row = row }) }
@@ -45,7 +45,7 @@ impl<C: Drop, T: Load<C> + Drop> Seat<C, T> {
             .line
             .push_as::<Asked, R>(rt, &mut self.grip, Packet::Ask(shared, row))
         {
-            Ok(()) => self.call.unpark(),
+            Ok(()) => {}
             Err(_) => unreachable!(),
         }
     }
@@ -95,7 +95,8 @@ fn work_here<C, T: Load<C>, H: AllocGlobal>(rt: &H, shared: &C, rows: &mut [Vec<
     work_here(rt, shared, later);
 }
 
-/// Works on each load of some rows: a row for each worker, and those for which there is none on the caller's thread.
+/// Works on each load of some rows: a row for each worker, and those for which there is none on the caller's thread. Of
+/// the workers that are asked the last one is called, who calls the one before it, and so on.
 fn work_rows<C: Drop, T: Load<C> + Drop, R: AllocGlobal + Wait>(
     rt: &R,
     shared: &Arc<C>,
@@ -121,6 +122,9 @@ fn work_rows<C: Drop, T: Load<C> + Drop, R: AllocGlobal + Wait>(
     };
     let load = mem::replace(row, Vec::new(rt.alloc()));
     seat.ask(rt, theirs, load);
+    if others.is_empty() || later.is_empty() {
+        seat.call.unpark();
+    }
     work_rows(rt, shared, others, later, parked);
     *row = seat.settle(rt, parked);
 }

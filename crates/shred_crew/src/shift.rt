@@ -8,10 +8,11 @@ ghost use Rattle.shred_crew.specs.declared.line.Hand.TheVariants.{Caller, Worker
 use crate::line::{Grip, Line, Roles};
 use crate::numbered::Numbered;
 use crate::seat::Seat;
-use crate::worker::serve;
+use crate::worker::{Calls, serve};
 use crate::{Crew, Load};
 use crossbeam_utils::sync::{Parker, Unparker};
 use std::alloc::{AllocError, Global};
+use std::sync::atomic::AtomicBool;
 use std::sync::{Arc, OnceLock, Wait};
 use std::thread;
 use std::thread::{Scope, Threads};
@@ -84,6 +85,18 @@ fn make_post<C: Drop, T: Load<C> + Drop>(alloc: Global) -> Result<Post<C, T>, Al
     })
 }
 
+/// What calls the worker of the last seat, if there is a seat.
+///
+/// Errors: want of memory.
+fn call_of_last<C, T: Load<C>>(
+    seats: &[Seat<C, T>],
+) -> Result<Option<Unparker<Global>>, AllocError> {
+    match seats.last() {
+        Some(seat) => Ok(Some(seat.call.clone()?)),
+        None => Ok(None),
+    }
+}
+
 /// Starts a worker's thread.
 ///
 /// Errors: want of memory or of a thread; the crew is as it was.
@@ -103,7 +116,13 @@ fn engage<
     let Ok(post) = make_post::<C, Numbered<T>>(rt.alloc()) else {
         return Err(Want::Memory);
     };
+    let Ok(before) = call_of_last(&crew.seats) else {
+        return Err(Want::Memory);
+    };
     let Ok(caller) = crew.parked.unparker().clone() else {
+        return Err(Want::Memory);
+    };
+    let Ok(open) = Arc::try_clone(&crew.open) else {
         return Err(Want::Memory);
     };
     let Ok(()) = crew.seats.reserve(1) else {
@@ -117,10 +136,16 @@ fn engage<
         other_grip,
         called,
     } = post;
+    let calls = Calls {
+        called,
+        before,
+        caller,
+        open,
+    };
     let started = scope.spawn(
         move ||
             requires { IsLine (arc_value other_end) other_grip × (hand_of other_grip ≡ Worker None) }
-        { serve(rt, other_end, other_grip, over, called, caller) },
+        { serve(rt, other_end, other_grip, over, calls) },
     );
     if started.is_err() {
         return Err(Want::Threads);
@@ -186,8 +211,15 @@ fn man<
             shift,
         });
     };
+    let Ok(open) = Arc::new(rt.alloc(), AtomicBool::new(false)) else {
+        return Err(Unmanned {
+            want: Want::Memory,
+            shift,
+        });
+    };
     let mut crew = Crew {
         seats: Vec::new(rt.alloc()),
+        open,
         parked,
     };
     let engaged = engage_each(scope, rt, over, count, &mut crew);

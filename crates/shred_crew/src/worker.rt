@@ -11,6 +11,7 @@ use crate::line::{Answered, Grip, Line, Packet, Taken};
 use crate::load::work_list;
 use crossbeam_utils::sync::{Parker, Unparker};
 use std::alloc::Global;
+use std::sync::atomic::{AtomicBool, Ordering};
 use std::sync::{Arc, OnceLock, Wait};
 
 /// Puts an answer on the line.
@@ -26,11 +27,33 @@ fn answer<C, T: Load<C>, R: Wait>(rt: &R, line: &Line<C, T>, grip: &mut Grip<C, 
     }
 }
 
-/// Works on what was asked for, if something was, and answers; tells whether something lies on the line for the caller.
+/// What a worker has beside its line.
+#[derive(Drop)]
+pub(crate) struct Calls {
+    /// By which it is called.
+    pub(crate) called: Parker<Global>,
+    /// By which it calls the worker before it, if there is one.
+    pub(crate) before: Option<Unparker<Global>>,
+    /// By which it calls the caller.
+    pub(crate) caller: Unparker<Global>,
+    /// Whether rows may lie on lines.
+    pub(crate) open: Arc<AtomicBool>,
+}
+
+/// Calls the worker before, if there is one.
+fn pass_on(before: &Option<Unparker<Global>>) {
+    if let Some(before) = before {
+        before.unpark();
+    }
+}
+
+/// Works on what was asked for, if something was, and answers; tells whether something lies on the line for the caller. The
+/// worker before is called first, where its row may lie on its line: rows were laid there in the order of the workers.
 fn serve_once<C: Drop, T: Load<C> + Drop, R: AllocGlobal + Wait>(
     rt: &R,
     line: &Line<C, T>,
     grip: &mut Grip<C, T>,
+    calls: &Calls,
 ) -> bool
     requires line { IsLine line.now grip.old }
     requires free { view grip.old ≡ Worker None }
@@ -39,6 +62,7 @@ fn serve_once<C: Drop, T: Load<C> + Drop, R: AllocGlobal + Wait>(
 {
     match line.try_pop_as::<Taken>(grip) {
         Some(Packet::Ask(shared, row)) => {
+            pass_on(&calls.before);
             let mut row = row;
             work_list(rt, &*shared, &mut row);
             drop(shared);
@@ -49,7 +73,12 @@ fn serve_once<C: Drop, T: Load<C> + Drop, R: AllocGlobal + Wait>(
             answer(rt, line, grip, row);
             true
         }
-        None => false,
+        None => {
+            if calls.open.load(Ordering::Acquire) {
+                pass_on(&calls.before);
+            }
+            false
+        }
     }
 }
 
@@ -59,20 +88,19 @@ pub(crate) fn serve<C: Drop, T: Load<C> + Drop, R: AllocGlobal + Wait>(
     line: Arc<Line<C, T>>,
     grip: Grip<C, T>,
     over: &OnceLock<()>,
-    called: Parker<Global>,
-    caller: Unparker<Global>,
+    calls: Calls,
 )
     requires line { IsLine (arc_value line) grip }
     requires free { view grip ≡ Worker None }
 {
     let mut grip = grip;
     for _ in rt.forever() {
-        called.park(rt);
+        calls.called.park(rt);
         if over.get().is_some() {
             return;
         }
-        if serve_once(rt, &*line, &mut grip) {
-            caller.unpark();
+        if serve_once(rt, &*line, &mut grip, &calls) {
+            calls.caller.unpark();
         }
     }
 }

@@ -1,12 +1,13 @@
-//! Eight systems that meet, each in a thread of its own, also where fewer workers ran them before.
+//! Eight systems that meet, each in a thread of its own, also where fewer workers ran them before, and while workers stand by.
 ghost use Rattle.std.specs.Prelude.{◌≡◌, IfOk, []};
 ghost use Rattle.shred_plan.specs.Plan.{units_of};
 ghost use Rattle.shred_plan.specs.declared.running_time.RunningTime.TheVariants as time;
 ghost use Rattle.shred_stages.specs.Views.{Leaves};
 
 use crate::values::Value;
+use shred_crew::{Crew, Shift, with_crew};
 use shred_plan::RunningTime;
-use shred_stages::{BatchAccessor, StagesBuilder, Stop, System};
+use shred_stages::{BatchAccessor, Pack, StagesBuilder, Stop, System};
 use shred_world::{Holder, World};
 use smallvec::SmallVec;
 use std::alloc::{AllocError, Global};
@@ -131,4 +132,69 @@ fn gate_eight(rt: HostRuntime) {
     for fewer in [0, 2, 3] {
         assert_eq!(rt; meet_after(&rt, fewer), Ok(true), "after {fewer} workers");
     }
+}
+
+/// Guests who meet again and again while workers stand by, and how often they did.
+#[derive(Drop)]
+struct Party {
+    stages: StagesBuilder<Value, Guest>,
+    world: World<Value>,
+    table: Arc<Table>,
+    met: u32,
+}
+
+/// How often the guests of a party are to meet.
+const MEETINGS: u32 = 50;
+
+impl Shift<World<Value>, Pack<Value, Guest>> for Party {
+    ghost may = { λ _. Unit {0} };
+
+    ghost does = { λ _ _. Unit {0} };
+
+    fn run<R: AllocGlobal + Wait>(
+        &mut self,
+        rt: &R,
+        crew: &mut Crew<World<Value>, Pack<Value, Guest>>,
+    ) {
+        for _meeting in 0..MEETINGS {
+            // Nobody waits in these, so that workers are still on their way as the guests are to meet.
+            for _passing in 0..20 {
+                let _ = self.stages.execute_with(rt, 8, crew, &mut self.world);
+            }
+            let came = self.table.1.load(Ordering::SeqCst);
+            self.table
+                .0
+                .store(came.wrapping_add(GUESTS), Ordering::SeqCst);
+            if self
+                .stages
+                .execute_with(rt, 8, crew, &mut self.world)
+                .is_ok()
+            {
+                self.met = self.met.saturating_add(1);
+            }
+        }
+    }
+}
+
+/// How often the guests of a party meet; none where no thread can be started.
+fn meet_standing<R: AllocGlobal + Threads + Wait + Sync>(
+    rt: &R,
+) -> Result<Option<u32>, AllocError> {
+    let table = Arc::new(rt.alloc(), (AtomicU64::new(0), AtomicU64::new(0)))?;
+    let party = Party {
+        stages: stages_of_guests(rt.alloc(), &table)?,
+        world: World::empty(rt.alloc()),
+        table,
+        met: 0,
+    };
+    match with_crew(rt, 8, party) {
+        Ok(after) => Ok(Some(after.met)),
+        Err(_) => Ok(None),
+    }
+}
+
+// A worker that isn't called, or is called before what it is asked for lies on its line and not again, is caught here.
+#[test]
+fn gate_again(rt: HostRuntime) {
+    assert_eq!(rt; meet_standing(&rt), Ok(Some(MEETINGS)));
 }

@@ -2,7 +2,7 @@
 use Rattle.std.specs.Prelude.{◌≡◌, ◌≢◌, ℕ, List, ◌++◌, codes}
 use Rattle.std.specs.List.{AllPairs, flat_map}
 use Rattle.value_writer.specs.declared.kind.Form.{Form}
-use Rattle.value_writer.specs.declared.kind.Form.TheVariants.{Stored, Flagged, Simple, Uuid, Own, Library, Over}
+use Rattle.value_writer.specs.declared.kind.Form.TheVariants.{Stored, Flagged, Simple, Uuid, Own, Library, Over, Markers, Queue, Column, Global}
 use Rattle.value_writer.specs.declared.kind.Kind.{Kind}
 
 -- no two kinds have one name
@@ -22,6 +22,10 @@ item_text name (Uuid of) = over_text (codes "UuidMarker") of.now
 item_text name Own = name
 item_text name (Library head) = head.now
 item_text name (Over head of) = over_text head.now of.now
+item_text name Markers = codes "SceneMarker"
+item_text name (Queue of) = over_text (codes "Queue") of.now
+item_text name (Column holds) = name
+item_text name Global = codes "u64"
 
 -- the type of what values of a kind hold
 abbrev pub type_text : List ℕ → Form → List ℕ
@@ -32,6 +36,10 @@ type_text name (Uuid of) = over_text (codes "MaskedStorage") (over_text (codes "
 type_text name Own = name
 type_text name (Library head) = head.now
 type_text name (Over head of) = over_text head.now of.now
+type_text name Markers = over_text (codes "MaskedStorage") (codes "SceneMarker")
+type_text name (Queue of) = over_text (codes "Queue") of.now
+type_text name (Column holds) = over_text (codes "MaskedStorage") name
+type_text name Global = codes "u64"
 
 -- the line of a kind in the enum
 abbrev pub variant_text : Kind → List ℕ

@@ -3,7 +3,7 @@ ghost use Rattle.std.specs.Prelude.{◌≡◌, ◌++◌, OnOk, codes};
 ghost use Rattle.value_writer.specs.Variants.{over_text, item_text, type_text};
 
 use crate::bytes::{put, put_camel, put_path, put_plural, put_snake};
-use crate::kind::{Form, Kind};
+use crate::kind::{Form, Holds, Kind};
 use crate::list::{List, Source};
 use itoa::Buffer;
 use std::alloc::AllocError;
@@ -117,7 +117,10 @@ fn put_item(out: &mut Vec<u8>, kind: &Kind) -> Result<(), AllocError>
         Form::Uuid(of) => put_over(out, "UuidMarker", of),
         Form::Over(head, of) => put_over(out, head, of),
         Form::Library(head) => put(out, head),
-        Form::Stored(_) | Form::Flagged(_) | Form::Own => put(out, kind.name),
+        Form::Stored(_) | Form::Flagged(_) | Form::Own | Form::Column(_) => put(out, kind.name),
+        Form::Markers => put(out, "SceneMarker"),
+        Form::Queue(data) => put_over(out, "Queue", data),
+        Form::Global => put(out, "u64"),
     }
 }
 
@@ -137,10 +140,15 @@ pub(crate) fn put_type(out: &mut Vec<u8>, kind: &Kind) -> Result<(), AllocError>
     ensures { OnOk result (out.new.items ≡ out.old.items ++ type_text kind.now.name.now kind.now.form) }
 {
     match kind.form {
-        Form::Stored(_) | Form::Flagged(_) | Form::Simple(_) | Form::Uuid(_) => put_masked(
-            out, kind,
-        ),
-        Form::Own | Form::Library(_) | Form::Over(_, _) => put_item(out, kind),
+        Form::Stored(_)
+        | Form::Flagged(_)
+        | Form::Simple(_)
+        | Form::Uuid(_)
+        | Form::Markers
+        | Form::Column(_) => put_masked(out, kind),
+        Form::Own | Form::Library(_) | Form::Over(_, _) | Form::Queue(_) | Form::Global => {
+            put_item(out, kind)
+        }
     }
 }
 
@@ -198,6 +206,7 @@ fn put_kind_word(out: &mut Vec<u8>, kind: &Kind, word: &str) -> Result<(), Alloc
         "storage" => put_storage(out, kind),
         "seen" => put_seen(out, kind),
         "saved" => put(out, kind.saved.unwrap_or("")),
+        "variant" => put(out, kind.form.variant().unwrap_or("")),
         _ => Ok(()),
     }
 }
@@ -282,6 +291,216 @@ fn put_call(out: &mut Vec<u8>, list: &List, kind: &Kind) -> Result<(), AllocErro
     Ok(())
 }
 
+/// Puts the columns behind a kind, and all for no kind, as a list of the logic.
+fn put_columns_behind(out: &mut Vec<u8>, list: &List, kind: &Kind) -> Result<(), AllocError> {
+    let mut is_behind = kind.name.is_empty();
+    for other in &list.kinds {
+        if is_behind && other.form.is_column() {
+            put_snake(out, other.name)?;
+            put(out, "_column ∷ ")?;
+        }
+        if other.name == kind.name {
+            is_behind = true;
+        }
+    }
+    put(out, "[]")
+}
+
+/// Puts the globals, as a list of the logic.
+fn put_globals(out: &mut Vec<u8>, list: &List) -> Result<(), AllocError> {
+    for other in &list.kinds {
+        if other.form.is_global() {
+            put_snake(out, other.name)?;
+            put(out, "_global ∷ ")?;
+        }
+    }
+    put(out, "[]")
+}
+
+/// Puts the name of what is the same for all kinds of a sort, where it isn't looked at if there is one of them at most.
+fn put_looked_at(out: &mut Vec<u8>, name: &str, count: usize) -> Result<(), AllocError> {
+    if count < 2 {
+        put(out, "_")?;
+    }
+    put(out, name)
+}
+
+/// Puts how a proof names what stands in the branch of a kind: the place of its column, where that isn't the first.
+fn put_place(out: &mut Vec<u8>, list: &List, kind: &Kind) -> Result<(), AllocError> {
+    let mut place = 1u64;
+    for other in &list.kinds {
+        if other.name == kind.name {
+            if place < 2 {
+                return Ok(());
+            }
+            put(out, "-")?;
+            return put(out, Buffer::new().format(place));
+        }
+        if other.form.is_column() {
+            place = place.saturating_add(1);
+        }
+    }
+    Ok(())
+}
+
+/// Puts how a proof names the call in the branch of a kind behind the name of the function.
+fn put_branch(out: &mut Vec<u8>, list: &List, kind: &Kind) -> Result<(), AllocError> {
+    for other in &list.kinds {
+        if other.form.is_column() {
+            if other.name == kind.name {
+                return Ok(());
+            }
+            put(out, "-then-eq")?;
+            return put_place(out, list, kind);
+        }
+    }
+    Ok(())
+}
+
+/// How many columns a list has, and how many globals.
+fn columns_of(list: &List) -> usize {
+    list.kinds
+        .iter()
+        .filter(|kind| kind.form.is_column())
+        .count()
+}
+
+fn globals_of(list: &List) -> usize {
+    list.kinds
+        .iter()
+        .filter(|kind| kind.form.is_global())
+        .count()
+}
+
+/// Puts how a proof names the call for the last column behind the name of the function.
+fn put_last(out: &mut Vec<u8>, list: &List) -> Result<(), AllocError> {
+    if columns_of(list) < 2 {
+        Ok(())
+    } else {
+        put(out, "-2")
+    }
+}
+
+/// Puts the lemma by which a name is that of a column or of one behind it, where one stands behind it.
+fn put_guard(out: &mut Vec<u8>, list: &List, column: &Kind, is_it: bool) -> Result<(), AllocError> {
+    let Some(next) = next_column(list, column) else {
+        return Ok(());
+    };
+    put(out, if is_it { "first-kind" } else { "next-kind" })?;
+    put(out, " Holds c.args.kind.now ")?;
+    put_snake(out, column.name)?;
+    put(out, "_column ")?;
+    put_snake(out, next.name)?;
+    put(out, "_column (")?;
+    put_columns_behind(out, list, next)?;
+    put(out, ") (sym c.eq")?;
+    put_place(out, list, column)?;
+    put(out, ".ensures ∙ c.if-eq")?;
+    put_place(out, list, column)?;
+    put(
+        out,
+        if is_it {
+            ".true)\n    ("
+        } else {
+            ".false)\n    ("
+        },
+    )
+}
+
+/// The column behind another.
+fn next_column<'a, 'b>(list: &'b List<'a>, column: &Kind) -> Option<&'b Kind<'a>> {
+    let mut is_behind = false;
+    for other in &list.kinds {
+        if is_behind && other.form.is_column() {
+            return Some(other);
+        }
+        if other.name == column.name {
+            is_behind = true;
+        }
+    }
+    None
+}
+
+/// Puts the lemmas by which a name is none of the columns before one, and that of it.
+fn put_passing(out: &mut Vec<u8>, list: &List, kind: &Kind) -> Result<(), AllocError> {
+    for other in &list.kinds {
+        if other.form.is_column() {
+            if other.name == kind.name {
+                return put_guard(out, list, other, true);
+            }
+            put_guard(out, list, other, false)?;
+        }
+    }
+    Ok(())
+}
+
+/// Puts the ends of these.
+fn put_closing(out: &mut Vec<u8>, list: &List, kind: &Kind) -> Result<(), AllocError> {
+    for other in &list.kinds {
+        if other.form.is_column() {
+            if next_column(list, other).is_some() {
+                put(out, ")")?;
+            }
+            if other.name == kind.name {
+                return Ok(());
+            }
+        }
+    }
+    Ok(())
+}
+
+/// Puts what is read of each value as one of a kind.
+fn put_readings(out: &mut Vec<u8>, list: &List, kind: &Kind) -> Result<(), AllocError> {
+    for other in &list.kinds {
+        put_snake(out, kind.name)?;
+        put(out, "_in (")?;
+        put(out, other.name)?;
+        if other.name == kind.name {
+            put(out, "Value x) = Some x\n")?;
+        } else {
+            put(out, "Value x) = None\n")?;
+        }
+    }
+    Ok(())
+}
+
+/// Puts the type of what the logic sees of a value of a scene.
+fn put_seen_type(out: &mut Vec<u8>, kind: &Kind) -> Result<(), AllocError> {
+    match kind.form {
+        Form::Library("EntitiesRes") => put(out, "Births"),
+        Form::Library(_) => put(out, "Noting"),
+        Form::Markers => put(out, "(Masked (Flagged (VecStorage ℕ)))"),
+        Form::Queue(data) => {
+            put(out, "(Queue ")?;
+            put(out, data)?;
+            put(out, ")")
+        }
+        Form::Column(_) => {
+            put(out, "(Storage ")?;
+            put(out, kind.name)?;
+            put(out, ")")
+        }
+        _ => put(out, "ℕ"),
+    }
+}
+
+/// Puts what is stored for the parts of a column.
+fn put_stored(out: &mut Vec<u8>, kind: &Kind) -> Result<(), AllocError> {
+    let call = match kind.form {
+        Form::Column(Holds::Number(_)) => "number_stored",
+        Form::Column(Holds::Reference(_)) => "reference_stored",
+        _ => {
+            put_snake(out, kind.name)?;
+            return put(out, "_stored");
+        }
+    };
+    put(out, "(λ (part : ")?;
+    put(out, kind.name)?;
+    put(out, "). ")?;
+    put(out, call)?;
+    put(out, " part.0)")
+}
+
 /// Puts what a word stands for at a kind of a list.
 fn put_word(out: &mut Vec<u8>, list: &List, kind: &Kind, word: &str) -> Result<(), AllocError> {
     if let Some(template) = each_of(word) {
@@ -301,6 +520,22 @@ fn put_word(out: &mut Vec<u8>, list: &List, kind: &Kind, word: &str) -> Result<(
         "cases" => put_cases(out, list, kind),
         "parts cases" => put_parts(out, list, kind),
         "call" => put_call(out, list, kind),
+        "data" => put(out, list.scene.unwrap_or("")),
+        "rules" => put(out, list.rules.unwrap_or("")),
+        "columns behind" => put_columns_behind(out, list, kind),
+        "globals" => put_globals(out, list),
+        "readings" => put_readings(out, list, kind),
+        "kind" => put_looked_at(out, "kind", columns_of(list)),
+        "global" => put_looked_at(out, "name", globals_of(list)),
+        "global value" => put_looked_at(out, "global", globals_of(list).saturating_add(1)),
+        "held" => put_looked_at(out, "value", globals_of(list).saturating_add(1)),
+        "place" => put_place(out, list, kind),
+        "branch" => put_branch(out, list, kind),
+        "last" => put_last(out, list),
+        "passing" => put_passing(out, list, kind),
+        "closing" => put_closing(out, list, kind),
+        "seen type" => put_seen_type(out, kind),
+        "stored" => put_stored(out, kind),
         _ => put_kind_word(out, kind, word),
     }
 }

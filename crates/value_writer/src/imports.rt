@@ -66,6 +66,34 @@ const OF_SPECS: [(&str, &str); 27] = [
     ("specs::saveload", "plain_into"),
 ];
 
+/// The same for the values of a scene.
+const OF_SCENES: [(&str, &str); 15] = [
+    ("scene_model", "Queue"),
+    ("scene_world", "NumberPart"),
+    ("scene_world", "PlainPart"),
+    ("scene_world", "QueueValue"),
+    ("scene_world", "ReferencePart"),
+    ("scene_world", "SceneMarker"),
+    ("scene_world", "SceneMarkerAllocator"),
+    ("scene_world", "SceneStorage"),
+    ("scene_world", "Store"),
+    ("scene_world", "scene_storage"),
+    ("shred_world", "Resource"),
+    ("specs_entity", "EntitiesRes"),
+    ("specs_entity", "Entity"),
+    ("specs_layouts", "Component"),
+    ("specs_layouts", "MaskedStorage"),
+];
+
+/// The modules of a scene's values.
+const SCENE_MODULES: [&str; 5] = [
+    "scene_model",
+    "scene_world",
+    "shred_world",
+    "specs_entity",
+    "specs_layouts",
+];
+
 /// The modules of these, in the order of their lines.
 const MODULES: [&str; 8] = [
     "shred_world",
@@ -255,4 +283,74 @@ pub(crate) fn put_imports(out: &mut Vec<u8>, alloc: Global, list: &List) -> Resu
     } else {
         put(out, "use std::alloc::AllocError;\n\n")
     }
+}
+
+/// Whether something is imported by the values of a scene.
+fn is_of_scene(list: &List, name: &str) -> bool {
+    match name {
+        "NumberPart" => list.kinds.iter().any(|kind| kind.form.is_number()),
+        "ReferencePart" => list.kinds.iter().any(|kind| kind.form.is_reference()),
+        "PlainPart" | "Store" | "scene_storage" | "Entity" => {
+            list.kinds.iter().any(|kind| kind.form.is_plain())
+        }
+        _ => true,
+    }
+}
+
+/// The names of a module that the values of a scene import.
+fn names_of_scene(
+    alloc: Global,
+    list: &List,
+    module: &str,
+) -> Result<Vec<&'static str>, AllocError> {
+    let mut names = Vec::new(alloc);
+    for (place, name) in OF_SCENES {
+        if place == module && is_of_scene(list, name) {
+            names.push(name)?;
+        }
+    }
+    Ok(names)
+}
+
+/// Puts all imports of a scene's values.
+pub(crate) fn put_scene_imports(
+    out: &mut Vec<u8>,
+    alloc: Global,
+    list: &List,
+) -> Result<(), AllocError> {
+    put_parts(out, alloc, list)?;
+    for module in SCENE_MODULES {
+        let names = names_of_scene(alloc, list, module)?;
+        put_import(out, "", module, &names)?;
+    }
+    if list.kinds.iter().any(|kind| kind.form.is_plain()) {
+        put(out, "use std::alloc::Global;\n\n")
+    } else {
+        put(out, "\n")
+    }
+}
+
+/// Puts all imports of the columns of a scene's rules.
+pub(crate) fn put_column_imports(
+    out: &mut Vec<u8>,
+    alloc: Global,
+    list: &List,
+) -> Result<(), AllocError> {
+    put_parts(out, alloc, list)?;
+    put(out, "use crate::rules::")?;
+    put(out, list.rules.unwrap_or(""))?;
+    put(out, ";\nuse crate::")?;
+    put(out, list.module)?;
+    put(
+        out,
+        "::Value;
+use hibitset_sets::BitSet;
+use scene_world::{Store, WorldRules, columns};
+use shred_world::{ResourceId, World};
+use specs_entity::Entity;
+use specs_layouts::{MaskedStorage, ReaderId};
+use std::alloc::{AllocError, Global};
+
+",
+    )
 }

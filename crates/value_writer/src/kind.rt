@@ -47,6 +47,17 @@ pub(crate) const LAYOUTS: [Layout; 6] = [
     Layout::Vec,
 ];
 
+/// What the parts of a scene's column are.
+#[derive(Clone, Copy)]
+pub(crate) enum Holds<'a> {
+    /// A number, which stands in data as this variant.
+    Number(&'a str),
+    /// A reference, which stands in data as this variant.
+    Reference(&'a str),
+    /// What the crate says of them.
+    Parts,
+}
+
 /// What a kind of values holds.
 #[derive(Clone, Copy)]
 pub(crate) enum Form<'a> {
@@ -64,6 +75,14 @@ pub(crate) enum Form<'a> {
     Library(&'static str),
     /// A resource of the library, over a type.
     Over(&'static str, &'a str),
+    /// The markers of a scene.
+    Markers,
+    /// The commands of a scene's system, over a type of data.
+    Queue(&'a str),
+    /// A plain column of a scene.
+    Column(Holds<'a>),
+    /// A global of a scene, which is a number.
+    Global,
 }
 
 impl<'a> Form<'a> {
@@ -80,6 +99,67 @@ impl<'a> Form<'a> {
         match self {
             Form::Stored(_) | Form::Flagged(_) => true,
             _ => false,
+        }
+    }
+
+    /// Whether it is a plain column of a scene.
+    pub(crate) fn is_column(self) -> bool {
+        match self {
+            Form::Column(_) => true,
+            _ => false,
+        }
+    }
+
+    /// Whether it is a column of numbers.
+    pub(crate) fn is_number(self) -> bool {
+        match self {
+            Form::Column(Holds::Number(_)) => true,
+            _ => false,
+        }
+    }
+
+    /// Whether it is a column of references.
+    pub(crate) fn is_reference(self) -> bool {
+        match self {
+            Form::Column(Holds::Reference(_)) => true,
+            _ => false,
+        }
+    }
+
+    /// Whether it is a column of numbers or references.
+    pub(crate) fn is_plain(self) -> bool {
+        self.is_number() || self.is_reference()
+    }
+
+    /// Whether it is a column of which the crate says what is stored.
+    pub(crate) fn is_parts(self) -> bool {
+        match self {
+            Form::Column(Holds::Parts) => true,
+            _ => false,
+        }
+    }
+
+    /// Whether it is a global of a scene.
+    pub(crate) fn is_global(self) -> bool {
+        match self {
+            Form::Global => true,
+            _ => false,
+        }
+    }
+
+    /// Whether it is a resource of a world of values.
+    pub(crate) fn is_resource(self) -> bool {
+        match self {
+            Form::Queue(_) | Form::Global => false,
+            _ => true,
+        }
+    }
+
+    /// The variant of data that the parts of a column are.
+    pub(crate) fn variant(self) -> Option<&'a str> {
+        match self {
+            Form::Column(Holds::Number(name) | Holds::Reference(name)) => Some(name),
+            _ => None,
         }
     }
 
@@ -136,7 +216,8 @@ impl<'a> Kind<'a> {
     /// The type of the crate that the kind needs.
     pub(crate) fn part(&self) -> Option<&'a str> {
         match self.form {
-            Form::Stored(_) | Form::Flagged(_) | Form::Own => Some(self.name),
+            Form::Stored(_) | Form::Flagged(_) | Form::Own | Form::Column(_) => Some(self.name),
+            Form::Queue(data) => Some(data),
             _ => self.form.of(),
         }
     }

@@ -4,10 +4,13 @@ ghost use Rattle.std.specs.Prelude.{◌≡◌, ◌≢◌, ◌↔◌, IfOk, IsTru
 ghost use Rattle.std.specs.List.{All};
 ghost use Rattle.value_writer.specs.Variants.{HaveOwnNames};
 
-use crate::kind::{Form, Kind, LAYOUTS, Layout, PLAIN};
+use crate::kind::{Form, Holds, Kind, LAYOUTS, Layout, PLAIN};
 use crate::names::{is_module_name, is_path, is_type_name};
 use crate::refusal::{Refusal, Stop};
 use std::alloc::{AllocError, Global};
+
+/// How long a name of a scene's kind may be, so that the lines that name it have room.
+const LONGEST_OF_SCENE: usize = 24;
 
 /// What a written file imports from.
 #[derive(Clone, Copy)]
@@ -25,6 +28,10 @@ pub(crate) struct List<'a> {
     pub(crate) module: &'a str,
     pub(crate) parts: &'a str,
     pub(crate) source: Source,
+    /// The type of a scene's data, where the values are a scene's.
+    pub(crate) scene: Option<&'a str>,
+    /// The type of its rules, where the file of their columns is written too.
+    pub(crate) rules: Option<&'a str>,
     pub(crate) kinds: Vec<Kind<'a>>,
 }
 
@@ -103,6 +110,55 @@ fn saved_form_of<'a>(text: &'a str) -> Option<(Form<'a>, Option<&'static str>)> 
     }
 }
 
+/// The form of a scene's kind that a text behind a colon names.
+fn scene_form_of<'a>(text: &'a str) -> Option<Form<'a>> {
+    match text {
+        "column" => return Some(Form::Column(Holds::Parts)),
+        "global" => return Some(Form::Global),
+        _ => {}
+    }
+    let (head, variant) = text.split_once(' ')?;
+    let variant = variant.trim();
+    if !is_type_name(variant) {
+        return None;
+    }
+    match head {
+        "number" => Some(Form::Column(Holds::Number(variant))),
+        "reference" => Some(Form::Column(Holds::Reference(variant))),
+        _ => None,
+    }
+}
+
+/// What each world of a scene holds.
+///
+/// Errors: want of memory.
+fn scene_kinds<'a>(alloc: Global, data: &'a str) -> Result<Vec<Kind<'a>>, AllocError>
+    ensures { IfOk result (λ kinds. HaveOwnNames kinds.items) }
+{
+    let mut kinds = Vec::new(alloc);
+    kinds.push(Kind {
+        name: "Entities",
+        form: Form::Library("EntitiesRes"),
+        saved: None,
+    })?;
+    kinds.push(Kind {
+        name: "Markers",
+        form: Form::Markers,
+        saved: None,
+    })?;
+    kinds.push(Kind {
+        name: "Allocator",
+        form: Form::Library("SceneMarkerAllocator"),
+        saved: None,
+    })?;
+    kinds.push(Kind {
+        name: "Queue",
+        form: Form::Queue(data),
+        saved: None,
+    })?;
+    Ok(kinds)
+}
+
 /// Whether a kind has this name.
 fn is_named(kind: &Kind, name: &str) -> bool
     ensures { IsTrue result ↔ (kind.now.name.now ≡ name.now) }
@@ -145,8 +201,41 @@ impl<'a> List<'a> {
             module: "values",
             parts: "parts",
             source: Source::Specs,
+            scene: None,
+            rules: None,
             kinds,
         })
+    }
+
+    /// The form that a text names in this list, and as what parts are saved.
+    fn form_of(&self, text: &'a str) -> Option<(Form<'a>, Option<&'static str>)> {
+        if self.scene.is_none() {
+            return saved_form_of(text);
+        }
+        let form = scene_form_of(text)?;
+        Some((form, None))
+    }
+
+    /// The list is a scene's, with this type of data.
+    ///
+    /// Errors: `LateScene`, `WrongSetting`, or want of memory; the list is as it was.
+    fn begin_scene(&mut self, alloc: Global, data: &'a str) -> Result<(), Stopped>
+        ensures { HaveOwnNames self.old.kinds.items → OnOk result (HaveOwnNames self.new.kinds.items) }
+    {
+        if !is_type_name(data) {
+            return Err(Stopped::By(Refusal::WrongSetting));
+        }
+        if self.kinds.len() > 2 {
+            return Err(Stopped::By(Refusal::LateScene));
+        }
+        match scene_kinds(alloc, data) {
+            Ok(kinds) => {
+                self.kinds = kinds;
+                self.scene = Some(data);
+                Ok(())
+            }
+            Err(_) => Err(Stopped::Memory),
+        }
     }
 
     /// Takes in a kind.
@@ -156,13 +245,13 @@ impl<'a> List<'a> {
     fn add(&mut self, name: &'a str, text: &'a str) -> Result<(), Stopped>
         ensures { HaveOwnNames self.old.kinds.items → OnOk result (HaveOwnNames self.new.kinds.items) }
     {
-        if !is_type_name(name) {
+        if !is_type_name(name) || (self.scene.is_some() && name.len() > LONGEST_OF_SCENE) {
             return Err(Stopped::By(Refusal::WrongName));
         }
         if has_name(&self.kinds, name) {
             return Err(Stopped::By(Refusal::TakenName));
         }
-        let Some((form, saved)) = saved_form_of(text) else {
+        let Some((form, saved)) = self.form_of(text) else {
             return Err(Stopped::By(Refusal::UnknownForm));
         };
         match self.kinds.push(Kind { name, form, saved }) {
@@ -182,14 +271,15 @@ impl<'a> List<'a> {
             "module" => set_name(&mut self.module, text, is_path(text)),
             "parts" => set_name(&mut self.parts, text, is_path(text)),
             "from" => set_source(&mut self.source, text),
+            "rules" => set_rules(&mut self.rules, text),
             _ => Err(Refusal::UnknownSetting),
         }
     }
 
     /// Takes in a line.
     ///
-    /// Errors: those of `add` and `set`, and `NoColon`; the list is as it was.
-    fn take(&mut self, line: &'a str) -> Result<(), Stopped>
+    /// Errors: those of `add`, `begin_scene` and `set`, and `NoColon`; the list is as it was.
+    fn take(&mut self, alloc: Global, line: &'a str) -> Result<(), Stopped>
         ensures { HaveOwnNames self.old.kinds.items → OnOk result (HaveOwnNames self.new.kinds.items) }
     {
         let line = line.trim();
@@ -200,6 +290,9 @@ impl<'a> List<'a> {
             return Err(Stopped::By(Refusal::NoColon));
         };
         let (name, text) = (name.trim(), text.trim());
+        if name == "scene" {
+            return self.begin_scene(alloc, text);
+        }
         if is_setting(name) {
             return match self.set(name, text) {
                 Ok(()) => Ok(()),
@@ -213,7 +306,13 @@ impl<'a> List<'a> {
     fn lack(&self) -> Option<Refusal> {
         if self.crate_name.is_empty() {
             Some(Refusal::NoCrate)
-        } else if !self.kinds.iter().any(|kind| kind.form.is_storage()) {
+        } else if self.rules.is_some() && self.scene.is_none() {
+            Some(Refusal::NoScene)
+        } else if !self
+            .kinds
+            .iter()
+            .any(|kind| kind.form.is_storage() || kind.form.is_column())
+        {
             Some(Refusal::NoStorage)
         } else {
             None
@@ -253,6 +352,14 @@ fn set_name<'a>(name: &mut &'a str, text: &'a str, fits: bool) -> Result<(), Ref
     Ok(())
 }
 
+fn set_rules<'a>(rules: &mut Option<&'a str>, text: &'a str) -> Result<(), Refusal> {
+    if !is_type_name(text) {
+        return Err(Refusal::WrongSetting);
+    }
+    *rules = Some(text);
+    Ok(())
+}
+
 fn set_source(source: &mut Source, text: &str) -> Result<(), Refusal> {
     *source = match text {
         "specs" => Source::Specs,
@@ -276,7 +383,7 @@ pub(crate) fn read_list<'a>(alloc: Global, text: &'a str) -> Result<List<'a>, St
     let mut number = 0u32;
     for line in text.lines() {
         number = number.saturating_add(1);
-        match list.take(line) {
+        match list.take(alloc, line) {
             Ok(()) => {}
             Err(stopped) => return Err(stopped.at(number)),
         }

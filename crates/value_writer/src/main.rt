@@ -9,6 +9,7 @@
 #![tactic(auto)]
 
 mod bytes;
+mod columns;
 mod fill;
 mod imports;
 mod kind;
@@ -17,6 +18,7 @@ mod logic;
 mod names;
 mod pieces;
 mod refusal;
+mod scene;
 mod values;
 mod writing;
 

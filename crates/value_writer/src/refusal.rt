@@ -21,6 +21,10 @@ pub(crate) enum Refusal {
     NoCrate,
     /// No line has a storage.
     NoStorage,
+    /// The list is a scene's, and a kind or this line stands before the line that says so.
+    LateScene,
+    /// The rules are named, and no line says that the list is a scene's.
+    NoScene,
 }
 
 impl Refusal {
@@ -36,6 +40,8 @@ impl Refusal {
             Refusal::UnknownForm => "UnknownForm",
             Refusal::NoCrate => "NoCrate",
             Refusal::NoStorage => "NoStorage",
+            Refusal::LateScene => "LateScene",
+            Refusal::NoScene => "NoScene",
         }
     }
 }

@@ -9,6 +9,7 @@ use crate::imports::put_imports;
 use crate::kind::Kind;
 use crate::list::List;
 use crate::pieces::{Piece, put_pieces};
+use crate::scene::put_scene_front;
 use std::alloc::{AllocError, Global};
 
 /// What is named in ghost text.
@@ -225,6 +226,9 @@ pub(crate) fn put_variants(out: &mut Vec<u8>, kinds: &[Kind]) -> Result<(), Allo
 ///
 /// Errors: want of memory, which leaves a part of it behind the bytes.
 pub(crate) fn put_front(out: &mut Vec<u8>, alloc: Global, list: &List) -> Result<(), AllocError> {
+    if list.scene.is_some() {
+        return put_scene_front(out, alloc, list);
+    }
     put_pieces(out, list, &GHOST)?;
     put(out, "\n")?;
     put_imports(out, alloc, list)?;

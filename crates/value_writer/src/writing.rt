@@ -5,6 +5,7 @@ ghost use Rattle.value_writer.specs.Variants.{HasVariants, HasOwnVariants};
 use crate::list::{List, read_list};
 use crate::logic::{put_answers, put_lemmas, put_specs};
 use crate::refusal::{Refusal, Stop};
+use crate::scene::put_scene_behind;
 use crate::values::{put_behind, put_front, put_variants};
 use std::alloc::{AllocError, Global};
 use std::io;
@@ -13,6 +14,10 @@ use std::io::{Read, Write};
 /// What stands behind the variants in the files of a list.
 fn rest_of(alloc: Global, list: &List) -> Result<Vec<u8>, AllocError> {
     let mut out = Vec::new(alloc);
+    if list.scene.is_some() {
+        put_scene_behind(&mut out, alloc, list)?;
+        return Ok(out);
+    }
     put_behind(&mut out, list)?;
     put_specs(&mut out, list)?;
     put_lemmas(&mut out, list)?;

@@ -181,7 +181,8 @@ where
     ensures whole { IfOk result (λ texts. (report : Report)
         × IsFinished (R.book rules) limits (view whole.now) report texts.0.items) }
     ensures same { IfOk result (λ texts. OneOutcome (R.book rules)
-        → GoesOn (R.book rules) limits.indices (view whole.now) (view first.now) (view rest.systems) (view rest.frames) (view rest.commands)
+        → GoesOn (R.book rules) limits.indices (view whole.now) (view first.now)
+        (view rest.systems) (view rest.frames) (view rest.commands)
         → texts.0.items ≡ texts.1.items) }
 {
     rules_are_lawful(&rules);

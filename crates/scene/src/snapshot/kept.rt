@@ -1,6 +1,8 @@
 //! What is kept of a scene: at each index of its world the id that it bears, and a row of data.
-ghost use Rattle.std.specs.Prelude.{◌≡◌, ◌==◌, ◌<◌, ◌≤◌, ◌+◌, ℕ, None, Some, is_some, if◌then◌else◌, IfOk, OnOk, option_copied};
-ghost use Rattle.scene.specs.Rows.{seat_at, datum_at, entry_at, counted, seats_kept, kinds_kept, HasRoom, IsSettled, SameCourse};
+ghost use Rattle.std.specs.Prelude.{◌≡◌, ◌==◌, ◌<◌, ◌≤◌, ◌+◌, ℕ, None};
+ghost use Rattle.std.specs.Prelude.{Some, is_some, if◌then◌else◌, IfOk, OnOk, option_copied};
+ghost use Rattle.scene.specs.Rows.{seat_at, datum_at, entry_at, counted, seats_kept};
+ghost use Rattle.scene.specs.Rows.{kinds_kept, HasRoom, IsSettled, SameCourse};
 
 use crate::snapshot::lengthen::lengthen;
 use std::alloc::{AllocError, Global};

@@ -112,8 +112,8 @@ fn data_at<T: PlainPart>(
     alloc: Global,
 ) -> Result<Vec<(u64, Option<T::Data>)>, AllocError>
     ensures { IfOk result (λ found. each_there (option_map T.part_of) found.items
-        ≡ each_there (λ index. option_map (part_read []) (option_map T.stored (T.Storage.part_at parts.now.inner index)))
-        entities.now) }
+        ≡ each_there (λ index. option_map (part_read [])
+        (option_map T.stored (T.Storage.part_at parts.now.inner index))) entities.now) }
 {
     let mut found = Vec::with_capacity(alloc, entities.len())?;
     for entity in entities {

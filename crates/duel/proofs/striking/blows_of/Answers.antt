@@ -27,6 +27,7 @@ loop-place-preserved g c =
 
 pub returns : goal.returns
 returns g c =
+    let w = g.W.Holder.slots c.args.view.now in
     c.loop-place.invariant
-    ∙ ap (filter_map (blow_seen (g.W.Holder.slots c.args.view.now))) (take_all c.loop-place.place c.as_slice-ids.result.now c.loop-place-test.false ∙ c.as_slice-ids.ensures.value)
-    ∙ seeing-blows (g.W.Holder.slots c.args.view.now) c.in_ok-list.list.items c.in_ok-list.ensures
+    ∙ ap (filter_map (blow_seen w)) (take_all c.loop-place.place c.as_slice-ids.result.now c.loop-place-test.false ∙ c.as_slice-ids.ensures.value ∙ c.in_ok-list.ensures)
+    ∙ seeing-blows w

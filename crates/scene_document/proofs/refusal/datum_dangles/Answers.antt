@@ -8,7 +8,7 @@ use Rattle.scene_document.proofs.refusal.datum_dangles.Goals as goal
 
 pub returns : goal.returns
 returns g c =
-    let ids = c.args.ids.now.keys in
+    let ids = c.args.ids.now in
     c.lacks_id.ensures ∙ ap (λ wanted. list_any (λ id. not (lives id ids)) wanted) c.deref.ensures.value
     ∙ sym (dangle-refs_to ids c.in_ok-refs.refs.items)
     ∙ ap (λ refs. list_any (λ ref. not (ref_lives ids ref)) refs) c.in_ok-refs.ensures

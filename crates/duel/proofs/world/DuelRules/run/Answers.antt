@@ -4,19 +4,21 @@ use Rattle.scene_model.specs.Queues.{waiting, plain_commands}
 use Rattle.scene_world.specs.Turns.{Runs}
 use Rattle.duel.specs.declared.data.DuelSystem.{DuelSystem}
 use Rattle.duel.specs.Rules.{part_of}
-use Rattle.duel.specs.Columns.{duel_kinds_of}
-use Rattle.duel.proofs.TurnLemmas.{meant, strike-runs, bury-runs}
+use Rattle.duel.specs.Values.{kinds}
+use Rattle.duel.proofs.SightLemmas.{meant}
+use Rattle.duel.proofs.BuryLemmas.{bury-runs}
+use Rattle.duel.proofs.StrikeLemmas.{strike-runs}
 use Rattle.duel.proofs.world.DuelRules.run.Goals as goal
 
 pub returns-in-Strike-clause-runs : goal.returns-in-Strike-clause-runs
 returns-in-Strike-clause-runs g c =
     let seen = g.W.Holder.slots c.args.view.now in
     let left = g.W.Holder.slots c.strike.new.view in
-    subst (λ (system : DuelSystem). Runs duel_kinds_of meant system seen (error_of c.strike.result) system left (plain_commands part_of (waiting c.args.queue.now))) (sym c.in-Strike.is)
+    subst (λ (system : DuelSystem). Runs kinds meant system seen (error_of c.strike.result) system left (plain_commands part_of (waiting c.args.queue.now))) (sym c.in-Strike.is)
     (strike-runs seen left c.strike.result (plain_commands part_of (waiting c.args.queue.now)) (ap (plain_commands part_of) c.requires.empty) c.strike.ensures.ends)
 
 pub returns-in-Bury-clause-runs : goal.returns-in-Bury-clause-runs
 returns-in-Bury-clause-runs g c =
     let seen = g.W.Holder.slots c.args.view.now in
-    subst (λ (system : DuelSystem). Runs duel_kinds_of meant system seen (error_of c.bury.result) system seen (plain_commands part_of (waiting c.bury.new.queue))) (sym c.in-Bury.is)
+    subst (λ (system : DuelSystem). Runs kinds meant system seen (error_of c.bury.result) system seen (plain_commands part_of (waiting c.bury.new.queue))) (sym c.in-Bury.is)
     (bury-runs seen (plain_commands part_of (waiting c.bury.new.queue)) c.bury.result c.bury.ensures)
