@@ -14,7 +14,7 @@ use std::alloc::{AllocError, Global};
 use std::io;
 use std::sync::Wait;
 use std::time::{Clock, Instant};
-use world_tests::lazy::values::Value;
+use world_cases::lazy::values::Value;
 
 /// How many entities are timed.
 const ENTITIES: u32 = 1_000_000;

@@ -12,7 +12,6 @@ use anyhow::Result;
 use parts::*;
 use specs::saveload::*;
 use specs::*;
-use specs_entity::laws::the_living_are_below_the_limit;
 use std::alloc::Global;
 use systems::dispatcher;
 use values::Value;
@@ -29,7 +28,7 @@ fn saved_again(alloc: Global, list: Vec<Entry>) -> Result<Vec<Entry>>
     let mut markers = MaskedStorage::new(alloc, DenseVecStorage::unwrap_default(alloc));
     let mut allocator = SimpleMarkerAllocator::<Settler>::new(alloc);
     positions.deserialize(alloc, list, &mut entities, &mut markers, &mut allocator)?;
-    the_living_are_below_the_limit(&entities);
+    specs_entity::laws::the_living_are_below_the_limit(&entities);
     Ok(positions.serialize(alloc, &entities, &markers)?)
 }
 
@@ -42,13 +41,22 @@ fn print_list(rt: &HostRuntime, list: &[Entry]) -> Result<()> {
     Ok(())
 }
 
+/// Prints what is saved of a world, and what is saved again once that was loaded.
+fn print_saved(rt: &HostRuntime, world: &World<Value>) -> Result<()> {
+    let positions = world.read_resource::<MaskedStorage<Position>>()?;
+    let markers = world.read_resource::<MaskedStorage<SimpleMarker<Settler>>>()?;
+    let list = positions.serialize(rt.alloc(), world.entities()?, markers)?;
+    print_list(rt, &list)?;
+    println!(rt; "loaded")?;
+    print_list(rt, &saved_again(rt.alloc(), list)?)
+}
+
 fn main(rt: HostRuntime) -> Result<()> {
-    let alloc = rt.alloc();
-    let mut world: World<Value> = LazyWorld::<Value, Settler>::with_queues(alloc)?;
-    let mut systems = dispatcher(alloc, 4)?;
+    let mut world: World<Value> = LazyWorld::<Value, Settler>::with_queues(rt.alloc())?;
+    let mut systems = dispatcher(rt.alloc(), 4)?;
     systems.setup(&mut world)?;
     world.register::<SimpleMarker<Settler>>()?;
-    world.insert(SimpleMarkerAllocator::<Settler>::new(alloc))?;
+    world.insert(SimpleMarkerAllocator::<Settler>::new(rt.alloc()))?;
     Settler(Velocity(5), Goal(100)).run(&mut world)?;
     Settler(Velocity(2), Goal(8)).run(&mut world)?;
     let positions = world.write_resource::<MaskedStorage<Position>>()?;
@@ -57,14 +65,9 @@ fn main(rt: HostRuntime) -> Result<()> {
         systems.dispatch(&rt, &mut world)?;
         LazyWorld::<Value, Settler>::maintain(&mut world, &rt, 8)?;
         let positions = world.write_resource::<MaskedStorage<Position>>()?;
-        let mut events = Vec::new(alloc);
+        let mut events = Vec::new(rt.alloc());
         positions.channel_mut().read(&reader, &mut events)?;
         println!(rt; "{} told", events.len())?;
     }
-    let positions = world.read_resource::<MaskedStorage<Position>>()?;
-    let markers = world.read_resource::<MaskedStorage<SimpleMarker<Settler>>>()?;
-    let list = positions.serialize(alloc, world.entities()?, markers)?;
-    print_list(&rt, &list)?;
-    println!(rt; "loaded")?;
-    print_list(&rt, &saved_again(alloc, list)?)
+    print_saved(&rt, &world)
 }

@@ -28,7 +28,6 @@ impl Job<Value> for Settler {
         builder.put(self.0).map_err(|refused| refused.0)?;
         builder.put(self.1).map_err(|refused| refused.0)?;
         let entity = builder.build();
-        mark_in::<Value, SimpleMarker<Settler>>(world, entity)?;
-        Ok(())
+        mark_in::<Value, SimpleMarker<Settler>>(world, entity).map(|_| ())
     }
 }

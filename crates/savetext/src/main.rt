@@ -3,7 +3,6 @@
 //! Entity 0 owns entity 1, which owns entity 0; a third has health alone; a fourth has no marker, and isn't saved.
 #![tactic(auto)]
 
-use saveload_tests::kinds::{Health, Owner};
 use serde_json::Value;
 use specs::saveload::{
     DeserializeComponents, EntityData, FormError, JsonForm, MarkerAllocator, PartForms,
@@ -12,22 +11,23 @@ use specs::saveload::{
 use specs::{DenseVecStorage, EntitiesRes, Entity, Error, MaskedStorage, TryDefault, VecStorage};
 use std::alloc::{AllocError, Global};
 use std::io;
+use world_cases::saving::kinds::{Health, Owner};
 
 /// What the markers are for.
-struct Saved;
+struct Net;
 
 /// Owners and healths.
 type Parts = (MaskedStorage<Owner>, MaskedStorage<Health>);
 
-/// What is saved of an entity's parts.
-type Data = (Option<SimpleMarker<Saved>>, Option<i64>);
+/// What is saved of an entity: its marker, and of its parts.
+type Saved = EntityData<SimpleMarker<Net>, (Option<SimpleMarker<Net>>, Option<i64>)>;
 
 /// Entities with their markers and parts.
 #[derive(Drop)]
 struct World {
     entities: EntitiesRes,
-    markers: MaskedStorage<SimpleMarker<Saved>>,
-    allocator: SimpleMarkerAllocator<Saved>,
+    markers: MaskedStorage<SimpleMarker<Net>>,
+    allocator: SimpleMarkerAllocator<Net>,
     parts: Parts,
 }
 
@@ -65,25 +65,23 @@ fn own(world: &mut World, entity: Entity, owner: Entity) -> Result<(), Error> {
     Ok(())
 }
 
-/// The world that is saved.
-fn made(alloc: Global) -> Result<World, Error> {
-    let mut world = empty(alloc);
+/// Fills the world that is saved.
+fn fill(world: &mut World) -> Result<(), Error> {
     let first = world.entities.create()?;
     let second = world.entities.create()?;
     let third = world.entities.create()?;
     let _unmarked = world.entities.create()?;
-    heal(&mut world, first, 7)?;
-    heal(&mut world, second, -5)?;
-    heal(&mut world, third, 3)?;
-    own(&mut world, first, second)?;
-    own(&mut world, second, first)?;
-    Ok(world)
+    heal(world, first, 7)?;
+    heal(world, second, -5)?;
+    heal(world, third, 3)?;
+    own(world, first, second)?;
+    own(world, second, first)
 }
 
 /// The JSON text of a list.
 fn text_of<D: PartForms>(
     alloc: Global,
-    list: &[EntityData<SimpleMarker<Saved>, D>],
+    list: &[EntityData<SimpleMarker<Net>, D>],
 ) -> Result<String, AllocError> {
     let mut values = Vec::new(alloc);
     for entry in list {
@@ -102,24 +100,15 @@ fn saved_text(alloc: Global, world: &World) -> Result<String, Error> {
 }
 
 /// The list of a text.
-fn list_of(
-    alloc: Global,
-    text: &str,
-) -> Result<Vec<EntityData<SimpleMarker<Saved>, Data>>, FormError> {
+fn list_of(alloc: Global, text: &str) -> Result<Vec<Saved>, FormError> {
     let Ok(json) = Value::from_str(alloc, text) else {
         return Err(FormError::whole());
     };
     list_from_value(alloc, &json)
 }
 
-/// An empty world into which a text was loaded, or none where the text is no list of entities.
-fn loaded(alloc: Global, text: &str) -> Result<Option<World>, Error> {
-    let list = match list_of(alloc, text) {
-        Ok(list) => list,
-        Err(FormError::Shape(_)) => return Ok(None),
-        Err(FormError::Memory) => return Err(Error::Memory),
-    };
-    let mut world = empty(alloc);
+/// Loads a list into a world.
+fn load(alloc: Global, list: Vec<Saved>, world: &mut World) -> Result<(), Error> {
     match world.parts.deserialize(
         alloc,
         list,
@@ -127,22 +116,35 @@ fn loaded(alloc: Global, text: &str) -> Result<Option<World>, Error> {
         &mut world.markers,
         &mut world.allocator,
     ) {
-        Ok(()) => Ok(Some(world)),
+        Ok(()) => Ok(()),
         Err(refused) => Err(refused.error),
     }
 }
 
+/// What is saved of an empty world into which a text was loaded: nothing, where the text is no list of entities.
+fn text_again(alloc: Global, text: &str) -> Result<String, Error> {
+    let list = match list_of(alloc, text) {
+        Ok(list) => list,
+        Err(FormError::Shape(_)) => return Ok(String::new(alloc)),
+        Err(FormError::Memory) => return Err(Error::Memory),
+    };
+    let mut world = empty(alloc);
+    load(alloc, list, &mut world)?;
+    saved_text(alloc, &world)
+}
+
+/// The text of the world that is saved.
+fn first_text(alloc: Global) -> Result<String, Error> {
+    let mut world = empty(alloc);
+    fill(&mut world)?;
+    saved_text(alloc, &world)
+}
+
 /// Both lines; the second is empty where the first is no list of entities.
 fn both(alloc: Global) -> Result<(String, String), Error> {
-    let world = made(alloc)?;
-    let first = saved_text(alloc, &world)?;
-    match loaded(alloc, &first)? {
-        Some(again) => {
-            let second = saved_text(alloc, &again)?;
-            Ok((first, second))
-        }
-        None => Ok((first, String::new(alloc))),
-    }
+    let first = first_text(alloc)?;
+    let second = text_again(alloc, &first)?;
+    Ok((first, second))
 }
 
 fn main(rt: HostRuntime) -> io::Result<()> {

@@ -12,7 +12,7 @@ use Rattle.scene_model.proofs.CallerLemmas.{led_to}
 use Rattle.scene_document.specs.Drafts.{Draft}
 use Rattle.scene_document.specs.Openings.{first_scene, frames_of}
 use Rattle.scene.specs.Outcomes.{Bounds, IsRunOf, full_bounds}
-use Rattle.scene_world_tests.specs.Drifting.{drifting_book, moved_part, pos_name, vel_name}
+use Rattle.scene_cases.specs.Drifting.{drifting_book, moved_part, pos_name, vel_name}
 use Rattle.scene_tests.specs.Alone.{drift_at, drift_frame, IsDriftAlone, moved_times, DriftsFor, IsDriftedText}
 
 -- what one turn leaves

@@ -8,7 +8,7 @@ use Rattle.scene_document.specs.Drafts.{Draft}
 use Rattle.scene_document.specs.Texts.{text_of}
 use Rattle.scene_document.specs.Documents.{document_of}
 use Rattle.scene_document.specs.Openings.{first_scene, frames_of}
-use Rattle.scene_world_tests.specs.Drifting.{drift_name, drift_access, drifting_book, moved_part, pos_name, vel_name}
+use Rattle.scene_cases.specs.Drifting.{drift_name, drift_access, drifting_book, moved_part, pos_name, vel_name}
 
 -- drift at a place, and a frame in which it is the only system, without commands
 abbrev pub drift_at : ℕ → PlainSystem

@@ -6,7 +6,7 @@ use Rattle.shred_stages.specs.declared.stop.Stop.{Stop}
 use Rattle.shred_stages.specs.declared.stop.Stop.TheVariants as stop
 use Rattle.scene_model.specs.Parts.{Json, Name}
 use Rattle.scene_model.specs.Rulebook.{Access, Book, Fragment, Outcome, leaves, refuses, fills, unknown}
-use Rattle.scene_world_tests.specs.Drifting.{pos_name, vel_name, drifting_book}
+use Rattle.scene_cases.specs.Drifting.{pos_name, vel_name, drifting_book}
 use Rattle.scene_tests.specs.Watched.{configured}
 use Rattle.scene_tests.specs.declared.whole_runs.gated.Place.{Place}
 use Rattle.scene_tests.specs.declared.whole_runs.gated.Place.TheVariants.{First, Second}

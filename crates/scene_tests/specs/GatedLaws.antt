@@ -6,7 +6,7 @@ use Rattle.serde_json.specs.Find.{as_null}
 use Rattle.scene_model.specs.Parts.{Json, Name, is_among}
 use Rattle.scene_model.specs.Rulebook.{Facts, unknown, known, misshapen}
 use Rattle.scene_model.specs.Laws.{DeclaresKnown}
-use Rattle.scene_world_tests.specs.Drifting.{pos_name, vel_name}
+use Rattle.scene_cases.specs.Drifting.{pos_name, vel_name}
 use Rattle.scene_tests.specs.Watched.{configured}
 use Rattle.scene_tests.specs.Gated.{first_name, second_name, place_access, gated_book}
 use Rattle.scene_tests.specs.declared.whole_runs.gated.Place.{Place}

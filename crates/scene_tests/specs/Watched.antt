@@ -7,7 +7,7 @@ use Rattle.shred_stages.specs.declared.stop.Stop.{Stop}
 use Rattle.shred_stages.specs.declared.stop.Stop.TheVariants as stop
 use Rattle.scene_model.specs.Parts.{Json, Name}
 use Rattle.scene_model.specs.Rulebook.{Access, Book, Fragment, Outcome, leaves, refuses, fills, Described, known, unknown, misshapen}
-use Rattle.scene_world_tests.specs.Drifting.{vel_name, drift_name, drift_access, drifting_book, Drifts}
+use Rattle.scene_cases.specs.Drifting.{vel_name, drift_name, drift_access, drifting_book, Drifts}
 use Rattle.scene_tests.specs.declared.whole_runs.watched.Mover.{Mover}
 use Rattle.scene_tests.specs.declared.whole_runs.watched.Mover.TheVariants.{Drift, Watch, Halt, Found}
 

@@ -6,7 +6,7 @@ use Rattle.serde_json.specs.Find.{as_null}
 use Rattle.scene_model.specs.Parts.{Json, Name, is_among}
 use Rattle.scene_model.specs.Rulebook.{Access, Facts, unknown, known, misshapen}
 use Rattle.scene_model.specs.Laws.{DeclaresKnown}
-use Rattle.scene_world_tests.specs.Drifting.{pos_name, vel_name, drift_name, drift_access}
+use Rattle.scene_cases.specs.Drifting.{pos_name, vel_name, drift_name, drift_access}
 use Rattle.scene_tests.specs.Watched.{watch_name, halt_name, found_name, watch_access, found_access, configured, watched_book}
 
 abbrev KindKnown : Name → Type 0

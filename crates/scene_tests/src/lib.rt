@@ -6,6 +6,8 @@ mod bonds;
 #[cfg(test)]
 mod carrier;
 #[cfg(test)]
+mod commands;
+#[cfg(test)]
 mod counts;
 #[cfg(test)]
 mod devices;
@@ -45,11 +47,17 @@ mod runs;
 #[cfg(test)]
 mod sights;
 #[cfg(test)]
+mod stores;
+#[cfg(test)]
+mod systems;
+#[cfg(test)]
 mod texts;
 #[cfg(test)]
 mod touches;
 #[cfg(test)]
 mod traces;
+#[cfg(test)]
+mod turns;
 pub mod whole_runs;
 
 pub use leavers::{Leave, Leavers};

@@ -12,6 +12,6 @@ pub use Rattle.scene_world.proofs.AgeLemmas.{ages-none, ages-both, ages-by-death
 pub use Rattle.scene_world.proofs.EachLemmas.{each-same, each-none, each-mapped, each-more, each-passed}
 pub use Rattle.scene_world.proofs.OwningLemmas.{same-owning}
 pub use Rattle.scene_world.proofs.KnownLemmas.{none-noted, none-lives, lent-none, lent-some, found-give, known-index}
-pub use Rattle.scene_world.proofs.ColumnLemmas.{first-kind, next-kind, plain-registers, having-each, given-kept, given-next, given-all}
+pub use Rattle.scene_world.proofs.ColumnLemmas.{first-kind, next-kind, plain-registers, given-kept, given-next, given-all}
 pub use Rattle.scene_world.proofs.SeenLemmas.{plain-numbers, plain-references, number-stands, Reaches, reached, same-reached, part-seen, counting-seen, number-seen, no-reference, reference-seen, given-having}
 pub use Rattle.scene_world.proofs.AskLemmas.{stops-asking, stops-longer, all-given, given-same}

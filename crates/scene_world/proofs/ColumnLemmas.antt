@@ -2,7 +2,7 @@
 use Rattle.std.proofs.Common.{◌≡◌, ◌<◌, ◌+◌, ◌++◌, append_assoc, take, drop, take-append-drop, get_or, length, zero, suc, arith, ℕ, Bool, true, false, cond, not, eqb, ◌&&◌, ◌||◌, inl, inr, List, [], ◌∷◌, map, Option, Some, None, Result, Ok, Err, is_some, refl, ap, sym, ◌∙◌, subst, All}
 use Rattle.std.specs.Prelude.{IsSome, OnOk, OnErr, option_map, option_and_then}
 use Rattle.std.specs.Option.{option_flatten, option_map_or, option_to_list}
-use Rattle.std.specs.List.{list_any, list_all, filter, filter_map, cons_option}
+use Rattle.std.specs.List.{list_any, filter, filter_map, cons_option}
 use Rattle.std.specs.FinMap as slots
 use Rattle.std.specs.FinSet as set
 use Rattle.std.specs.Ordering.{nat_cmp}
@@ -25,15 +25,15 @@ use Rattle.specs_layouts.specs.Parts.{Puts, SameParts}
 use Rattle.specs_layouts.specs.Shows.{Shows}
 use Rattle.specs_layouts.specs.declared.track.ComponentEvent.{ComponentEvent}
 use Rattle.specs_layouts.proofs.CallerLemmas.{shows-same, shows-taken}
-use Rattle.scene_model.specs.Parts.{Name, is_among}
+use Rattle.scene_model.specs.Parts.{Name}
 use Rattle.scene_model.specs.Scenes.{lives}
 use Rattle.scene_model.proofs.CallerLemmas.{lives-ascending, in_order-ascends, same-ids, lives-kept}
 use Rattle.scene_world.specs.Stored.{Stored}
 use Rattle.scene_world.specs.Rolls.{Roll, index_of, ids_in}
 use Rattle.scene_world.specs.Known.{known_at, ids_known_at}
 use Rattle.scene_world.specs.Putting.{named_in, Registers}
-use Rattle.scene_world.specs.Columns.{PlainKind, PlainGlobal, of_name, plain_columns, StandsEmpty, AreRegistered, ids_having}
-use Rattle.scene_world.specs.ColumnLaws.{all_differ, are_plain, IsEntry, not-true, any-entry, numbers-turned, HasEntry, has-entry, own-entry, entry_of, read-entry, numbered, apart-ids, PlainSo, plain-so}
+use Rattle.scene_world.specs.Columns.{PlainKind, PlainGlobal, of_name, plain_columns, AreRegistered, ids_having}
+use Rattle.scene_world.specs.ColumnLaws.{all_differ, are_plain, IsEntry, not-true, any-entry, numbers-turned, HasEntry, has-entry, own-entry, read-entry, numbered, apart-ids, PlainSo, plain-so}
 use Rattle.scene_world.proofs.ShownLemmas.{shows-seen}
 use Rattle.scene_world.proofs.RollLemmas.{lives-index, ids-ascend}
 use Rattle.scene_world.proofs.KnownLemmas.{known-index, index-known, lives-found}
@@ -251,23 +251,6 @@ given-kept {X} f test (id ∷ ids) passes = by (test id) refl (f id) refl (given
     by true is o at later = ap (cons_option (f id)) later
     by false is None at later = later ∙ ap (λ o. cons_option o (filter_map f ids)) (sym at)
     by false is (Some x) at later = absurd (false≢true (sym is ∙ passes id (ap is_some at)))
-
--- what holds of each who has a part holds of each for whom a column stores something
-pub having-each : (roll : Roll) (column : ℕ → Option Stored) (test : ℕ → Bool) → list_all test (ids_having roll column) ≡ true → (id : ℕ) → IsSome (option_and_then column (index_of roll id)) → test id ≡ true
-having-each roll column test all id some =
-    among-all (ids_having roll column) all (lives-kept (λ one. is_some (option_and_then column (index_of roll one))) id (ids_in roll) ∙ ap (λ b. b && is_some (option_and_then column (index_of roll id))) (lives-index roll id ∙ there (index_of roll id) some) ∙ some)
-  where
-    there : (o : Option ℕ) → is_some (option_and_then column o) ≡ true → is_some o ≡ true
-    there None e = absurd (false≢true e)
-    there (Some index) e = refl
-
-    among-all : (ids : List ℕ) → list_all test ids ≡ true → lives id ids ≡ true → test id ≡ true
-    among-all [] all lives_it = absurd (false≢true lives_it)
-    among-all (first ∷ ids) all lives_it = let both = and_parts (test first) (list_all test ids) all in by (eqb first id) refl lives_it both.0 (among-all ids both.1)
-      where
-        by : (b : Bool) → eqb first id ≡ b → (b || lives id ids) ≡ true → test first ≡ true → (lives id ids ≡ true → test id ≡ true) → test id ≡ true
-        by true same f passes later = ap test (sym (eqb-true first id same)) ∙ passes
-        by false differ f passes later = later f
 
 -- ---- what is given by one id after the other
 

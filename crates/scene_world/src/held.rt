@@ -1,5 +1,6 @@
 //! Values that a system takes out of what it is lent, and puts back.
-ghost use Rattle.std.specs.Prelude.{◌≡◌, OnOk, OnErr};
+ghost use Rattle.std.specs.Prelude.{◌≡◌, None, OnOk, OnErr};
+ghost use Rattle.shred_world.specs.Bundles.{takable};
 ghost use Rattle.shred_stages.specs.Views.{Leaves};
 ghost use Rattle.scene_world.specs.Held.{Sets, Changes};
 
@@ -22,13 +23,14 @@ pub trait ValueChange<V> {
 
 /// Sets what stands under an id, where a value stands there that may be written.
 ///
-/// Errors: there is none; all is as it was, but for the value, which is dropped.
+/// Errors: there is none, whatever memory there is; all is as it was, but for the value, which is dropped.
 pub fn set_held<V: Drop, W: Holder<V>>(
     view: &mut W,
     id: ResourceId,
     value: V,
 ) -> Result<(), AllocError>
     ensures set { OnOk result (Sets id value (W.slots view.old) (W.slots view.new)) }
+    ensures none { OnErr result (takable (W.slots view.old id) ≡ None) }
     ensures unchanged { OnErr result (W.slots view.new ≡ W.slots view.old) }
     ensures leaves { Leaves (W.slots view.old) (W.slots view.new) }
 {

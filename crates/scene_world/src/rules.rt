@@ -1,6 +1,6 @@
 //! The rules of a scene, whose systems run over a world of entities.
-ghost use Rattle.std.specs.Prelude.{◌≡◌, ◌<◌, ◌++◌, ℕ, true, false, [], length, map, Some, None, IfOk, OnOk, OnErr, IfSome};
-ghost use Rattle.std.specs.Prelude.{IsTrue, option_copied, option_map};
+ghost use Rattle.std.specs.Prelude.{◌≡◌, ◌<◌, ◌++◌, ℕ, true, false, [], length, map, Some, None};
+ghost use Rattle.std.specs.Prelude.{IfOk, IfSome, IsTrue, OnErr, OnOk, option_copied, option_map};
 ghost use Rattle.shred_stages.specs.Views.{Leaves, error_of};
 ghost use Rattle.scene_model.specs.Parts.{living, is_among};
 

@@ -8,6 +8,4 @@ pub mod parts;
 pub mod reaping;
 pub mod setup;
 pub mod steps;
-#[cfg(test)]
-mod tests;
 pub mod values;

@@ -1,26 +1,17 @@
-//! Worlds of entities, as callers use them.
+//! Stories of worlds, simulations, forms, marking, saving and loading, each tried on rows.
 #![tactic(auto)]
 
-pub mod building;
-pub mod histories;
-pub mod lazy;
-pub mod lending;
-pub mod reaping;
-pub mod stories;
-pub mod tiring;
-pub mod values;
-
-use stories::{STORIES, holds};
-
-#[test]
-fn stories_are_as_they_should_be(rt: HostRuntime) {
-    // The last story that isn't as it should be, and whether it was refused.
-    let mut wrong = None;
-    for story in STORIES {
-        match holds(rt.alloc(), story) {
-            Ok(true) => {}
-            outcome => wrong = Some((story, outcome.is_err())),
-        }
-    }
-    assert_eq!(rt; wrong, None);
-}
+#[cfg(test)]
+mod forms;
+#[cfg(test)]
+mod marked;
+#[cfg(test)]
+mod markers;
+#[cfg(test)]
+mod rows;
+#[cfg(test)]
+mod simulated;
+#[cfg(test)]
+mod uuids;
+#[cfg(test)]
+mod worlds;

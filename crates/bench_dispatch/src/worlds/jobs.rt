@@ -9,8 +9,8 @@ use std::alloc::{AllocError, Global};
 use std::io;
 use std::sync::Wait;
 use std::time::{Clock, Instant};
-use world_tests::lazy::tasks::{Health, Task};
-use world_tests::lazy::values::Value;
+use world_cases::lazy::tasks::{Health, Task};
+use world_cases::lazy::values::Value;
 
 /// Makes so many entities, with a job for each that puts its health.
 fn queue(world: &mut World<Value>, count: u32) -> Result<(), Error> {

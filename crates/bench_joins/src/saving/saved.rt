@@ -1,7 +1,6 @@
 //! Entities with three parts each, which are saved and loaded.
 use crate::saving::goals::Goal;
 use hibitset::BitSetLike;
-use saveload_tests::kinds::{Health, Owner};
 use serde_json::Value;
 use specs_entity::{EntitiesRes, Entity, Error};
 use specs_layouts::{DenseVecStorage, MaskedStorage, TryDefault, VecStorage};
@@ -10,6 +9,7 @@ use specs_saveload::{
     DeserializeComponents, EntityData, FormError, JsonForm, SerializeComponents, list_from_value,
 };
 use std::alloc::{AllocError, Global};
+use world_cases::saving::kinds::{Health, Owner};
 
 /// What the markers are for.
 pub struct Saved;

@@ -7,11 +7,11 @@ use crate::whole_runs::rows::{Row, Under};
 use crate::{Leavers, bonds, documents, frames, leaver_rows, whole_runs};
 use scene::{Limits, Rules, Skip};
 use scene_basics::Basics;
+use scene_cases::commands::Owning;
+use scene_cases::turns::Drifting;
 use scene_trace::{
     Act, FrameTrace, Halted, Kinds, Plain, TraceError, Watcher, put_together, trace,
 };
-use scene_world_tests::commands::Owning;
-use scene_world_tests::turns::Drifting;
 use std::alloc::{AllocError, Global};
 use std::sync::Wait;
 use std::test::Fail;

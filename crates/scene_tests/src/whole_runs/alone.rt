@@ -4,12 +4,12 @@ ghost use Rattle.scene_model.specs.declared.refusals.DocRefusal.{DocRefusal};
 ghost use Rattle.scene_document.specs.Drafts.{Draft};
 ghost use Rattle.scene_document.specs.Documents.{document_of};
 ghost use Rattle.scene.specs.Outcomes.{IsRunOf, TellsOnly, full_bounds};
-ghost use Rattle.scene_world_tests.specs.Drifting.{drifting_book};
+ghost use Rattle.scene_cases.specs.Drifting.{drifting_book};
 ghost use Rattle.scene_tests.specs.Alone.{IsDriftAlone, IsDriftedText};
 
 use scene::{Counted, RunError, run};
+use scene_cases::turns::Drifting;
 use scene_model::Report;
-use scene_world_tests::turns::Drifting;
 use std::sync::Wait;
 use std::thread::Threads;
 

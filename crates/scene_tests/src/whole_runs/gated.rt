@@ -6,8 +6,8 @@ ghost use Rattle.serde_json.specs.View.{view};
 ghost use Rattle.scene_model.specs.Laws.{IsMaking};
 ghost use Rattle.scene_model.specs.Rulebook.{misshapen};
 ghost use Rattle.scene_world.specs.Turns.{sense_of};
-ghost use Rattle.scene_world_tests.specs.Drifting.{counting, drifting_columns, drifting-apart};
-ghost use Rattle.scene_world_tests.specs.DriftingLaws.{law-kinds_ascend, law-globals_ascend, law-reads_admitted, law-reads_back, law-no_float};
+ghost use Rattle.scene_cases.specs.Drifting.{counting, drifting_columns, drifting-apart};
+ghost use Rattle.scene_cases.specs.DriftingLaws.{law-kinds_ascend, law-globals_ascend, law-reads_admitted, law-reads_back, law-no_float};
 ghost use Rattle.scene_tests.specs.Watched.{configured};
 ghost use Rattle.scene_tests.specs.Gated.{place_access, place_name, gated_book, Passes, IsAlone, law-passes};
 ghost use Rattle.scene_tests.specs.GatedLaws.{law-gates_known};
@@ -16,7 +16,7 @@ use hibitset_sets::BitSet;
 use scene::{
     DocumentRules, Queue, ReadError, Rules, RunningTime, Stop, Store, SystemAccess, WorldRules,
 };
-use scene_world_tests::turns::{Drifting, Value};
+use scene_cases::turns::{Drifting, Value};
 use serde_json::Value as Json;
 use shred_world::{Holder, ResourceId, World};
 use specs_entity::Entity;

@@ -3,9 +3,9 @@
 use crate::whole_runs::rows::Under;
 use crate::whole_runs::watched::Watched;
 use scene::{Counted, RunError, run};
+use scene_cases::commands::Owning;
+use scene_cases::turns::Drifting;
 use scene_model::{FrameRefusal, Report};
-use scene_world_tests::commands::Owning;
-use scene_world_tests::turns::Drifting;
 use std::alloc::{AllocError, Global};
 use std::sync::Wait;
 use std::thread::Threads;

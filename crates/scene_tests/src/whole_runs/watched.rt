@@ -6,15 +6,15 @@ ghost use Rattle.serde_json.specs.View.{view};
 ghost use Rattle.scene_model.specs.Laws.{IsMaking};
 ghost use Rattle.scene_model.specs.Rulebook.{misshapen};
 ghost use Rattle.scene_world.specs.Turns.{sense_of};
-ghost use Rattle.scene_world_tests.specs.Drifting.{counting, drifting_columns, drifting-apart};
-ghost use Rattle.scene_world_tests.specs.DriftingLaws.{law-kinds_ascend, law-globals_ascend, law-reads_admitted, law-reads_back, law-no_float};
+ghost use Rattle.scene_cases.specs.Drifting.{counting, drifting_columns, drifting-apart};
+ghost use Rattle.scene_cases.specs.DriftingLaws.{law-kinds_ascend, law-globals_ascend, law-reads_admitted, law-reads_back, law-no_float};
 ghost use Rattle.scene_tests.specs.Watched.{configured, mover_access, mover_does, mover_name, watched_book, law-does, IsHalt};
 ghost use Rattle.scene_tests.specs.WatchedLaws.{law-declares_known};
 
 use hibitset_sets::BitSet;
+use scene_cases::turns::{Drift, Drifting, Value};
 use scene_model::{DocumentRules, Queue, ReadError, RunningTime, SystemAccess};
 use scene_world::{Rules, Store, WorldRules};
-use scene_world_tests::turns::{Drift, Drifting, Value};
 use serde_json::Value as Json;
 use shred_stages::Stop;
 use shred_world::{Holder, ResourceId, World};

@@ -32,6 +32,23 @@ const BODY: &str = "</h1>
 <div class=\"scroll\">
 ";
 
+/// Puts the page of a title, the picture of a plan, and the record of a run.
+fn put_page(out: &mut Vec<u8>, title: &str, svg: &[u8], run: &[u8]) -> Result<(), AllocError> {
+    put(out, HEAD)?;
+    put_html(out, title)?;
+    put(out, "</title>\n<style>\n")?;
+    put(out, STYLE)?;
+    put(out, "</style>\n<h1>")?;
+    put_html(out, title)?;
+    put(out, BODY)?;
+    out.extend_from_slice(svg)?;
+    put(out, "</div>\n<script type=\"application/json\" id=\"run\">")?;
+    out.extend_from_slice(run)?;
+    put(out, "</script>\n<script>\n")?;
+    put(out, SCRIPT)?;
+    put(out, "</script>\n</html>\n")
+}
+
 /// The page of a run: its title, its plan, what was recorded of it, and how many frames were asked for. It is one file of HTML, and
 /// needs nothing beside it.
 ///
@@ -46,21 +63,6 @@ pub fn run_page(
     let svg = plan_svg(alloc, plan)?;
     let run = record.into_json(asked)?;
     let mut out = Vec::new(alloc);
-    put(&mut out, HEAD)?;
-    put_html(&mut out, title)?;
-    put(&mut out, "</title>\n<style>\n")?;
-    put(&mut out, STYLE)?;
-    put(&mut out, "</style>\n<h1>")?;
-    put_html(&mut out, title)?;
-    put(&mut out, BODY)?;
-    out.extend_from_slice(svg.as_slice())?;
-    put(
-        &mut out,
-        "</div>\n<script type=\"application/json\" id=\"run\">",
-    )?;
-    out.extend_from_slice(run.as_bytes())?;
-    put(&mut out, "</script>\n<script>\n")?;
-    put(&mut out, SCRIPT)?;
-    put(&mut out, "</script>\n</html>\n")?;
+    put_page(&mut out, title, svg.as_slice(), run.as_bytes())?;
     Ok(out)
 }

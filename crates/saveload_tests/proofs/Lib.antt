@@ -1,3 +1,0 @@
-pub mod LoadLemmas
-pub mod RoundLemmas
-pub mod ValueLemmas

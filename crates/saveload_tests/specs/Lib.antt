@@ -1,2 +1,0 @@
-pub mod OwnerLemmas
-pub mod Values

@@ -1,0 +1,23 @@
+use Rattle.std.proofs.Common.{◌∙◌, ap, sym, subst}
+use Rattle.std.specs.FinMap as slots
+use Rattle.std.specs.Result.{OnOk}
+use Rattle.std.specs.Prelude.{Some}
+use Rattle.scene_world.specs.Stores.{store_part}
+use Rattle.scene_world.specs.Putting.{Registers}
+use Rattle.scene_cases.specs.Drifts.{velocity_id}
+use Rattle.scene_cases.specs.Drifting.{drifting_columns}
+use Rattle.scene_cases.specs.declared.turns.values.Value.TheVariants.{VelocityValue}
+use Rattle.scene_cases.proofs.DriftColumnLemmas.{registers-both}
+use Rattle.scene_cases.proofs.turns.columns.register_both.Goals.{in-Ok-insert, in-Err}
+use Rattle.scene_cases.proofs.turns.columns.register_both.Goals as goal
+
+pub returns : goal.returns
+returns c = elim c.match-insert-2.branch [
+  | in-Ok-insert w ↦ subst (λ r. OnOk r (Registers drifting_columns c.args.world.now c.insert-2.new.self)) (sym w.result-is)
+      (subst (Registers drifting_columns c.args.world.now)
+      (sym (w.in-Ok-insert.ensures.ok ∙ ap (λ m. slots.insert m velocity_id (Some (VelocityValue c.new-velocities.result))) c.in-Ok.ensures.ok))
+      (registers-both c.args.world.now c.new-positions.result c.new-velocities.result
+      (λ index. ap (λ s. store_part s.inner index) c.new-positions.ensures ∙ c.scene_storage.ensures.none index)
+      (λ index. ap (λ s. store_part s.inner index) c.new-velocities.ensures ∙ c.scene_storage-2.ensures.none index)))
+  | in-Err w ↦ subst (λ r. OnOk r (Registers drifting_columns c.args.world.now c.insert-2.new.self)) (sym w.result-is) tt
+]

@@ -1,0 +1,5 @@
+//! Rows of commands, loadings and readings over the rules `Owning`.
+
+mod loadings;
+mod readings;
+mod rows;

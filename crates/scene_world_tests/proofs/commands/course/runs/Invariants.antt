@@ -1,6 +1,0 @@
-use Rattle.scene_commands.specs.Acts.{MayAct}
-use Rattle.scene_world_tests.specs.Owning.{owning_kinds}
-use Rattle.scene_world_tests.proofs.commands.course.runs.Given as goal
-
-abbrev pub invariant-loop-step : goal.invariant-loop-step
-invariant-loop-step l = MayAct owning_kinds l.world

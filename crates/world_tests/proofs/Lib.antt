@@ -1,4 +1,0 @@
-pub mod ValueLemmas
-pub mod HistoryLemmas
-pub mod GivingLemmas
-pub mod LazyValueLemmas

@@ -1,6 +1,0 @@
-use Rattle.specs_world.specs.Stocked.{ListsOn}
-use Rattle.world_tests.specs.LazyValues.{healths_kind}
-use Rattle.world_tests.proofs.lazy.building.list_of.Given as goal
-
-abbrev pub invariant-loop-health : goal.invariant-loop-health
-invariant-loop-health l = record { all : ListsOn healths_kind.part_at l.healths.inner l.list.items l.health-iterator }

@@ -1,7 +1,0 @@
-use Rattle.specs_layouts.specs.Drops.{ids_of}
-use Rattle.world_tests.proofs.LazyValueLemmas.{drops-health}
-use Rattle.world_tests.proofs.lazy.values.ValueAnyStorage.drop.Goals as goal
-
-pub returns-in-HealthValue-clause-ok : goal.returns-in-HealthValue-clause-ok
-returns-in-HealthValue-clause-ok c =
-    drops-health _ (ids_of c.args.entities.now) c.args.self.now c.drop.result c.in-HealthValue.storage c.drop.new.self c.in-HealthValue.is c.drop.ensures.ok

@@ -1,5 +1,0 @@
-pub mod Tiring
-pub mod Values
-pub mod Tasks
-pub mod LazyValues
-pub mod AskerMeets
