@@ -1,57 +1,54 @@
--- What a system of a duel sees of the fragment that it is lent.
-use Rattle.std.proofs.Common.{◌≡◌, ℕ, Some, None, refl}
+-- What a system sees of the fragment that it is lent, as tools/values writes it from values.list.
+use Rattle.std.proofs.Common.{◌≡◌, true, ℕ, Some, None, refl}
 use Rattle.std.specs.Prelude.{option_and_then}
-use Rattle.serde_json.specs.Data.{null}
 use Rattle.shred_world.specs.Bundles.{Holding, readable}
 use Rattle.shred_world.specs.ResourceIds.{id_of}
 use Rattle.specs_entity.specs.Life.{LifeAt}
-use Rattle.scene_model.specs.Rulebook.{Fragment}
+use Rattle.scene_model.specs.Rulebook.{Fragment, declares}
 use Rattle.scene_world.specs.Numbers.{number_of, reference_of, AreNumbers, AreReferences}
 use Rattle.scene_world.specs.Rolls.{index_of}
 use Rattle.scene_world.specs.Standing.{column_of, fragment_of, seen_in}
-use Rattle.scene_world.specs.Turns.{Meaning, meaning_of, sense_of, IsLentFit}
+use Rattle.scene_world.specs.Turns.{IsLentFit}
 use Rattle.scene_world.proofs.CallerLemmas.{plain-numbers, plain-references, number-seen, no-reference, reference-seen, Reaches}
 use Rattle.duel.specs.declared.data.Attack.{Attack}
 use Rattle.duel.specs.declared.data.Hp.{Hp}
 use Rattle.duel.specs.declared.data.Target.{Target}
-use Rattle.duel.specs.declared.data.DuelSystem.{DuelSystem}
-use Rattle.duel.specs.declared.data.DuelSystem.TheVariants.{Strike, Bury}
+use Rattle.duel.specs.declared.documents.DuelSystem.{DuelSystem}
 use Rattle.duel.specs.declared.values.Value.{Value}
-use Rattle.duel.specs.Rules.{attack_kind, hp_kind, target_kind, kind_of, access_of, Makes, duel}
+use Rattle.duel.specs.Names.{attack_kind, hp_kind, target_kind}
+use Rattle.duel.specs.Documents.{access_of, meant}
 use Rattle.duel.specs.Values.{attack_in, hp_in, target_in, kinds}
-use Rattle.duel.specs.Sights.{duel_roll, hp_at, attack_at, target_at}
+use Rattle.duel.specs.Sights.{roll_seen, attack_at, hp_at, target_at}
 
--- what is meant of the systems, and what one sees of what is held
-abbrev pub meant : Meaning DuelSystem
-meant = meaning_of 0 kind_of (λ _. null) access_of (λ _. sense_of duel) (λ system. Makes (Some system))
-
+-- what a system sees of what is held
 abbrev pub seen_by : DuelSystem → Holding Value → Fragment
 seen_by system w = fragment_of kinds (access_of system) w
 
-module _ (w : Holding Value) where
-  -- hps are numbers, attacks too, and targets are references
-  pub hp-numbers : AreNumbers (column_of kinds (seen_in w) hp_kind)
-  hp-numbers = plain-numbers hp_in (λ (hp : Hp). hp.0) (readable (w (id_of 5 0)))
+-- the parts of a kind are numbers, and so is what is seen of an id under it
+pub attack-numbers : (w : Holding Value) → AreNumbers (column_of kinds (seen_in w) attack_kind)
+attack-numbers w = plain-numbers attack_in (λ (part : Attack). part.0) (readable (w (id_of 4 0)))
 
-  attack-numbers : AreNumbers (column_of kinds (seen_in w) attack_kind)
-  attack-numbers = plain-numbers attack_in (λ (attack : Attack). attack.0) (readable (w (id_of 4 0)))
+pub attack-seen : (w : Holding Value) (system : DuelSystem) → declares (access_of system) attack_kind ≡ true → (id : ℕ)
+    → number_of (seen_by system w) attack_kind id ≡ option_and_then (attack_at w) (index_of (roll_seen w) id)
+attack-seen w system declared = number-seen kinds (access_of system) w attack_kind refl declared (attack-numbers w)
 
-  target-references : AreReferences (column_of kinds (seen_in w) target_kind)
-  target-references = plain-references target_in (λ (target : Target). target.0) (readable (w (id_of 6 0)))
+-- the parts of a kind are numbers, and so is what is seen of an id under it
+pub hp-numbers : (w : Holding Value) → AreNumbers (column_of kinds (seen_in w) hp_kind)
+hp-numbers w = plain-numbers hp_in (λ (part : Hp). part.0) (readable (w (id_of 5 0)))
 
-  -- the hp of an id that is seen, the attack, and the target
-  pub hp-seen : (system : DuelSystem) (id : ℕ) → number_of (seen_by system w) hp_kind id ≡ option_and_then (hp_at w) (index_of (duel_roll w) id)
-  hp-seen Strike = number-seen kinds (access_of Strike) w hp_kind refl refl hp-numbers
-  hp-seen Bury = number-seen kinds (access_of Bury) w hp_kind refl refl hp-numbers
+pub hp-seen : (w : Holding Value) (system : DuelSystem) → declares (access_of system) hp_kind ≡ true → (id : ℕ)
+    → number_of (seen_by system w) hp_kind id ≡ option_and_then (hp_at w) (index_of (roll_seen w) id)
+hp-seen w system declared = number-seen kinds (access_of system) w hp_kind refl declared (hp-numbers w)
 
-  pub attack-seen : (id : ℕ) → number_of (seen_by Strike w) attack_kind id ≡ option_and_then (attack_at w) (index_of (duel_roll w) id)
-  attack-seen = number-seen kinds (access_of Strike) w attack_kind refl refl attack-numbers
+-- the parts of a kind are references, and so is what is seen of an id under it
+pub target-references : (w : Holding Value) → AreReferences (column_of kinds (seen_in w) target_kind)
+target-references w = plain-references target_in (λ (part : Target). part.0) (readable (w (id_of 6 0)))
 
-  pub no-target : (system : DuelSystem) (id : ℕ) → option_and_then (target_at w) (index_of (duel_roll w) id) ≡ None → reference_of (seen_by system w) target_kind id ≡ None
-  no-target Strike = no-reference kinds (access_of Strike) w target_kind refl refl target-references
-  no-target Bury = no-reference kinds (access_of Bury) w target_kind refl refl target-references
+pub no-target : (w : Holding Value) (system : DuelSystem) → declares (access_of system) target_kind ≡ true → (id : ℕ)
+    → option_and_then (target_at w) (index_of (roll_seen w) id) ≡ None → reference_of (seen_by system w) target_kind id ≡ None
+no-target w system declared = no-reference kinds (access_of system) w target_kind refl declared (target-references w)
 
-  pub target-seen : (system : DuelSystem) → IsLentFit kinds meant system w → (id index : ℕ) (entity : LifeAt) → index_of (duel_roll w) id ≡ Some index → target_at w index ≡ Some entity
-      → (to : Reaches (duel_roll w) entity) × (reference_of (seen_by system w) target_kind id ≡ Some to.id)
-  target-seen Strike lent = reference-seen kinds (access_of Strike) w target_kind refl refl target-references lent.roll lent.fit.living
-  target-seen Bury lent = reference-seen kinds (access_of Bury) w target_kind refl refl target-references lent.roll lent.fit.living
+pub target-seen : (w : Holding Value) (system : DuelSystem) → declares (access_of system) target_kind ≡ true → IsLentFit kinds meant system w → (id index : ℕ) (entity : LifeAt)
+    → index_of (roll_seen w) id ≡ Some index → target_at w index ≡ Some entity
+    → (to : Reaches (roll_seen w) entity) × (reference_of (seen_by system w) target_kind id ≡ Some to.id)
+target-seen w system declared lent = reference-seen kinds (access_of system) w target_kind refl declared (target-references w) lent.roll lent.fit.living

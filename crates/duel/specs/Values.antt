@@ -29,7 +29,7 @@ use Rattle.duel.specs.declared.values.Value.TheVariants.{AttackValue}
 use Rattle.duel.specs.declared.values.Value.TheVariants.{HpValue}
 use Rattle.duel.specs.declared.values.Value.TheVariants.{TargetValue}
 use Rattle.duel.specs.declared.values.Value.TheVariants.{TurnValue}
-use Rattle.duel.specs.Rules.{part_of}
+use Rattle.duel.specs.Names.{part_of}
 
 -- what is read of a value as one of each kind
 abbrev pub entities_in : Value → Option Births

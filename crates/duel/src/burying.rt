@@ -2,7 +2,7 @@
 ghost use Rattle.std.specs.Prelude.{◌≡◌, [], MatchResult, option_map};
 ghost use Rattle.scene_model.specs.Queues.{waiting, plain_command, plain_commands};
 ghost use Rattle.scene_world.specs.Asking.{StopsAsking};
-ghost use Rattle.duel.specs.Rules.{part_of};
+ghost use Rattle.duel.specs.Names.{part_of};
 ghost use Rattle.duel.specs.Burying.{down_at, asked_seen, all_asked};
 
 use crate::data::{Ask, Datum, Hp, Target};

@@ -6,7 +6,7 @@ use crate::data::{Attack, Datum, Hp, Target};
 use crate::rules::Duel;
 use crate::values::Value;
 use hibitset_sets::BitSet;
-use scene_world::{Store, WorldRules, columns};
+use scene_world::{CountingRules, Store, WorldRules, columns};
 use shred_world::{ResourceId, World};
 use specs_entity::Entity;
 use specs_layouts::{MaskedStorage, ReaderId};
@@ -190,5 +190,15 @@ impl WorldRules for Duel {
             Value::TurnValue(global) => Some(global),
             _ => None,
         }
+    }
+}
+
+impl CountingRules for Duel {
+    fn number_of(global: &u64) -> Option<u64> {
+        Some(*global)
+    }
+
+    fn counted(number: u64) -> u64 {
+        number
     }
 }

@@ -1,4 +1,4 @@
-//! The parts of a duel, in documents and in a world, and its systems.
+//! The parts of a duel, in documents and in a world.
 use specs_entity::Entity;
 
 /// How much an entity takes from its target in a turn.
@@ -20,15 +20,6 @@ pub enum Datum {
     Number(u64),
     /// The id that a `target` refers to.
     Target(u64),
-}
-
-/// A system of a duel. Its configuration is always null.
-#[derive(Clone, Copy, Debug, PartialEq, Eq)]
-pub enum DuelSystem {
-    /// `strike`: each with a target and an attack takes it from the target's hp, and a turn more is counted.
-    Strike,
-    /// `bury`: each whose hp is 0 dies, and who else had it as target has none any more.
-    Bury,
 }
 
 /// What `bury` asks for.

@@ -1,16 +1,16 @@
 //! A duel: rules of one's own, whose entities strike at each other until they are buried.
 //!
-//! `data` has the parts and systems, `rules` what the rules say of documents; `values` and `columns` what a world holds
-//! and where, as tools/values writes them from values.list; `world`, `striking` and `burying` what the systems do there.
+//! `data` has the parts; `documents`, `values` and `columns` what the rules say of documents, what a world holds and where,
+//! as tools/values writes them from values.list; `rules`, `striking` and `burying` what the systems do there.
 #![tactic(auto)]
 
 mod burying;
 mod columns;
 mod data;
+mod documents;
 mod rules;
 mod striking;
 mod values;
-mod world;
 
 use rules::Duel;
 use scene::{Counted, run};

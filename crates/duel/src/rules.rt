@@ -1,161 +1,37 @@
-//! What the rules of a duel say of documents.
-ghost use Rattle.std.specs.Prelude.{◌≡◌, refl};
-ghost use Rattle.std.proofs.Common.{rules};
-ghost use Rattle.serde_json.specs.Data.{null};
-ghost use Rattle.scene_world.specs.Numbers.{counted};
-ghost use Rattle.duel.specs.Rules.{duel, part_of, kind_of, access_of, system_named};
+//! The rules of a duel, and what their systems do in a world.
+ghost use Rattle.scene_world.specs.Turns.{sense_of};
+ghost use Rattle.duel.specs.Documents.{does, law-of_book, meaning};
 
-use crate::data::{Datum, DuelSystem};
-use scene_model::{DocumentRules, ReadError, SystemAccess};
-use serde_json::Value;
-use shred_plan::RunningTime;
-use std::alloc::{AllocError, Global};
+use crate::burying::bury;
+use crate::data::Datum;
+use crate::documents::DuelSystem;
+use crate::striking::strike;
+use crate::values::Value;
+use scene_model::Queue;
+use scene_world::Rules;
+use shred_stages::Stop;
+use shred_world::Holder;
 
 /// The rules of a duel: the parts `attack`, `hp` and `target`, the global `turn`, and the systems `strike` and `bury`.
 #[derive(Clone, Copy, Debug)]
 pub struct Duel;
 
-/// The system of a kind, if it is one of a duel.
-fn system_of(kind: &str) -> Option<DuelSystem>
-    ensures { result ≡ system_named kind.now }
-{
-    match kind {
-        "strike" => Some(DuelSystem::Strike),
-        "bury" => Some(DuelSystem::Bury),
-        _ => None,
-    }
-}
+impl Rules for Duel {
+    ghost sense = { λ _. sense_of meaning };
 
-impl DocumentRules for Duel {
-    ghost use Rattle.duel.specs.RuleLaws.{law-kinds_ascend, law-globals_ascend, law-reads_admitted, law-reads_back};
-    ghost use Rattle.duel.specs.RuleLaws.{law-global_reads_back, law-no_float, law-declares_known};
+    ghost does = { does };
 
-    type Data = Datum;
+    ghost of_book = { λ rules system made. law-of_book system };
 
-    type Global = u64;
-
-    type System = DuelSystem;
-
-    ghost book = { λ _. duel };
-
-    ghost part_of = { part_of };
-
-    ghost global_of = { counted };
-
-    ghost kind_of = { kind_of };
-
-    ghost config_of = { λ _. null };
-
-    ghost declared = { access_of };
-
-    ghost said_time = { λ _. 3 };
-
-    ghost made_by = { λ _ _. Unit {0} };
-
-    fn part_names(&self) -> &[&'static str] {
-        &["attack", "hp", "target"]
-    }
-
-    fn global_names(&self) -> &[&'static str] {
-        &["turn"]
-    }
-
-    fn read_data(&self, _alloc: Global, kind: &str, value: &Value) -> Result<Datum, ReadError> {
-        let Some(number) = value.as_u64() else {
-            return Err(ReadError::Shape);
-        };
-        if kind == "target" {
-            Ok(Datum::Target(number))
-        } else {
-            Ok(Datum::Number(number))
-        }
-    }
-
-    fn write_data(&self, _alloc: Global, datum: &Datum) -> Result<Value, AllocError> {
-        match *datum {
-            Datum::Number(number) => Ok(Value::from(number)),
-            Datum::Target(id) => Ok(Value::from(id)),
-        }
-    }
-
-    fn admits(&self, kind: &str, datum: &Datum) -> bool {
-        match *datum {
-            Datum::Number(_) => kind != "target",
-            Datum::Target(_) => kind == "target",
-        }
-    }
-
-    fn refs(&self, alloc: Global, datum: &Datum) -> Result<Vec<u64>, AllocError> {
-        match *datum {
-            Datum::Number(_) => Ok(Vec::new(alloc)),
-            Datum::Target(id) => Ok(vec![in alloc; id]?),
-        }
-    }
-
-    fn read_global(&self, _alloc: Global, _name: &str, value: &Value) -> Result<u64, ReadError> {
-        value.as_u64().ok_or(ReadError::Shape)
-    }
-
-    fn write_global(&self, _alloc: Global, global: &u64) -> Result<Value, AllocError> {
-        Ok(Value::from(*global))
-    }
-
-    fn make_system(
-        &self,
-        _alloc: Global,
-        kind: &str,
-        config: &Value,
-    ) -> Result<Option<DuelSystem>, ReadError> {
-        let Some(system) = system_of(kind) else {
-            return Ok(None);
-        };
-        if config.is_null() {
-            Ok(Some(system))
-        } else {
-            Err(ReadError::Shape)
-        }
-    }
-
-    fn accessor(system: &DuelSystem, alloc: Global) -> Result<SystemAccess, AllocError> {
+    fn run<H: AllocGlobal, W: Holder<Value>>(
+        rt: &H,
+        system: &mut DuelSystem,
+        view: &mut W,
+        queue: &mut Queue<Datum>,
+    ) -> Result<(), Stop> {
         match *system {
-            DuelSystem::Strike => Ok(SystemAccess {
-                reads: vec![in alloc; "attack", "target"]?,
-                writes: vec![in alloc; "hp"]?,
-                read_globals: Vec::new(alloc),
-                written_globals: vec![in alloc; "turn"]?,
-                writes_reserved: false,
-            }),
-            DuelSystem::Bury => Ok(SystemAccess {
-                reads: vec![in alloc; "hp", "target"]?,
-                writes: Vec::new(alloc),
-                read_globals: Vec::new(alloc),
-                written_globals: Vec::new(alloc),
-                writes_reserved: false,
-            }),
+            DuelSystem::Strike => strike(rt, view),
+            DuelSystem::Bury => bury(rt, view, queue),
         }
     }
-
-    fn running_time(_system: &DuelSystem) -> RunningTime {
-        RunningTime::Average
-    }
-
-    ghost kinds_ascend = { λ _. law-kinds_ascend };
-
-    ghost globals_ascend = { λ _. law-globals_ascend };
-
-    ghost clones = { Prim.search rules };
-
-    ghost global_clones = { Prim.search rules };
-
-    ghost reads_admitted = { λ _. law-reads_admitted };
-
-    ghost reads_back = { λ _. law-reads_back };
-
-    ghost global_reads_back = { λ _. law-global_reads_back };
-
-    ghost no_float = { law-no_float };
-
-    ghost no_global_float = { λ _. refl };
-
-    ghost declares_known = { λ _. law-declares_known };
 }

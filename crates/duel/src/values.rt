@@ -3,7 +3,7 @@ ghost use Rattle.std.specs.Prelude.{◌≡◌, refl};
 ghost use Rattle.std.proofs.Common.{rules};
 ghost use Rattle.scene_world.specs.Numbers.{number_stored};
 ghost use Rattle.scene_world.specs.Numbers.{reference_stored};
-ghost use Rattle.duel.specs.Rules.{part_of};
+ghost use Rattle.duel.specs.Names.{part_of};
 ghost use Rattle.duel.specs.Values.{entities_in};
 ghost use Rattle.duel.specs.Values.{markers_in};
 ghost use Rattle.duel.specs.Values.{allocator_in};
@@ -80,6 +80,10 @@ impl NumberPart for Attack {
     fn number(&self) -> u64 {
         self.0
     }
+
+    fn datum(number: u64) -> Datum {
+        Datum::Number(number)
+    }
 }
 
 impl PlainPart for Hp {
@@ -119,6 +123,10 @@ impl PlainPart for Hp {
 impl NumberPart for Hp {
     fn number(&self) -> u64 {
         self.0
+    }
+
+    fn datum(number: u64) -> Datum {
+        Datum::Number(number)
     }
 }
 

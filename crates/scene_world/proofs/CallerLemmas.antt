@@ -14,4 +14,6 @@ pub use Rattle.scene_world.proofs.OwningLemmas.{same-owning}
 pub use Rattle.scene_world.proofs.KnownLemmas.{none-noted, none-lives, lent-none, lent-some, found-give, known-index}
 pub use Rattle.scene_world.proofs.ColumnLemmas.{first-kind, next-kind, plain-registers, given-kept, given-next, given-all}
 pub use Rattle.scene_world.proofs.SeenLemmas.{plain-numbers, plain-references, number-stands, Reaches, reached, same-reached, part-seen, counting-seen, number-seen, no-reference, reference-seen, given-having}
-pub use Rattle.scene_world.proofs.AskLemmas.{stops-asking, stops-longer, all-given, given-same}
+pub use Rattle.scene_world.proofs.AskLemmas.{stops-asking, stops-longer, all-given, given-same, asking-ends}
+pub use Rattle.scene_world.proofs.AmountLemmas.{TakesAlike, same-taken}
+pub use Rattle.scene_world.proofs.CountLemmas.{plain-counts, count-seen, TurnLeaves, turn-leaves}

@@ -20,3 +20,5 @@ pub mod ColumnLemmas
 pub mod SeenLemmas
 pub mod AskLemmas
 pub mod HeldLemmas
+pub mod AmountLemmas
+pub mod CountLemmas

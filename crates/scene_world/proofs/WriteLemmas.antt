@@ -126,7 +126,7 @@ module _ {V : Type 0} (kinds : Kinds V) (apart : StandApart kinds) (kind : Name)
 
 module _ {V : Type 0} (kinds : Kinds V) (apart : StandApart kinds) (name : Name) (known : is_among name kinds.global_names ≡ true) (v : V) (seen left : Holding V) (writes : WritesGlobal kinds name v seen left) where
   -- elsewhere than at the global the same is seen
-  set-elsewhere : (place : Place) → is_known kinds place ≡ true → same_place place (value name) ≡ false → seen_in left (id_of_place kinds place) ≡ seen_in seen (id_of_place kinds place)
+  pub set-elsewhere : (place : Place) → is_known kinds place ≡ true → same_place place (value name) ≡ false → seen_in left (id_of_place kinds place) ≡ seen_in seen (id_of_place kinds place)
   set-elsewhere place is other = ap readable (writes.others (id_of_place kinds place) (apart place (value name) is known ∙ other))
 
   -- so who lives stays, the columns and the other globals

@@ -25,6 +25,8 @@ pub mod Known
 pub mod Columns
 pub mod Numbers
 pub mod Held
+pub mod Counting
 pub mod Asking
 pub mod ColumnLaws
 pub mod RuleLemmas
+pub mod PlainRules

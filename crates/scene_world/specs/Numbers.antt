@@ -1,5 +1,5 @@
 -- Parts that are a number, or a reference to an entity: what is written, read and stored for them.
-use Rattle.std.specs.Prelude.{◌≡◌, ◌==◌, ℕ, Bool, true, false, List, [], ◌∷◌, Option, Some, None, option_and_then, if◌then◌else◌}
+use Rattle.std.specs.Prelude.{◌≡◌, ◌+◌, ◌==◌, ℕ, Bool, true, false, List, [], ◌∷◌, Option, Some, None, option_and_then, if◌then◌else◌}
 use Rattle.std.specs.List.{slice_index_or}
 use Rattle.serde_json.specs.Data.{unsigned, number}
 use Rattle.serde_json.specs.Find.{as_number, as_u64}
@@ -78,3 +78,8 @@ AreNumbers column = (index : ℕ) (stored : Stored) → column index ≡ Some st
 
 abbrev pub AreReferences : (ℕ → Option Stored) → Type 0
 AreReferences column = (index : ℕ) (stored : Stored) → column index ≡ Some stored → (entity : LifeAt) × (reference_stored entity ≡ stored)
+
+-- how much amounts take in all where they are taken, each at an index or from an id
+abbrev pub taken_at : ℕ → List (ℕ × ℕ) → ℕ
+taken_at at [] = 0
+taken_at at (amount ∷ amounts) = (if at == amount.0 then amount.1 else 0) + taken_at at amounts

@@ -10,11 +10,13 @@ ghost use Rattle.scene_world.specs.Telling.{GainsReader, CatchesUp, TakesTold, T
 ghost use Rattle.scene_world.specs.Putting.{named_in, part_read, PutsIn, TakesOut, SameColumn, AreReadAt};
 ghost use Rattle.scene_world.specs.Columns.{column_in, events_in, emits_in, StandsEmpty};
 
+mod amounts;
 mod numbers;
 mod seen;
 mod stored;
 
 use crate::Store;
+pub use amounts::{Amounts, amounts_with, take_amounts};
 use hibitset_sets::BitSet;
 pub use numbers::{NumberPart, ReferencePart, entity_at, number_at, number_in};
 pub use seen::ids_with;

@@ -251,7 +251,7 @@ const CALLS: [Piece; 20] = [
 ];
 
 /// The calls at a global, and the end of the file.
-const GLOBALS: [Piece; 7] = [
+const GLOBALS: [Piece; 8] = [
     Piece::Once(
         "    }
 
@@ -296,6 +296,20 @@ const GLOBALS: [Piece; 7] = [
     ),
     Piece::Once(
         "    }
+}
+",
+    ),
+    Piece::GlobalsLast(
+        "",
+        "
+impl CountingRules for @rules@ {
+    fn number_of(global: &u64) -> Option<u64> {
+        Some(*global)
+    }
+
+    fn counted(number: u64) -> u64 {
+        number
+    }
 }
 ",
     ),

@@ -3,7 +3,7 @@ ghost use Rattle.std.specs.Prelude.{◌≡◌, ◌++◌, OnOk, codes};
 ghost use Rattle.value_writer.specs.Variants.{over_text, item_text, type_text};
 
 use crate::bytes::{put, put_camel, put_path, put_plural, put_snake};
-use crate::kind::{Form, Holds, Kind};
+use crate::kind::{Form, Holds, Kind, System};
 use crate::list::{List, Source};
 use itoa::Buffer;
 use std::alloc::AllocError;
@@ -49,6 +49,49 @@ const EACH: [(&str, &str); 19] = [
     ),
     ("each hole", " _"),
     ("none types", "((s : @plural@) → drops_@snake@ s [] s) → "),
+];
+
+/// Of which something is put one behind the other.
+#[derive(Clone, Copy)]
+enum Which {
+    Columns,
+    References,
+    Globals,
+    Systems,
+}
+
+/// What is put one behind the other where a word stands: of which, by which template, and what stands between two.
+const JOINED: [(&str, Which, &str, &str); 13] = [
+    ("column names", Which::Columns, "\"@snake@\"", ", "),
+    ("global names", Which::Globals, "\"@snake@\"", ", "),
+    ("kinds", Which::Columns, "@snake@_kind", ", "),
+    ("columns in", Which::Columns, "@snake@_in", ", "),
+    ("columns at", Which::Columns, "@snake@_at", ", "),
+    ("kinds listed", Which::Columns, "@snake@_kind ∷ ", ""),
+    ("names", Which::Globals, "@snake@_name, ", ""),
+    ("names listed", Which::Globals, "@snake@_name ∷ ", ""),
+    (
+        "references",
+        Which::References,
+        "bytes_eq kind @snake@_kind || ",
+        "",
+    ),
+    ("systems", Which::Systems, "@name@", ", "),
+    ("systems listed", Which::Systems, "@name@ ∷ ", ""),
+    ("system kinds", Which::Systems, "@snake@_kind", ", "),
+    ("does", Which::Systems, "Does@name@", ", "),
+];
+
+/// What a word stands for at a system: what it says of itself, whether of globals, and whether in code.
+const ACCESS: [(&str, &str, bool, bool); 8] = [
+    ("reads", "reads", false, true),
+    ("writes", "writes", false, true),
+    ("read globals", "reads", true, true),
+    ("written globals", "writes", true, true),
+    ("kinds read", "reads", false, false),
+    ("kinds written", "writes", false, false),
+    ("names read", "reads", true, false),
+    ("names written", "writes", true, false),
 ];
 
 /// Where the logic's words are: the word of a template, their module in the crates below `specs`, and in `specs`.
@@ -233,6 +276,147 @@ fn put_each(out: &mut Vec<u8>, list: &List, template: &str) -> Result<(), AllocE
         }
     }
     Ok(())
+}
+
+/// Puts a template for each of the kinds that are so, with something between two.
+fn put_joined_kinds(
+    out: &mut Vec<u8>,
+    list: &List,
+    which: Which,
+    template: &str,
+    between: &str,
+) -> Result<(), AllocError> {
+    let mut is_first = true;
+    for kind in &list.kinds {
+        let is_so = match which {
+            Which::Columns => kind.form.is_column(),
+            Which::References => kind.form.is_reference(),
+            Which::Globals => kind.form.is_global(),
+            Which::Systems => false,
+        };
+        if is_so {
+            put(out, if is_first { "" } else { between })?;
+            put_kind(out, kind, template)?;
+            is_first = false;
+        }
+    }
+    Ok(())
+}
+
+/// Puts a template for each system, with something between two.
+fn put_joined_systems(
+    out: &mut Vec<u8>,
+    systems: &[System],
+    template: &str,
+    between: &str,
+) -> Result<(), AllocError> {
+    let mut is_first = true;
+    for system in systems {
+        let named = Kind {
+            name: system.name,
+            form: Form::Own,
+            saved: None,
+        };
+        put(out, if is_first { "" } else { between })?;
+        put_kind(out, &named, template)?;
+        is_first = false;
+    }
+    Ok(())
+}
+
+/// Puts what a word stands for that is put one behind the other, and says whether it is such a word.
+fn put_joined(out: &mut Vec<u8>, list: &List, word: &str) -> Result<bool, AllocError> {
+    for (name, which, template, between) in JOINED {
+        if name == word {
+            match which {
+                Which::Systems => put_joined_systems(out, &list.systems, template, between)?,
+                _ => put_joined_kinds(out, list, which, template, between)?,
+            }
+            return Ok(true);
+        }
+    }
+    Ok(false)
+}
+
+/// Puts a template for each column, or each global, that a system names behind a verb, with something between two, and says
+/// whether there was one.
+fn put_declared(
+    out: &mut Vec<u8>,
+    list: &List,
+    access: &str,
+    verb: &str,
+    of_globals: bool,
+    template: &str,
+    between: &str,
+) -> Result<bool, AllocError> {
+    let mut is_verb = false;
+    let mut is_first = true;
+    for word in access.split(' ') {
+        if word == "reads" || word == "writes" {
+            is_verb = word == verb;
+        } else if is_verb {
+            for kind in &list.kinds {
+                if kind.name == word && kind.form.is_global() == of_globals {
+                    put(out, if is_first { "" } else { between })?;
+                    put_kind(out, kind, template)?;
+                    is_first = false;
+                }
+            }
+        }
+    }
+    Ok(!is_first)
+}
+
+/// Puts what a system says of itself in code: a vector of names.
+fn put_access_in_code(
+    out: &mut Vec<u8>,
+    list: &List,
+    access: &str,
+    verb: &str,
+    of_globals: bool,
+) -> Result<(), AllocError> {
+    let before = out.len();
+    put(out, "vec![in alloc; ")?;
+    if put_declared(out, list, access, verb, of_globals, "\"@snake@\"", ", ")? {
+        return put(out, "]?");
+    }
+    out.truncate(before);
+    put(out, "Vec::new(alloc)")
+}
+
+/// Puts what a word stands for at a system, and says whether it is such a word.
+fn put_access(out: &mut Vec<u8>, list: &List, kind: &Kind, word: &str) -> Result<bool, AllocError> {
+    for (name, verb, of_globals, in_code) in ACCESS {
+        if name == word {
+            for system in &list.systems {
+                if system.name == kind.name {
+                    if in_code {
+                        put_access_in_code(out, list, system.access, verb, of_globals)?;
+                    } else {
+                        let template = if of_globals {
+                            "@snake@_name ∷ "
+                        } else {
+                            "@snake@_kind ∷ "
+                        };
+                        put_declared(out, list, system.access, verb, of_globals, template, "")?;
+                        put(out, "[]")?;
+                    }
+                }
+            }
+            return Ok(true);
+        }
+    }
+    Ok(false)
+}
+
+/// The variant of data that the first column of numbers is, or the first of references.
+fn variant_of<'a>(list: &List<'a>, is_number: bool) -> &'a str {
+    for kind in &list.kinds {
+        if kind.form.is_plain() && kind.form.is_number() == is_number {
+            return kind.form.variant().unwrap_or("");
+        }
+    }
+    ""
 }
 
 /// Puts the number of a kind: its place in the list.
@@ -509,7 +693,20 @@ fn put_word(out: &mut Vec<u8>, list: &List, kind: &Kind, word: &str) -> Result<(
     if let Some(place) = place_of(list.source, word) {
         return put(out, place);
     }
+    if put_joined(out, list, word)? || put_access(out, list, kind, word)? {
+        return Ok(());
+    }
     match word {
+        "number variant" => put(out, variant_of(list, true)),
+        "reference variant" => put(out, variant_of(list, false)),
+        "parts of" => put(
+            out,
+            if list.systems.is_empty() {
+                "Rules"
+            } else {
+                "Names"
+            },
+        ),
         "crate" => put(out, list.crate_name),
         "module" => put_path(out, list.module, "."),
         "parts" => put_path(out, list.parts, "."),

@@ -345,7 +345,14 @@ pub(crate) fn put_column_imports(
         out,
         "::Value;
 use hibitset_sets::BitSet;
-use scene_world::{Store, WorldRules, columns};
+use scene_world::{",
+    )?;
+    if list.kinds.iter().any(|kind| kind.form.is_global()) {
+        put(out, "CountingRules, ")?;
+    }
+    put(
+        out,
+        "Store, WorldRules, columns};
 use shred_world::{ResourceId, World};
 use specs_entity::Entity;
 use specs_layouts::{MaskedStorage, ReaderId};

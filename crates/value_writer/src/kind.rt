@@ -222,3 +222,11 @@ impl<'a> Kind<'a> {
         }
     }
 }
+
+/// A system of a scene's rules: its name, and what it reads and writes.
+#[derive(Clone, Copy)]
+pub(crate) struct System<'a> {
+    pub(crate) name: &'a str,
+    /// Words: `reads` or `writes`, with the names of columns and globals behind each.
+    pub(crate) access: &'a str,
+}

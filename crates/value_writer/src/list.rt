@@ -4,7 +4,7 @@ ghost use Rattle.std.specs.Prelude.{◌≡◌, ◌≢◌, ◌↔◌, IfOk, IsTru
 ghost use Rattle.std.specs.List.{All};
 ghost use Rattle.value_writer.specs.Variants.{HaveOwnNames};
 
-use crate::kind::{Form, Holds, Kind, LAYOUTS, Layout, PLAIN};
+use crate::kind::{Form, Holds, Kind, LAYOUTS, Layout, PLAIN, System};
 use crate::names::{is_module_name, is_path, is_type_name};
 use crate::refusal::{Refusal, Stop};
 use std::alloc::{AllocError, Global};
@@ -33,6 +33,8 @@ pub(crate) struct List<'a> {
     /// The type of its rules, where the file of their columns is written too.
     pub(crate) rules: Option<&'a str>,
     pub(crate) kinds: Vec<Kind<'a>>,
+    /// The systems of its rules, where the file of what they say of documents is written too.
+    pub(crate) systems: Vec<System<'a>>,
 }
 
 /// The layout of a storage's name.
@@ -129,6 +131,14 @@ fn scene_form_of<'a>(text: &'a str) -> Option<Form<'a>> {
     }
 }
 
+/// The words of a system behind the first, where a text is that of one.
+fn access_of(text: &str) -> Option<&str> {
+    if text == "system" {
+        return Some("");
+    }
+    text.strip_prefix("system ")
+}
+
 /// What each world of a scene holds.
 ///
 /// Errors: want of memory.
@@ -178,6 +188,62 @@ fn has_name(kinds: &[Kind], name: &str) -> bool
     false
 }
 
+/// Whether one of the systems has this name.
+fn has_system(systems: &[System], name: &str) -> bool {
+    systems.iter().any(|system| system.name == name)
+}
+
+/// Whether a name is that of a column or a global.
+fn is_declared(kinds: &[Kind], name: &str) -> bool {
+    kinds.iter().any(|kind| kind.name == name && (kind.form.is_column() || kind.form.is_global()))
+}
+
+/// Whether words say what a system reads and writes: columns and globals, behind `reads` or `writes`.
+fn is_access(kinds: &[Kind], words: &str) -> bool {
+    let mut is_begun = false;
+    for word in words.split(' ') {
+        if word == "reads" || word == "writes" {
+            is_begun = true;
+        } else if !word.is_empty() && !(is_begun && is_declared(kinds, word)) {
+            return false;
+        }
+    }
+    true
+}
+
+/// The variant of data that a column is, if it is of numbers, or else of references.
+fn variant_of<'a>(kind: &Kind<'a>, is_number: bool) -> Option<&'a str> {
+    if kind.form.is_number() == is_number {
+        kind.form.variant()
+    } else {
+        None
+    }
+}
+
+/// Whether two columns stand in data as one variant where both are of numbers or both of references, and else as two.
+fn agree(kind: &Kind, other: &Kind) -> bool {
+    match (
+        kind.form.variant(),
+        variant_of(other, kind.form.is_number()),
+    ) {
+        (Some(one), Some(same)) => one == same,
+        (Some(one), None) => other.form.variant() != Some(one),
+        (None, _) => true,
+    }
+}
+
+/// Whether each two columns do.
+fn all_agree(kinds: &[Kind]) -> bool {
+    for kind in kinds {
+        for other in kinds {
+            if !agree(kind, other) {
+                return false;
+            }
+        }
+    }
+    true
+}
+
 impl<'a> List<'a> {
     /// A list that names entities and the table of kinds alone.
     ///
@@ -204,6 +270,7 @@ impl<'a> List<'a> {
             scene: None,
             rules: None,
             kinds,
+            systems: Vec::new(alloc),
         })
     }
 
@@ -260,6 +327,34 @@ impl<'a> List<'a> {
         }
     }
 
+    /// Takes in a system of the rules.
+    ///
+    /// Errors: `WrongName`, `TakenName`, `UnknownForm`, or want of memory; the list is as it was.
+    fn add_system(&mut self, name: &'a str, access: &'a str) -> Result<(), Stopped>
+        ensures { self.new.kinds ≡ self.old.kinds }
+    {
+        if !is_type_name(name) || name.len() > LONGEST_OF_SCENE {
+            return Err(Stopped::By(Refusal::WrongName));
+        }
+        if has_name(&self.kinds, name) || has_system(&self.systems, name) {
+            return Err(Stopped::By(Refusal::TakenName));
+        }
+        if !is_access(&self.kinds, access) {
+            return Err(Stopped::By(Refusal::UnknownForm));
+        }
+        match self.systems.push(System { name, access }) {
+            Ok(()) => Ok(()),
+            Err(_) => Err(Stopped::Memory),
+        }
+    }
+
+    /// Whether the data of a scene are numbers of one variant, some at least, and references of one other.
+    fn has_plain_data(&self) -> bool {
+        self.kinds.iter().any(|kind| kind.form.is_number())
+            && !self.kinds.iter().any(|kind| kind.form.is_parts())
+            && all_agree(&self.kinds)
+    }
+
     /// Sets what a setting names.
     ///
     /// Errors: `UnknownSetting`, `WrongSetting`; the list is as it was.
@@ -278,7 +373,7 @@ impl<'a> List<'a> {
 
     /// Takes in a line.
     ///
-    /// Errors: those of `add`, `begin_scene` and `set`, and `NoColon`; the list is as it was.
+    /// Errors: those of `add`, `add_system`, `begin_scene` and `set`, and `NoColon`; the list is as it was.
     fn take(&mut self, alloc: Global, line: &'a str) -> Result<(), Stopped>
         ensures { HaveOwnNames self.old.kinds.items → OnOk result (HaveOwnNames self.new.kinds.items) }
     {
@@ -299,7 +394,10 @@ impl<'a> List<'a> {
                 Err(refusal) => Err(Stopped::By(refusal)),
             };
         }
-        self.add(name, text)
+        match access_of(text) {
+            Some(access) if self.scene.is_some() => self.add_system(name, access),
+            _ => self.add(name, text),
+        }
     }
 
     /// What the list as a whole lacks.
@@ -314,6 +412,12 @@ impl<'a> List<'a> {
             .any(|kind| kind.form.is_storage() || kind.form.is_column())
         {
             Some(Refusal::NoStorage)
+        } else if self.systems.is_empty() {
+            None
+        } else if self.rules.is_none() {
+            Some(Refusal::NoRules)
+        } else if !self.has_plain_data() {
+            Some(Refusal::MixedData)
         } else {
             None
         }

@@ -10,6 +10,7 @@
 
 mod bytes;
 mod columns;
+mod documents;
 mod fill;
 mod imports;
 mod kind;

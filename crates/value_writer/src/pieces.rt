@@ -47,6 +47,8 @@ pub(crate) enum Piece {
     Globals(&'static str),
     /// For each global but the last, and the last.
     GlobalsLast(&'static str, &'static str),
+    /// For each system of a scene's rules.
+    Systems(&'static str),
 }
 
 /// A template, where it is filled.
@@ -85,7 +87,8 @@ impl Piece {
             | Piece::OnceNumbers(_)
             | Piece::OnceReferences(_)
             | Piece::OncePlain(_)
-            | Piece::NoGlobal(_) => None,
+            | Piece::NoGlobal(_)
+            | Piece::Systems(_) => None,
             Piece::All(template) => Some(template),
             Piece::Storages(template) => template_if(kind.form.is_storage(), template),
             Piece::Components(template) => template_if(kind.form.is_component(), template),
@@ -126,6 +129,19 @@ fn put_kinds(out: &mut Vec<u8>, list: &List, piece: Piece) -> Result<(), AllocEr
         if let Some(template) = piece.template(list, kind) {
             put_filled(out, list, kind, template)?;
         }
+    }
+    Ok(())
+}
+
+/// Puts a template for each system.
+fn put_systems(out: &mut Vec<u8>, list: &List, template: &str) -> Result<(), AllocError> {
+    for system in &list.systems {
+        let named = Kind {
+            name: system.name,
+            form: Form::Own,
+            saved: None,
+        };
+        put_filled(out, list, &named, template)?;
     }
     Ok(())
 }
@@ -193,6 +209,7 @@ fn put_piece(out: &mut Vec<u8>, list: &List, piece: Piece) -> Result<(), AllocEr
                 template,
             )
         }
+        Piece::Systems(template) => put_systems(out, list, template),
         _ => put_kinds(out, list, piece),
     }
 }

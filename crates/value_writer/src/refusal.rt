@@ -25,6 +25,10 @@ pub(crate) enum Refusal {
     LateScene,
     /// The rules are named, and no line says that the list is a scene's.
     NoScene,
+    /// A line has a system, and none names the rules.
+    NoRules,
+    /// A line has a system, and the columns aren't numbers of one variant, some at least, and references of one other.
+    MixedData,
 }
 
 impl Refusal {
@@ -42,6 +46,8 @@ impl Refusal {
             Refusal::NoStorage => "NoStorage",
             Refusal::LateScene => "LateScene",
             Refusal::NoScene => "NoScene",
+            Refusal::NoRules => "NoRules",
+            Refusal::MixedData => "MixedData",
         }
     }
 }

@@ -1,5 +1,6 @@
 //! The files of a scene's values: the enum, where each kind stands, and the columns of the rules.
 use crate::columns::put_columns;
+use crate::documents::put_documents;
 use crate::imports::put_scene_imports;
 use crate::list::List;
 use crate::pieces::{Piece, put_pieces};
@@ -16,7 +17,7 @@ ghost use Rattle.std.proofs.Common.{rules};
     ),
     Piece::OnceNumbers("ghost use Rattle.scene_world.specs.Numbers.{number_stored};\n"),
     Piece::OnceReferences("ghost use Rattle.scene_world.specs.Numbers.{reference_stored};\n"),
-    Piece::OncePlain("ghost use Rattle.@crate@.specs.Rules.{part_of};\n"),
+    Piece::OncePlain("ghost use Rattle.@crate@.specs.@parts of@.{part_of};\n"),
     Piece::Resources("ghost use Rattle.@crate@.specs.@specs@.{@snake@_in};\n"),
     Piece::Once("ghost use Rattle.@crate@.specs.@specs@.{queue_in};\n"),
     Piece::Resources(
@@ -75,6 +76,10 @@ const COLUMNS: [Piece; 4] = [
 impl NumberPart for @name@ {
     fn number(&self) -> u64 {
         self.0
+    }
+
+    fn datum(number: u64) -> @data@ {
+        @data@::@variant@(number)
     }
 }
 
@@ -242,7 +247,7 @@ use Rattle.@crate@.specs.declared.@parts@.@data@.{@data@}
     Piece::Columns("use Rattle.@crate@.specs.declared.@parts@.@name@.{@name@}\n"),
     Piece::Once("use Rattle.@crate@.specs.declared.@module@.Value.{Value}\n"),
     Piece::All("use Rattle.@crate@.specs.declared.@module@.Value.TheVariants.{@name@Value}\n"),
-    Piece::Once("use Rattle.@crate@.specs.Rules.{part_of}\n"),
+    Piece::Once("use Rattle.@crate@.specs.@parts of@.{part_of}\n"),
     Piece::Parts("use Rattle.@crate@.specs.Rules.{@snake@_stored}\n"),
     Piece::Once("\n-- what is read of a value as one of each kind"),
     Piece::All(
@@ -317,7 +322,8 @@ pub(crate) fn put_scene_front(
     put_pieces(out, list, &COLUMNS)
 }
 
-/// Puts what stands behind the variants, the definitions, and the columns of the rules, if they are named.
+/// Puts what stands behind the variants, the definitions, the columns of the rules, if they are named, and what the rules say of
+/// documents, if systems are.
 ///
 /// Errors: want of memory, which leaves a part of it behind the bytes.
 pub(crate) fn put_scene_behind(
@@ -330,6 +336,9 @@ pub(crate) fn put_scene_behind(
     put_pieces(out, list, &STAND)?;
     if list.rules.is_some() {
         put_columns(out, alloc, list)?;
+    }
+    if !list.systems.is_empty() {
+        put_documents(out, list)?;
     }
     Ok(())
 }

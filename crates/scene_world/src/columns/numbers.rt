@@ -11,11 +11,15 @@ use specs_layouts::MaskedStorage;
 /// A part that is a natural number of 64 bits.
 pub trait NumberPart: PlainPart {
     ghost use Rattle.std.specs.Prelude.{◌≡◌};
-    ghost use Rattle.scene_world.specs.Numbers.{number_stored};
+    ghost use Rattle.scene_world.specs.Numbers.{counting, number_stored};
 
     /// The number that a part is.
     fn number(&self) -> u64
         ensures { Self.stored self.now ≡ number_stored result };
+
+    /// The datum of a number.
+    fn datum(number: u64) -> Self::Data
+        ensures { Self.part_of result ≡ counting number };
 }
 
 /// A part that is a reference to an entity.

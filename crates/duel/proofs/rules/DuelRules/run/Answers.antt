@@ -2,13 +2,13 @@ use Rattle.std.proofs.Common.{sym, ap, subst}
 use Rattle.shred_stages.specs.Views.{error_of}
 use Rattle.scene_model.specs.Queues.{waiting, plain_commands}
 use Rattle.scene_world.specs.Turns.{Runs}
-use Rattle.duel.specs.declared.data.DuelSystem.{DuelSystem}
-use Rattle.duel.specs.Rules.{part_of}
+use Rattle.duel.specs.declared.documents.DuelSystem.{DuelSystem}
+use Rattle.duel.specs.Names.{part_of}
+use Rattle.duel.specs.Documents.{meant}
 use Rattle.duel.specs.Values.{kinds}
-use Rattle.duel.proofs.SightLemmas.{meant}
 use Rattle.duel.proofs.BuryLemmas.{bury-runs}
 use Rattle.duel.proofs.StrikeLemmas.{strike-runs}
-use Rattle.duel.proofs.world.DuelRules.run.Goals as goal
+use Rattle.duel.proofs.rules.DuelRules.run.Goals as goal
 
 pub returns-in-Strike-clause-runs : goal.returns-in-Strike-clause-runs
 returns-in-Strike-clause-runs g c =
