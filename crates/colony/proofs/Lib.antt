@@ -1,2 +1,3 @@
 pub mod ValuesDropLemmas
 pub mod SystemsLemmas
+pub mod FrameLemmas

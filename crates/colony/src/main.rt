@@ -1,7 +1,9 @@
 //! A colony: entities go to their goals and die there, and one more is asked for in each frame. It is saved and loaded.
 #![tactic(auto)]
 
-ghost use Rattle.std.specs.Prelude.{◌≡◌, IfOk};
+ghost use Rattle.std.specs.Prelude.{◌≡◌, IfOk, OnOk, Ok};
+ghost use Rattle.colony.specs.Frames.{Frames, IsColony};
+ghost use Rattle.specs.specs.ForWorlds.{Maintains};
 ghost use Rattle.specs_saveload.specs.Loading.{AreApart};
 
 mod parts;
@@ -13,7 +15,9 @@ use parts::*;
 use specs::saveload::*;
 use specs::*;
 use std::alloc::Global;
-use systems::dispatcher;
+use std::sync::Wait;
+use std::thread::Threads;
+use systems::{Systems, dispatcher};
 use values::Value;
 
 /// What is saved of an entity: its marker and its position.
@@ -51,6 +55,24 @@ fn print_saved(rt: &HostRuntime, world: &World<Value>) -> Result<()> {
     print_list(rt, &saved_again(rt.alloc(), list)?)
 }
 
+/// Runs a frame: the systems are dispatched, the dead are merged away, and the one that was asked for comes.
+fn run_frame<R: AllocGlobal + Threads + Wait + Sync>(
+    rt: &R,
+    systems: &mut Systems,
+    world: &mut World<Value>,
+) -> Result<Maintained>
+    requires colony { IsColony systems.old }
+    ensures again { OnOk result (IsColony systems.new) }
+    ensures frame { IfOk result (λ counts. Frames (λ dispatched. Maintains
+        ⟦<EntitiesRes as Held<Value>>⟧.stands_at ⟦<MetaTable as Held<Value>>⟧.stands_at
+        ⟦<Value as AnyStorage>⟧.drops ⟦<Settler as Job<Value>>⟧.runs
+        ⟦<LazyUpdate<Settler> as Held<Value>>⟧.stands_at ⟦<SharedLazy<Settler> as Held<Value>>⟧.stands_at
+        8 dispatched (Ok counts)) world.old world.new) }
+{
+    systems.dispatch(rt, world)?;
+    Ok(LazyWorld::<Value, Settler>::maintain(world, rt, 8)?)
+}
+
 fn main(rt: HostRuntime) -> Result<()> {
     let mut world: World<Value> = LazyWorld::<Value, Settler>::with_queues(rt.alloc())?;
     let mut systems = dispatcher(rt.alloc(), 4)?;
@@ -62,8 +84,7 @@ fn main(rt: HostRuntime) -> Result<()> {
     let positions = world.write_resource::<MaskedStorage<Position>>()?;
     let reader = positions.register_reader()?;
     for _ in 0..3 {
-        systems.dispatch(&rt, &mut world)?;
-        LazyWorld::<Value, Settler>::maintain(&mut world, &rt, 8)?;
+        run_frame(&rt, &mut systems, &mut world)?;
         let positions = world.write_resource::<MaskedStorage<Position>>()?;
         let mut events = Vec::new(rt.alloc());
         positions.channel_mut().read(&reader, &mut events)?;

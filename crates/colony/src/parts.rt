@@ -1,6 +1,6 @@
 //! What the entities of a colony have, and how one is asked for.
 use crate::values::Value;
-use specs::saveload::{SimpleMarker, mark_in};
+use specs::saveload::{Mark, SimpleMarker};
 use specs::*;
 
 /// How far an entity has come, in steps.
@@ -20,14 +20,23 @@ pub struct Goal(pub u64);
 pub struct Settler(pub Velocity, pub Goal);
 
 impl Job<Value> for Settler {
-    ghost runs = { λ _ _ _ _. Unit {0} };
+    ghost use Rattle.std.specs.Prelude.{[], ◌∷◌};
+    ghost use Rattle.specs.specs.ForWorlds.{BirthThen};
 
+    ghost runs = { λ settler. BirthThen ⟦<EntitiesRes as Held<Value>>⟧.stands_at (λ entity.
+        ⟦<Insert<Position> as Job<Value>>⟧.runs (record { entity = entity; part = record { 0 = 0 } })
+        ∷ ⟦<Insert<Velocity> as Job<Value>>⟧.runs (record { entity = entity; part = settler.0 })
+        ∷ ⟦<Insert<Goal> as Job<Value>>⟧.runs (record { entity = entity; part = settler.1 })
+        ∷ ⟦<Mark<SimpleMarker<Settler>> as Job<Value>>⟧.runs (record { entity = entity; kind = record {} })
+        ∷ []) };
+
+    /// Errors: those of its steps; what came before the one that is refused stays.
     fn run(self, world: &mut World<Value>) -> Result<(), Error> {
-        let mut builder = world.create_entity()?;
-        builder.put(Position(0)).map_err(|refused| refused.0)?;
-        builder.put(self.0).map_err(|refused| refused.0)?;
-        builder.put(self.1).map_err(|refused| refused.0)?;
-        let entity = builder.build();
-        mark_in::<Value, SimpleMarker<Settler>>(world, entity).map(|_| ())
+        let entity = world.allocate()?;
+        let (part, pace, goal) = (Position(0), self.0, self.1);
+        (Insert { entity, part }).run(world)?;
+        (Insert { entity, part: pace }).run(world)?;
+        (Insert { entity, part: goal }).run(world)?;
+        Mark::<SimpleMarker<Settler>>::new(entity).run(world)
     }
 }

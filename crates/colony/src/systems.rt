@@ -1,5 +1,6 @@
 //! The systems of a colony: three that are dispatched one after the other, and a local one.
-ghost use Rattle.std.specs.Prelude.{◌≡◌, ◌++◌, None, [], ◌∷◌};
+ghost use Rattle.std.specs.Prelude.{◌≡◌, ◌++◌, None, [], ◌∷◌, IfOk};
+ghost use Rattle.colony.specs.Frames.{IsColony};
 ghost use Rattle.colony.specs.Systems.{Ends, Moves, moved, newcomer};
 
 use crate::parts::*;
@@ -76,10 +77,13 @@ type Staged = Either<Bundled<Moved, Moving>, Bundled<Asked, Asking>>;
 
 type Local = Bundled<Ended, Ending>;
 
-type Systems = Dispatcher<Value, Work<Staged, Batch<Value, Staged, NoBatch>>, Local>;
+/// What dispatches the systems of a colony.
+pub type Systems = Dispatcher<Value, Work<Staged, Batch<Value, Staged, NoBatch>>, Local>;
 
 /// A dispatcher of all, for so many workers: each moves, one is asked for, and each moves once more. Errors: `Memory`.
-pub fn dispatcher(alloc: Global, workers: usize) -> Result<Systems, Error> {
+pub fn dispatcher(alloc: Global, workers: usize) -> Result<Systems, Error>
+    ensures { IfOk result (λ dispatcher. IsColony dispatcher) }
+{
     let mut builder = DispatcherBuilder::<Value, Staged, NoBatch, Local>::new(alloc);
     builder.add_pool(workers);
     let (Ok(_), Ok(_), Ok(_), Ok(())) = (

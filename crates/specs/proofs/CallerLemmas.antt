@@ -7,3 +7,5 @@ pub use Rattle.shred_world.proofs.CallerLemmas.{ids_total}
 pub use Rattle.specs_entity.proofs.CallerLemmas.{phase_seat_field_sync}
 pub use Rattle.specs_join.proofs.CallerLemmas.{walk-is}
 pub use Rattle.specs_world.proofs.CallerLemmas.{RanOne, became, became-apart, begun-births, begun-others, begun-table, deleted-others, deleted-parts, dropped-each, none-to-run, one-counted, put-parts, ran-one, ran-unrefused, registered-anew, stands-is}
+pub use Rattle.specs.proofs.AcceptLemmas.{Accepting, accepting-start, accepting-next, accepting-end, deletion-asked}
+pub use Rattle.specs.proofs.TurnLemmas.{accepted, last-turn, turned, turn-lifted}

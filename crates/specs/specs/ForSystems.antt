@@ -20,3 +20,4 @@ pub use Rattle.shred_stages.specs.Staging.{Staging}
 pub use Rattle.shred_stages.specs.Views.{cut, error_of}
 pub use Rattle.shred_stages.specs.declared.error.DispatchError.{DispatchError}
 pub use Rattle.shred_stages.specs.declared.stop.Stop.{Stop}
+pub use Rattle.specs.specs.Turning.{Turns}

@@ -14,3 +14,4 @@ pub use Rattle.specs_world.specs.declared.job.Insert.{Insert}
 pub use Rattle.specs_world.specs.declared.job.InsertAll.{InsertAll}
 pub use Rattle.specs_world.specs.declared.job.Remove.{Remove}
 pub use Rattle.specs_world.specs.declared.maintained.Maintained.{Maintained}
+pub use Rattle.specs.specs.Turning.{BirthThen, InTurn}

@@ -2,6 +2,7 @@ pub mod Histories
 pub mod Marking
 pub mod Phases
 pub mod Asking
+pub mod Turning
 pub mod ForStorages
 pub mod ForWorlds
 pub mod ForSystems

@@ -1,4 +1,4 @@
-use Rattle.colony.proofs.SystemsLemmas.{accepted}
+use Rattle.specs.proofs.CallerLemmas.{accepted}
 use Rattle.colony.proofs.systems.AskingBundleChangeValueAsked.change.Goals as goal
 
 pub returns-clause-becomes : goal.returns-clause-becomes

@@ -1,7 +1,8 @@
 use Rattle.std.proofs.Common.{refl, ap, sym, ◌∙◌, subst}
 use Rattle.specs.specs.ForStorages.{SetWithRoom, has_member, left_of, walk}
 use Rattle.colony.specs.Systems.{goal_at, has_come, position_at}
-use Rattle.colony.proofs.SystemsLemmas.{Accepting, accepting-end, accepting-next, accepting-start, asked, come-there}
+use Rattle.specs.proofs.CallerLemmas.{Accepting, accepting-end, accepting-next, accepting-start, deletion-asked}
+use Rattle.colony.proofs.SystemsLemmas.{come-so-far, come-there}
 use Rattle.colony.proofs.systems.EndingBundleChangeValueEnded.change.Goals as goal
 
 pub loop-id-init : goal.loop-id-init
@@ -16,5 +17,6 @@ returns-clause-becomes g c =
 
 pub loop-id-preserved-then-get : goal.loop-id-preserved-then-get
 loop-id-preserved-then-get g c = accepting-next _ _ c.loop-id.bundle.0.value _ c.in-Some.id _ _ c.in-Some.ensures.steps c.loop-id.invariant
-    (asked c.loop-id.bundle.0.value c.delete.new.self c.in-Some.id c.entity.result c.entity.ensures c.delete.result c.delete.ensures.ok c.delete.ensures.succeeds c.delete.ensures.err
-    (position_at c.get-places.result.now) (goal_at c.get-goals.result.now) c.get.result.now c.get-then-contains-2.result.now c.get.ensures c.get-then-contains-2.ensures c.if-get.true)
+    (deletion-asked c.loop-id.bundle.0.value c.delete.new.self c.in-Some.id c.entity.result c.entity.ensures c.delete.result c.delete.ensures.ok c.delete.ensures.succeeds c.delete.ensures.err
+    (has_come (position_at c.get-places.result.now c.in-Some.id) (goal_at c.get-goals.result.now c.in-Some.id))
+    (come-so-far _ _ c.get.result.now c.get-then-contains-2.result.now c.get.ensures c.get-then-contains-2.ensures c.if-get.true))

@@ -1,6 +1,6 @@
 use Rattle.specs.specs.ForStorages.{has_member, left_of}
 use Rattle.colony.specs.Systems.{goal_at, has_come, position_at}
-use Rattle.colony.proofs.SystemsLemmas.{Accepting}
+use Rattle.specs.proofs.CallerLemmas.{Accepting}
 use Rattle.colony.proofs.systems.EndingBundleChangeValueEnded.change.Given as goal
 
 abbrev pub invariant-loop-id : goal.invariant-loop-id

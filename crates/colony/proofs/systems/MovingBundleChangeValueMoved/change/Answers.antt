@@ -1,5 +1,5 @@
 use Rattle.std.proofs.Common.{sym}
-use Rattle.colony.proofs.SystemsLemmas.{accepted}
+use Rattle.specs.proofs.CallerLemmas.{accepted}
 use Rattle.colony.proofs.systems.MovingBundleChangeValueMoved.change.Goals as goal
 
 pub returns-clause-becomes : goal.returns-clause-becomes
